@@ -1,4 +1,12 @@
 # `make test` is the gate: it proves every crate from nothing and runs every test.
-.PHONY: test
+# `make run` proves and builds the replay and runs it on its stored example; `make try` runs the
+# same with no proof.
+.PHONY: test run try
 test:
 	rt ci
+
+run:
+	cd crates/sqs_replay && rt run < stdin
+
+try:
+	cd crates/sqs_replay && rt try < stdin

@@ -1,0 +1,27 @@
+//! The journal of a queue: what happened to it, entry by entry, never changed afterwards.
+//!
+//! - [`Moment`]: a time in milliseconds below 2^62.
+//! - [`Event`], [`Entry`]: what happened, and when. Both are generic in what stands for a message's
+//!   content: a [`Line`] holds the content itself, a [`Mark`] its size in bytes, so that one set of
+//!   definitions serves both.
+//! - [`Numbers`]: a list of message numbers.
+//! - [`Journal`]: a list of lines with a limit. [`Journal::push`] adds one at the end or leaves the
+//!   journal as it was; nothing else changes it.
+//! - [`Ticks`]: the operation counter. A line read by [`Journal::line`] costs one.
+//!
+//! Contracts see a journal as the list of its lines and its limit.
+#![tactic(auto)]
+
+mod entry;
+mod journal;
+mod moment;
+mod numbers;
+#[cfg(test)]
+mod tests;
+mod ticks;
+
+pub use entry::{Entry, Event, Line, Mark};
+pub use journal::Journal;
+pub use moment::Moment;
+pub use numbers::Numbers;
+pub use ticks::Ticks;

@@ -1,0 +1,46 @@
+//! The operation counter.
+
+ghost use Rattle.std.specs.Prelude.{◌≡◌};
+ghost use Rattle.journal.specs.Ticks.{after_ticks};
+
+use std::marker::Model;
+use std::rt::Clock;
+
+/// Counts operations: each call of [`Journal::line`](crate::Journal::line) is one. The count stops
+/// at 2^64 - 1. Only [`Ticks::new`] makes a counter, and it takes a clock, which a program has of its
+/// runtime, so that code that is handed a counter and no clock counts on that one.
+#[derive(Debug, Drop)]
+pub struct Ticks {
+    count: u64,
+}
+
+impl Model for Ticks {
+    ghost use Rattle.std.specs.Prelude.{ℕ};
+
+    ghost Value = { ℕ };
+
+    ghost view = { λ t. t.count };
+}
+
+impl Ticks {
+    /// A counter that stands at 0.
+    pub fn new(_rt: &impl Clock) -> Ticks
+        ensures { result ≡ 0 }
+    {
+        Ticks { count: 0 }
+    }
+
+    /// How many operations were counted.
+    pub fn count(&self) -> u64
+        ensures { result ≡ self.now }
+    {
+        self.count
+    }
+
+    /// Counts one operation.
+    pub(crate) fn tick(&mut self)
+        ensures { self.new ≡ after_ticks 1 self.old }
+    {
+        self.count = self.count.saturating_add(1);
+    }
+}

@@ -1,0 +1,7 @@
+pub mod Fault
+pub mod Name
+pub mod StoredName
+pub mod Attribute
+pub mod Content
+pub mod StoredContent
+pub mod Id

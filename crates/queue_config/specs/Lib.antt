@@ -1,0 +1,4 @@
+pub mod Decimal
+pub mod Limits
+pub mod Settings
+pub mod Requested

@@ -1,0 +1,100 @@
+//! The attributes that a request asks for.
+
+ghost use Rattle.std.specs.Prelude.{◌≡◌, ◌≤◌, IfOk, IfErr, OnErr};
+ghost use Rattle.queue_config.specs.Settings.{no_requested_attributes, request_attribute, setting_of, is_ignored_attribute};
+
+use crate::decimal::decimal_number;
+use message::Fault;
+use std::alloc::Global;
+use std::marker::Model;
+
+/// Requested attributes: the values that `CreateQueue` and `SetQueueAttributes` ask for, each in
+/// its range by the type, and nothing for the attributes that were not named.
+#[derive(Clone, Copy, Debug)]
+pub struct Wish {
+    pub(crate) delay_seconds: Option<u16>,
+    pub(crate) visibility_timeout: Option<u32>,
+    pub(crate) retention_seconds: Option<u32>,
+    pub(crate) wait_seconds: Option<u16>,
+    pub(crate) maximum_message_size: Option<u32>,
+}
+
+impl Model for Wish {
+    ghost use Rattle.queue_config.specs.Settings.{RequestedAttributes};
+    ghost use Rattle.queue_config.specs.Requested.{AreRequested};
+
+    ghost Value = { RequestedAttributes };
+
+    ghost view = { λ w. record { delay_seconds = w.delay_seconds; visibility_timeout = w.visibility_timeout; retention_seconds = w.retention_seconds; wait_seconds = w.wait_seconds; maximum_message_size = w.maximum_message_size } };
+
+    ghost invariant = { λ w. AreRequested w.delay_seconds w.visibility_timeout w.retention_seconds w.wait_seconds w.maximum_message_size };
+
+    ghost inverse = { λ v. record { delay_seconds = v.delay_seconds; visibility_timeout = v.visibility_timeout; retention_seconds = v.retention_seconds; wait_seconds = v.wait_seconds; maximum_message_size = v.maximum_message_size } };
+}
+
+/// The number that an attribute's value is, or `InvalidAttributeValue` where it is none between
+/// the bounds.
+fn setting(value: &str, least: u32, most: u32) -> Result<u32, Fault>
+    ensures value { result ≡ setting_of least most value.now }
+    ensures least { IfOk result (λ n. least ≤ n) }
+    ensures most { IfOk result (λ n. n ≤ most) }
+{
+    match decimal_number(value, 9) {
+        Some(number) if u64::from(least) <= number && number <= u64::from(most) => {
+            Ok(number as u32)
+        }
+        _ => Err(Fault::InvalidAttributeValue),
+    }
+}
+
+/// Whether the attribute is one whose value is not looked at.
+fn is_ignored(name: &str) -> bool
+    ensures { result ≡ is_ignored_attribute name.now }
+{
+    name == "Policy"
+        || name == "KmsMasterKeyId"
+        || name == "KmsDataKeyReusePeriodSeconds"
+        || name == "SqsManagedSseEnabled"
+        || name == "RedriveAllowPolicy"
+}
+
+impl Wish {
+    /// Nothing is requested.
+    pub fn new() -> Wish
+        ensures { result ≡ no_requested_attributes }
+    {
+        Wish {
+            delay_seconds: None,
+            visibility_timeout: None,
+            retention_seconds: None,
+            wait_seconds: None,
+            maximum_message_size: None,
+        }
+    }
+
+    /// Requests one more attribute; a name that was requested before gets the new value. A name
+    /// that no queue has is `InvalidAttributeName`, a value out of range or of another form
+    /// `InvalidAttributeValue`; the request is then as it was. The values of `Policy`,
+    /// `KmsMasterKeyId`, `KmsDataKeyReusePeriodSeconds`, `SqsManagedSseEnabled` and
+    /// `RedriveAllowPolicy` are ignored.
+    pub fn put(&mut self, _alloc: Global, name: &str, value: &str) -> Result<(), Fault>
+        ensures ok { IfOk result (λ _. request_attribute self.old name.now value.now ≡ Ok self.new) }
+        ensures err { IfErr result (λ fault. request_attribute self.old name.now value.now ≡ Err fault) }
+        ensures unchanged { OnErr result (self.new ≡ self.old) }
+    {
+        if name == "DelaySeconds" {
+            self.delay_seconds = Some(setting(value, 0, 900)? as u16);
+        } else if name == "VisibilityTimeout" {
+            self.visibility_timeout = Some(setting(value, 0, 43_200)?);
+        } else if name == "MessageRetentionPeriod" {
+            self.retention_seconds = Some(setting(value, 60, 1_209_600)?);
+        } else if name == "ReceiveMessageWaitTimeSeconds" {
+            self.wait_seconds = Some(setting(value, 0, 20)? as u16);
+        } else if name == "MaximumMessageSize" {
+            self.maximum_message_size = Some(setting(value, 1024, 262_144)?);
+        } else if !is_ignored(name) {
+            return Err(Fault::InvalidAttributeName);
+        }
+        Ok(())
+    }
+}

@@ -1,0 +1,113 @@
+-- A legal journal stays legal as the clock moves on and as an entry that a command adds is added.
+use Rattle.std.proofs.Common.{◌≡◌, ℕ, ◌≤◌, ◌<◌, max, true, false, cond, List, [], ◌∷◌, ◌++◌, length, Option, Some, None, Result, Ok, Err, refl, sym, subst, append_assoc, arith}
+use Rattle.std.specs.Prelude.{OnOk, OnErr, nat_lt, nat_le, unwrap_or}
+use Rattle.std.proofs.lemmas.List.{append-nil, length-append}
+use Rattle.std.proofs.lemmas.Bool.Decides.{nat_tests}
+use Rattle.message.specs.declared.fault.Fault.{Fault}
+use Rattle.message.specs.declared.fault.Fault.TheVariants.{InvalidParameterValue, OverLimit, ReceiptHandleIsInvalid}
+use Rattle.message.specs.Content.{ContentText, content_size}
+use Rattle.queue_config.specs.Settings.{QueueSettings, RequestedAttributes, settings_with}
+use Rattle.receipt_handle.specs.declared.handle.Handle.{Handle}
+use Rattle.journal.specs.declared.entry.Entry.{Entry}
+use Rattle.journal.specs.declared.entry.Event.{Event}
+use Rattle.journal.specs.declared.entry.Event.TheVariants.{Sent, Received, Changed, Deleted, DeletedAgain, Purged, Set, Refused}
+use Rattle.journal.specs.Journal.{Lines, with_line}
+use Rattle.queue_core.specs.declared.command.Command.TheVariants.{Send, Receive, Change, Delete, Purge}
+use Rattle.queue_core.specs.declared.command.Command.TheVariants as commands
+use Rattle.queue_core.specs.declared.gauges.Gauges.{Gauges}
+use Rattle.queue_core.specs.Messages.{settings_of, created_time, modified_time}
+use Rattle.queue_core.specs.States.{gauges_of}
+use Rattle.queue_core.specs.Queue.{QueueHistory, at_moment, is_full, in_flight_count, offered_candidates, numbers_of, change_refusal, is_valid_handle, holds_live, outcome_of, with_event, look_of}
+use Rattle.queue_core.specs.Legal.{IsOrdered, IsCausedIn, AreCaused, BeginsAndFollows}
+use Rattle.queue_core.specs.Kept.{IsKept}
+
+IsOrdered-later : (from : ℕ) (lines : List (Entry ContentText)) (clock later : ℕ) → clock ≤ later → IsOrdered from lines clock → IsOrdered from lines later
+IsOrdered-later from [] clock later h p = omega arith
+IsOrdered-later from (e ∷ es) clock later h p = (p.0, IsOrdered-later e.at es clock later h p.1)
+
+IsOrdered-push : (from : ℕ) (lines : List (Entry ContentText)) (clock : ℕ) (event : Event ContentText) → IsOrdered from lines clock
+    → IsOrdered from (lines ++ record { at = clock; event = event } ∷ []) clock
+IsOrdered-push from [] clock event p = (p, omega arith)
+IsOrdered-push from (e ∷ es) clock event p = (p.0, IsOrdered-push e.at es clock event p.1)
+
+AreCaused-push : (q : QueueHistory) (before es : List (Entry ContentText)) (x : Entry ContentText) → AreCaused q before es
+    → IsCausedIn (record q { clock = x.at; lines = before ++ es }) x.event → AreCaused q before (es ++ x ∷ [])
+AreCaused-push q before [] x h k =
+    (subst (λ (lines : List (Entry ContentText)). IsCausedIn (record q { clock = x.at; lines = lines }) x.event) (append-nil before) k, tt)
+AreCaused-push q before (e ∷ es) x h k =
+    (h.0, AreCaused-push q (before ++ e ∷ []) es x h.1 (subst (λ (lines : List (Entry ContentText)). IsCausedIn (record q { clock = x.at; lines = lines }) x.event) (sym (append_assoc before (e ∷ []) es)) k))
+
+BeginsAndFollows-push : (q : QueueHistory) (lines : List (Entry ContentText)) (x : Entry ContentText) → BeginsAndFollows q lines
+    → IsCausedIn (record q { clock = x.at; lines = lines }) x.event → BeginsAndFollows q (lines ++ x ∷ [])
+BeginsAndFollows-push q [] x h k = absurd h
+BeginsAndFollows-push q (e ∷ es) x h k = (h.0, AreCaused-push q (e ∷ []) es x h.1 k)
+
+pub IsKept-later : (q : QueueHistory) (limit at : ℕ) → IsKept q limit → IsKept (at_moment q at) limit
+IsKept-later q limit at h = record {
+  room = h.room;
+  within = h.within;
+  legal = record { ordered = IsOrdered-later 0 q.lines q.clock (max q.clock at) (omega arith) h.legal.ordered; caused = h.legal.caused };
+}
+
+not_full : (q : QueueHistory) → is_full q ≡ false → length q.lines < q.limits.max_lines
+not_full q room = grind (arith, nat_tests)
+
+IsKept-with_event : (q : QueueHistory) (limit : ℕ) (event : Event ContentText) → is_full q ≡ false → IsKept q limit → IsCausedIn q event → IsKept (with_event q event) limit
+IsKept-with_event q limit event room h k = record {
+  room = h.room;
+  within = rw length-append (let below = not_full q room in omega arith);
+  legal = record {
+    ordered = IsOrdered-push 0 q.lines q.clock event h.legal.ordered;
+    caused = BeginsAndFollows-push q q.lines (record { at = q.clock; event = event }) h.legal.caused k;
+  };
+}
+
+-- after a push that may have been refused
+pub IsKept-pushed : {X : Type 0} (q : QueueHistory) (old new : Lines) (event : Event ContentText) (r : Result X Fault) → q.lines ≡ old.lines
+    → OnOk r (new ≡ with_line old (record { at = q.clock; event = event })) → OnErr r (new ≡ old) → is_full q ≡ false → IsKept q old.limit → IsCausedIn q event
+    → IsKept (record q { lines = new.lines }) new.limit
+IsKept-pushed q old new event (Ok x) e ok err room h k =
+    rw (ok, ← e) (IsKept-with_event q old.limit event room h k)
+IsKept-pushed q old new event (Err fault) e ok err room h k = rw (err, ← e) h
+
+-- what each command adds to a journal with room
+module _ (q : QueueHistory) (room : is_full q ≡ false) where
+  pub event-too_large : (content : ContentText) (delay : Option ℕ) → nat_lt (settings_of q.lines).maximum_message_size (content_size content) ≡ true
+      → (outcome_of q (Send content delay)).event ≡ Some (Refused InvalidParameterValue)
+  event-too_large content delay large = rw (room, large) refl
+
+  pub event-sent : (content : ContentText) (delay : Option ℕ) → nat_lt (settings_of q.lines).maximum_message_size (content_size content) ≡ false
+      → (outcome_of q (Send content delay)).event ≡ Some (Sent (unwrap_or delay (settings_of q.lines).delay_seconds) content)
+  event-sent content delay fits = rw (room, fits) refl
+
+  pub event-over_limit : (maximum : ℕ) (timeout : Option ℕ) → nat_le q.limits.in_flight (in_flight_count q) ≡ true → (outcome_of q (Receive maximum timeout)).event ≡ Some (Refused OverLimit)
+  event-over_limit maximum timeout full = rw (room, full) refl
+
+  pub event-received : (maximum : ℕ) (timeout : Option ℕ) → nat_le q.limits.in_flight (in_flight_count q) ≡ false
+      → (outcome_of q (Receive maximum timeout)).event
+      ≡ Some (Received (unwrap_or timeout (settings_of q.lines).visibility_timeout) (numbers_of (offered_candidates q maximum)) [] 0)
+  event-received maximum timeout free = rw (room, free) refl
+
+  pub event-change_refused : (h : Handle) (timeout : ℕ) (fault : Fault) → change_refusal q h timeout ≡ Some fault → (outcome_of q (Change h timeout)).event ≡ Some (Refused fault)
+  event-change_refused h timeout fault e = rw (room, e) refl
+
+  pub event-changed : (h : Handle) (timeout : ℕ) → change_refusal q h timeout ≡ None → (outcome_of q (Change h timeout)).event ≡ Some (Changed h.number timeout)
+  event-changed h timeout e = rw (room, e) refl
+
+  pub event-invalid : (h : Handle) → is_valid_handle q h ≡ false → (outcome_of q (Delete h)).event ≡ Some (Refused ReceiptHandleIsInvalid)
+  event-invalid h e = rw (room, e) refl
+
+  pub event-deleted : (h : Handle) → is_valid_handle q h ≡ true → (outcome_of q (Delete h)).event ≡ Some (cond (holds_live q h) (Deleted h.number) DeletedAgain)
+  event-deleted h e = rw (room, e) refl
+
+  pub event-purged : (outcome_of q Purge).event ≡ Some Purged
+  event-purged = rw room refl
+
+  pub event-set : (wish : RequestedAttributes) (target : ℕ) → (outcome_of q (commands.Set wish target)).event ≡ Some (Set (settings_with (settings_of q.lines) wish))
+  event-set wish target = rw room refl
+
+-- the parts of a look
+pub look_of-parts : (q : QueueHistory) (gauges : Gauges) (settings : QueueSettings) (created modified lines clock : ℕ) → gauges ≡ gauges_of q.lines q.clock → settings ≡ settings_of q.lines
+    → created ≡ created_time q.lines → modified ≡ modified_time q.lines → lines ≡ length q.lines → clock ≡ q.clock
+    → record { gauges = gauges; settings = settings; created = created; modified = modified; lines = lines; clock = clock; closed = false } ≡ look_of q
+look_of-parts q gauges settings created modified lines clock a b c d e f = rw (a, b, c, d, e, f) refl

@@ -1,0 +1,7 @@
+pub mod Scans
+pub mod LegalLemmas
+pub mod RunLemmas
+pub mod OrderLemmas
+mod MarkLemmas
+mod OfferLemmas
+mod StateLemmas

@@ -1,0 +1,132 @@
+-- The definitions of a queue's numbers do not look at a content: over marks they give what they give over lines.
+use Rattle.std.proofs.Common.{◌≡◌, ℕ, suc, ◌-◌, Bool, cond, List, [], ◌∷◌, map, Option, refl, sym, ap, ◌∙◌}
+use Rattle.std.specs.Prelude.{◌/◌, count_by}
+use Rattle.std.specs.Option.{option_map_or}
+use Rattle.std.specs.List.{find, filter}
+use Rattle.std.proofs.lemmas.List.Sums.{sum_by-cons}
+use Rattle.std.proofs.lemmas.List.Elements.{filter_agree}
+use Rattle.message.specs.Content.{ContentText}
+use Rattle.queue_config.specs.Settings.{QueueSettings, default_settings}
+use Rattle.journal.specs.declared.entry.Entry.{Entry}
+use Rattle.journal.specs.declared.entry.Event.{Event}
+use Rattle.journal.specs.declared.entry.Event.TheVariants.{Sent}
+use Rattle.queue_core.specs.declared.facts.Message.{Message}
+use Rattle.queue_core.specs.declared.facts.MessageState.{MessageState}
+use Rattle.queue_core.specs.declared.facts.MessageState.TheVariants.{Visible, Delayed, InFlight}
+use Rattle.queue_core.specs.Messages.{message_of, messages_from, messages, settings_after, settings_from, closes_period, periods_from, offers_number, receive_count, due_after, due_from, removes_message, is_removed_from}
+use Rattle.queue_core.specs.States.{is_live, is_in_state, count_in_state, oldest_age, gauges_of, candidate_of, in_order, receive_order}
+use Rattle.queue_core.specs.Mark.{mark_event, mark_of}
+
+-- ---- one event
+
+message_of-mark : (place number at : ℕ) (event : Event ContentText) → message_of place number at (mark_event event) ≡ message_of place number at event
+message_of-mark place number at (Sent delay content) = refl
+message_of-mark place number at event = refl
+
+settings_after-mark : (s : QueueSettings) (event : Event ContentText) → settings_after s (mark_event event) ≡ settings_after s event
+settings_after-mark s (Sent delay content) = refl
+settings_after-mark s event = refl
+
+closes_period-mark : (event : Event ContentText) → closes_period (mark_event event) ≡ closes_period event
+closes_period-mark (Sent delay content) = refl
+closes_period-mark event = refl
+
+offers_number-mark : (number : ℕ) (event : Event ContentText) → offers_number number (mark_event event) ≡ offers_number number event
+offers_number-mark number (Sent delay content) = refl
+offers_number-mark number event = refl
+
+due_after-mark : (number due at : ℕ) (event : Event ContentText) → due_after number due at (mark_event event) ≡ due_after number due at event
+due_after-mark number due at (Sent delay content) = refl
+due_after-mark number due at event = refl
+
+removes_message-mark : (m : Message) (place : ℕ) (event : Event ContentText) → removes_message m place (mark_event event) ≡ removes_message m place event
+removes_message-mark m place (Sent delay content) = refl
+removes_message-mark m place event = refl
+
+-- ---- all entries
+
+pub messages_from-marks : (place number : ℕ) (lines : List (Entry ContentText)) → messages_from place number (map mark_of lines) ≡ messages_from place number lines
+messages_from-marks place number [] = refl
+messages_from-marks place number (e ∷ es) =
+    rw (message_of-mark place number e.at e.event, messages_from-marks (suc place) (suc number) es, messages_from-marks (suc place) number es) refl
+
+pub settings_from-marks : (s : QueueSettings) (lines : List (Entry ContentText)) → settings_from s (map mark_of lines) ≡ settings_from s lines
+settings_from-marks s [] = refl
+settings_from-marks s (e ∷ es) =
+    ap (λ (t : QueueSettings). settings_from t (map mark_of es)) (settings_after-mark s e.event) ∙ settings_from-marks (settings_after s e.event) es
+
+pub periods_from-marks : (place : ℕ) (s : QueueSettings) (clock : ℕ) (lines : List (Entry ContentText)) → periods_from place s clock (map mark_of lines) ≡ periods_from place s clock lines
+periods_from-marks place s clock [] = refl
+periods_from-marks place s clock (e ∷ es) =
+    rw (closes_period-mark e.event, settings_after-mark s e.event, periods_from-marks (suc place) (settings_after s e.event) clock es) refl
+
+pub receive_count-marks : (number : ℕ) (lines : List (Entry ContentText)) → receive_count (map mark_of lines) number ≡ receive_count lines number
+receive_count-marks number [] = refl
+receive_count-marks number (e ∷ es) =
+    sum_by-cons (λ (x : Entry ℕ). cond (offers_number number x.event) 1 0) (mark_of e) (map mark_of es)
+    ∙ rw (offers_number-mark number e.event, receive_count-marks number es) (sym (sum_by-cons (λ (x : Entry ContentText). cond (offers_number number x.event) 1 0) e es))
+
+pub due_from-marks : (number due : ℕ) (lines : List (Entry ContentText)) → due_from number due (map mark_of lines) ≡ due_from number due lines
+due_from-marks number due [] = refl
+due_from-marks number due (e ∷ es) =
+    ap (λ (t : ℕ). due_from number t (map mark_of es)) (due_after-mark number due e.at e.event) ∙ due_from-marks number (due_after number due e.at e.event) es
+
+pub is_removed_from-marks : (m : Message) (place : ℕ) (lines : List (Entry ContentText)) → is_removed_from m place (map mark_of lines) ≡ is_removed_from m place lines
+is_removed_from-marks m place [] = refl
+is_removed_from-marks m place (e ∷ es) = rw (removes_message-mark m place e.event, is_removed_from-marks m (suc place) es) refl
+
+-- ---- a message's state, the counts and the age
+
+is_live-marks : (lines : List (Entry ContentText)) (clock : ℕ) (m : Message) → is_live (map mark_of lines) clock m ≡ is_live lines clock m
+is_live-marks lines clock m = rw (is_removed_from-marks m 0 lines, periods_from-marks 0 default_settings clock lines) refl
+
+is_in_state-marks : (state : MessageState) (lines : List (Entry ContentText)) (clock : ℕ) (m : Message) → is_in_state state (map mark_of lines) clock m ≡ is_in_state state lines clock m
+is_in_state-marks state lines clock m =
+    rw (is_removed_from-marks m 0 lines, periods_from-marks 0 default_settings clock lines, due_from-marks m.number m.first_due_time lines, receive_count-marks m.number lines) refl
+
+count_by_agree : {X : Type 0} (p q : X → Bool) → ((x : X) → p x ≡ q x) → (xs : List X) → count_by p xs ≡ count_by q xs
+count_by_agree p q h [] = refl
+count_by_agree p q h (x ∷ xs) =
+    sum_by-cons (λ y. cond (p y) 1 0) x xs ∙ rw (h x, count_by_agree p q h xs) (sym (sum_by-cons (λ y. cond (q y) 1 0) x xs))
+
+find_agree : {X : Type 0} (p q : X → Bool) → ((x : X) → p x ≡ q x) → (xs : List X) → find p xs ≡ find q xs
+find_agree p q h [] = refl
+find_agree p q h (x ∷ xs) = rw (h x, find_agree p q h xs) refl
+
+count_in_state-marks : (state : MessageState) (lines : List (Entry ContentText)) (clock : ℕ) → count_in_state state (map mark_of lines) clock ≡ count_in_state state lines clock
+count_in_state-marks state lines clock =
+    ap (count_by (λ m. is_in_state state (map mark_of lines) clock m)) (messages_from-marks 0 0 lines)
+    ∙ count_by_agree (λ m. is_in_state state (map mark_of lines) clock m) (λ m. is_in_state state lines clock m) (is_in_state-marks state lines clock) (messages lines)
+
+oldest_age-marks : (lines : List (Entry ContentText)) (clock : ℕ) → oldest_age (map mark_of lines) clock ≡ oldest_age lines clock
+oldest_age-marks lines clock =
+    ap (λ (ms : List Message). option_map_or (λ m. (clock - m.enqueue_time) / 1000) (find (λ m. is_live (map mark_of lines) clock m) ms) 0) (messages_from-marks 0 0 lines)
+    ∙ ap (λ (found : Option Message). option_map_or (λ m. (clock - m.enqueue_time) / 1000) found 0)
+    (find_agree (λ m. is_live (map mark_of lines) clock m) (λ m. is_live lines clock m) (is_live-marks lines clock) (messages lines))
+
+gauges_from : (lines : List (Entry ContentText)) (clock visible delayed in_flight age : ℕ) → visible ≡ count_in_state Visible lines clock → delayed ≡ count_in_state Delayed lines clock
+    → in_flight ≡ count_in_state InFlight lines clock → age ≡ oldest_age lines clock
+    → record { visible = visible; delayed = delayed; in_flight = in_flight; age = age } ≡ gauges_of lines clock
+gauges_from lines clock visible delayed in_flight age a b c d = rw (a, b, c, d) refl
+
+pub gauges_of-marks : (lines : List (Entry ContentText)) (clock : ℕ) → gauges_of (map mark_of lines) clock ≡ gauges_of lines clock
+gauges_of-marks lines clock =
+    gauges_from lines clock (count_in_state Visible (map mark_of lines) clock) (count_in_state Delayed (map mark_of lines) clock) (count_in_state InFlight (map mark_of lines) clock)
+    (oldest_age (map mark_of lines) clock) (count_in_state-marks Visible lines clock) (count_in_state-marks Delayed lines clock) (count_in_state-marks InFlight lines clock)
+    (oldest_age-marks lines clock)
+
+-- ---- the order
+
+map_agree : {X Y : Type 0} (f g : X → Y) → ((x : X) → f x ≡ g x) → (xs : List X) → map f xs ≡ map g xs
+map_agree f g h [] = refl
+map_agree f g h (x ∷ xs) = rw (h x, map_agree f g h xs) refl
+
+candidate_of-marks : (lines : List (Entry ContentText)) (m : Message) → candidate_of (map mark_of lines) m ≡ candidate_of lines m
+candidate_of-marks lines m = rw (due_from-marks m.number m.first_due_time lines) refl
+
+pub receive_order-marks : (lines : List (Entry ContentText)) (clock : ℕ) → receive_order (map mark_of lines) clock ≡ receive_order lines clock
+receive_order-marks lines clock =
+    ap (λ (ms : List Message). in_order (map (candidate_of (map mark_of lines)) (filter (λ m. is_in_state Visible (map mark_of lines) clock m) ms))) (messages_from-marks 0 0 lines)
+    ∙ ap (λ (ms : List Message). in_order (map (candidate_of (map mark_of lines)) ms))
+    (filter_agree (λ m. is_in_state Visible (map mark_of lines) clock m) (λ m. is_in_state Visible lines clock m) (is_in_state-marks Visible lines clock) (messages lines))
+    ∙ ap in_order (map_agree (candidate_of (map mark_of lines)) (candidate_of lines) (candidate_of-marks lines) (filter (λ m. is_in_state Visible lines clock m) (messages lines)))

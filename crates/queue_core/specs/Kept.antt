@@ -1,0 +1,18 @@
+-- What a queue keeps about its journal.
+use Rattle.std.specs.Prelude.{◌≡◌, ℕ, ◌+◌, ◌≤◌, [], ◌∷◌, List, length}
+use Rattle.queue_config.specs.Settings.{QueueSettings}
+use Rattle.queue_config.specs.Limits.{QueueLimits}
+use Rattle.journal.specs.declared.entry.Event.TheVariants.{Opened}
+use Rattle.queue_core.specs.Queue.{QueueHistory}
+use Rattle.queue_core.specs.Legal.{IsLegal}
+
+-- the journal is legal, and has one place more than a queue may fill, for the entry that closes the queue
+pub record IsKept (q : QueueHistory) (limit : ℕ) : Type 0 where
+  pub room : limit ≡ q.limits.max_lines + 1
+  pub within : length q.lines ≤ q.limits.max_lines + 1
+  pub legal : IsLegal q
+
+-- a queue as it is opened
+abbrev pub opened_queue : ℕ → List ℕ → QueueSettings → QueueLimits → ℕ → QueueHistory
+opened_queue uid name settings limits at =
+    record { uid = uid; name = name; limits = limits; clock = at; lines = record { at = at; event = Opened uid settings } ∷ [] }

@@ -1,0 +1,10 @@
+pub mod Messages
+pub mod States
+pub mod Queue
+pub mod Legal
+pub mod Ranges
+pub mod Kept
+pub mod Run
+pub mod Mark
+pub mod Turns
+pub mod Examples

@@ -1,0 +1,85 @@
+-- The states of messages, the counts and the age (Amazon SQS metrics for CloudWatch: ApproximateNumberOfMessagesVisible, ..Delayed, ..NotVisible, ApproximateAgeOfOldestMessage).
+use Rattle.std.specs.Prelude.{ℕ, ◌||◌, nat_lt, [], ◌∷◌, map, filter, fold, slice_get, ◌-◌, ◌/◌, ◌==◌, nat_le, Bool, true, false, not, ◌&&◌, if◌then◌else◌, List, count_by, Option, Some, None}
+use Rattle.std.specs.Option.{option_map_or}
+use Rattle.std.specs.List.{find}
+use Rattle.journal.specs.declared.entry.Entry.{Entry}
+use Rattle.queue_core.specs.declared.facts.Message.{Message}
+use Rattle.queue_core.specs.declared.facts.Candidate.{Candidate}
+use Rattle.queue_core.specs.declared.facts.MessageState.{MessageState}
+use Rattle.queue_core.specs.declared.facts.MessageState.TheVariants.{Visible, Delayed, InFlight}
+use Rattle.queue_core.specs.declared.gauges.Gauges.{Gauges}
+use Rattle.queue_core.specs.Messages.{messages, is_removed, is_expired, receive_count, due_time}
+
+-- a message that was neither removed nor has expired
+abbrev pub is_live : {C : Type 0} → List (Entry C) → ℕ → Message → Bool
+is_live lines clock m = not (is_removed lines m) && not (is_expired lines clock m)
+
+-- visible from its due time on; before it delayed where it was never received, and else in flight
+abbrev pub waiting_state : {C : Type 0} → List (Entry C) → ℕ → Message → MessageState
+waiting_state lines clock m =
+    if nat_le (due_time lines m) clock then Visible else if receive_count lines m.number == 0 then Delayed else InFlight
+
+-- the state of a live message
+abbrev pub state_of : {C : Type 0} → List (Entry C) → ℕ → Message → Option MessageState
+state_of lines clock m = if is_live lines clock m then Some (waiting_state lines clock m) else None
+
+abbrev pub same_state : MessageState → MessageState → Bool
+same_state Visible Visible = true
+same_state Visible Delayed = false
+same_state Visible InFlight = false
+same_state Delayed Visible = false
+same_state Delayed Delayed = true
+same_state Delayed InFlight = false
+same_state InFlight Visible = false
+same_state InFlight Delayed = false
+same_state InFlight InFlight = true
+
+abbrev pub is_in_state : {C : Type 0} → MessageState → List (Entry C) → ℕ → Message → Bool
+is_in_state state lines clock m = option_map_or (λ s. same_state state s) (state_of lines clock m) false
+
+-- how many messages are in a state
+abbrev pub count_in_state : {C : Type 0} → MessageState → List (Entry C) → ℕ → ℕ
+count_in_state state lines clock = count_by (λ m. is_in_state state lines clock m) (messages lines)
+
+-- whole seconds since the first live message came to the queue, 0 where none is live
+abbrev pub oldest_age : {C : Type 0} → List (Entry C) → ℕ → ℕ
+oldest_age lines clock = option_map_or (λ m. (clock - m.enqueue_time) / 1000) (find (λ m. is_live lines clock m) (messages lines)) 0
+
+abbrev pub gauges_of : {C : Type 0} → List (Entry C) → ℕ → Gauges
+gauges_of lines clock = record {
+  visible = count_in_state Visible lines clock;
+  delayed = count_in_state Delayed lines clock;
+  in_flight = count_in_state InFlight lines clock;
+  age = oldest_age lines clock;
+}
+
+-- ---- the order in which messages are received
+
+-- a message with its due time
+abbrev pub candidate_of : {C : Type 0} → List (Entry C) → Message → Candidate
+candidate_of lines m = record { due = due_time lines m; message = m }
+
+-- the earlier due time first, and of equal ones the lower number
+abbrev pub comes_before : Candidate → Candidate → Bool
+comes_before a b = nat_lt a.due b.due || ((a.due == b.due) && nat_lt a.message.number b.message.number)
+
+-- a candidate at its place among others that are in order
+abbrev pub put_in_order : List Candidate → Candidate → List Candidate
+put_in_order [] c = c ∷ []
+put_in_order (x ∷ xs) c = if comes_before c x then c ∷ x ∷ xs else x ∷ put_in_order xs c
+
+abbrev pub in_order : List Candidate → List Candidate
+in_order candidates = fold put_in_order [] candidates
+
+-- the visible messages in the order of due time and number
+abbrev pub receive_order : {C : Type 0} → List (Entry C) → ℕ → List Candidate
+receive_order lines clock = in_order (map (candidate_of lines) (filter (λ m. is_in_state Visible lines clock m) (messages lines)))
+
+-- ---- one message by its number
+
+abbrev pub message_numbered : {C : Type 0} → List (Entry C) → ℕ → Option Message
+message_numbered lines number = slice_get (messages lines) number
+
+-- whether a number is that of a message which passes a test
+abbrev pub is_numbered : {C : Type 0} → (Message → Bool) → List (Entry C) → ℕ → Bool
+is_numbered test lines number = option_map_or test (message_numbered lines number) false

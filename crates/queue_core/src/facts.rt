@@ -1,0 +1,36 @@
+//! What a journal says of a message.
+
+use journal::Moment;
+
+/// A message of a queue, as the entry that begins it has it.
+#[derive(Clone, Copy, Debug, PartialEq, Eq)]
+pub struct Message {
+    /// Its number in the queue, counted from 0.
+    pub number: u64,
+    /// The place of its entry in the journal.
+    pub place: usize,
+    /// When it came to this queue.
+    pub enqueue_time: Moment,
+    /// When it was first sent, to this queue or the one that it came from.
+    pub first_send_time: Moment,
+    /// When it is to be offered first, in milliseconds. It may pass the greatest moment.
+    pub first_due_time: u64,
+}
+
+/// The state of a live message, in the words of Amazon SQS.
+#[derive(Clone, Copy, Debug, PartialEq, Eq)]
+pub enum MessageState {
+    /// It may be received.
+    Visible,
+    /// It was sent with a delay that is not over.
+    Delayed,
+    /// It was received, and its visibility timeout is not over.
+    InFlight,
+}
+
+/// A message with the time at which it is due, in milliseconds.
+#[derive(Clone, Copy, Debug, PartialEq, Eq)]
+pub struct Candidate {
+    pub due: u64,
+    pub message: Message,
+}

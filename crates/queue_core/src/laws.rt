@@ -1,0 +1,88 @@
+//! Laws about the definitions in `specs/`, for every journal and every queue. Nothing runs here:
+//! each function is empty, and its contract is the law.
+
+ghost use Rattle.std.specs.Prelude.{◌≡◌, ◌≢◌, ℕ, ◌+◌, ◌-◌, min, count_by, List, ◌++◌, map, length, IsTrue};
+ghost use Rattle.std.specs.List.{All, AllPairs, Contains};
+ghost use Rattle.message.specs.Content.{ContentText};
+ghost use Rattle.journal.specs.declared.entry.Entry.{Entry};
+ghost use Rattle.queue_core.specs.declared.facts.Message.{Message};
+ghost use Rattle.queue_core.specs.declared.facts.Candidate.{Candidate};
+ghost use Rattle.queue_core.specs.declared.facts.MessageState.TheVariants.{Visible, Delayed, InFlight};
+ghost use Rattle.queue_core.specs.Messages.{messages, settings_of, receive_count};
+ghost use Rattle.queue_core.specs.States.{is_live, is_in_state, count_in_state, gauges_of, candidate_of, receive_order};
+ghost use Rattle.queue_core.specs.Queue.{QueueHistory, in_flight_count, offered_candidates, offers_of, numbers_of};
+ghost use Rattle.queue_core.specs.Mark.{mark_of};
+ghost use Rattle.queue_core.specs.Turns.{ComesBefore, remaining_candidates, IsVisibleCandidate};
+
+/// Counts and age need no content: from the entries' marks, which have a content's size in its
+/// place, they come out as from the lines.
+pub fn gauges_need_no_content()
+    ensures gauges { (lines : List (Entry ContentText)) (clock : ℕ)
+        → gauges_of (map mark_of lines) clock ≡ gauges_of lines clock }
+{}
+
+/// Nor is a content needed for the messages' numbers and times, the settings, how often a message
+/// was received, and the order in which messages are received.
+pub fn messages_need_no_content()
+    ensures messages { (lines : List (Entry ContentText))
+        → messages (map mark_of lines) ≡ messages lines }
+    ensures settings { (lines : List (Entry ContentText))
+        → settings_of (map mark_of lines) ≡ settings_of lines }
+    ensures receives { (lines : List (Entry ContentText)) (number : ℕ)
+        → receive_count (map mark_of lines) number ≡ receive_count lines number }
+    ensures order { (lines : List (Entry ContentText)) (clock : ℕ)
+        → receive_order (map mark_of lines) clock ≡ receive_order lines clock }
+{}
+
+/// What a receive offers stands first in the order of the visible messages. In that order each
+/// message comes before every later one, by the time at which it is due and, of equal times, by
+/// its number. So each message that is offered comes before each visible one that is not, and none
+/// is offered twice.
+pub fn offers_are_the_first_in_order()
+    ensures first { (q : QueueHistory) (maximum : ℕ)
+        → offered_candidates q maximum ++ remaining_candidates q maximum
+        ≡ receive_order q.lines q.clock }
+    ensures in_order { (lines : List (Entry ContentText)) (clock : ℕ)
+        → AllPairs (λ a b. ComesBefore a b) (receive_order lines clock) }
+    ensures before_the_rest { (q : QueueHistory) (maximum : ℕ) (a b : Candidate)
+        → Contains (offered_candidates q maximum) a → Contains (remaining_candidates q maximum) b
+        → ComesBefore a b }
+    ensures once { (q : QueueHistory) (maximum : ℕ)
+        → AllPairs (λ a b. a ≢ b) (numbers_of (offered_candidates q maximum)) }
+{}
+
+/// The order has each visible message, with the time at which it is due, and nothing else.
+pub fn each_visible_message_has_its_turn()
+    ensures all { (lines : List (Entry ContentText)) (clock : ℕ) (m : Message)
+        → Contains (messages lines) m → IsTrue (is_in_state Visible lines clock m)
+        → Contains (receive_order lines clock) (candidate_of lines m) }
+    ensures no_other { (lines : List (Entry ContentText)) (clock : ℕ)
+        → All (λ c. IsVisibleCandidate lines clock c) (receive_order lines clock) }
+{}
+
+/// A receive offers as many messages as it asks for, as the in-flight limit leaves and as are
+/// visible, whichever is least.
+pub fn as_many_are_offered_as_may_be()
+    ensures order { (lines : List (Entry ContentText)) (clock : ℕ)
+        → length (receive_order lines clock) ≡ count_in_state Visible lines clock }
+    ensures offered { (q : QueueHistory) (maximum : ℕ)
+        → length (offered_candidates q maximum)
+        ≡ min maximum (min (q.limits.in_flight - in_flight_count q)
+        (count_in_state Visible q.lines q.clock)) }
+{}
+
+/// The offers that answer a receive are those of the numbers that its entry records, in that order:
+/// none is lost for want of a content.
+pub fn replies_offer_what_lines_record()
+    ensures numbers { (q : QueueHistory) (maximum : ℕ)
+        → map (λ o. o.number) (offers_of q (offered_candidates q maximum))
+        ≡ numbers_of (offered_candidates q maximum) }
+{}
+
+/// The three counts add up to the number of live messages: each is in one state.
+pub fn each_live_message_is_in_one_state()
+    ensures counts { (lines : List (Entry ContentText)) (clock : ℕ)
+        → (count_in_state Visible lines clock + count_in_state Delayed lines clock)
+        + count_in_state InFlight lines clock
+        ≡ count_by (λ m. is_live lines clock m) (messages lines) }
+{}

@@ -1,0 +1,44 @@
+//! What a queue answers.
+
+use crate::gauges::Gauges;
+use crate::offers::Offers;
+use journal::Moment;
+use message::MessageId;
+use queue_config::Settings;
+
+/// A message that was sent: its number in the queue, and its id.
+#[derive(Clone, Copy, Debug, PartialEq, Eq)]
+pub struct Posted {
+    pub number: u64,
+    pub id: MessageId,
+}
+
+/// A queue at a moment.
+#[derive(Clone, Copy, Debug, PartialEq, Eq)]
+pub struct Look {
+    pub gauges: Gauges,
+    pub settings: Settings,
+    /// When the queue was opened.
+    pub created: Moment,
+    /// When the queue last got settings.
+    pub modified: Moment,
+    /// How many entries its journal has.
+    pub lines: u64,
+    /// The moment that all this speaks of.
+    pub clock: Moment,
+    /// Whether the queue was closed.
+    pub closed: bool,
+}
+
+/// The answer to a command.
+#[derive(Debug, Drop)]
+pub enum Reply {
+    /// To a send.
+    Sent(Posted),
+    /// To a receive.
+    Received(Offers),
+    /// To a look.
+    Looked(Look),
+    /// To the other commands.
+    Done,
+}

@@ -1,0 +1,13 @@
+pub mod Fault
+pub mod Failures
+pub mod Cutting
+pub mod Answers
+pub mod Progress
+pub mod Device
+pub mod World
+pub mod WorldRun
+pub mod InputLine
+pub mod Served
+pub mod Replay
+pub mod LongLines
+pub mod Toy

@@ -1,0 +1,57 @@
+//! The whole replay.
+
+ghost use Rattle.std.specs.Prelude.{◌≡◌, ℕ, List, OnOk, OnErr, IfSome};
+ghost use Rattle.std.specs.Io.KnownBytes.{Appends, IsAtEnd};
+ghost use Rattle.sqs_replay.specs.Failures.{AppendsPart};
+ghost use Rattle.sqs_replay.specs.Progress.{AnswersAll, AnswersPart, InletHasCause, OutletHasCause};
+ghost use Rattle.sqs_replay.specs.World.{World, new_world};
+ghost use Rattle.sqs_replay.specs.Served.{text_of_line, world_of_line};
+ghost use Rattle.sqs_replay.specs.Replay.{replay_output};
+
+use crate::house::House;
+use crate::run::run_lines;
+use crate::{Inlet, Outlet, ReplayFault};
+use journal::{Moment, Ticks};
+use queue_config::Config;
+use std::alloc::Global;
+
+/// Reads lines of requests, each with its moment, and writes the answers to them and nothing else.
+///
+/// At `Ok` what is written is the answers to all that was read. At a fault it is a part of the
+/// answers to the whole lines read, from the front (and of the last piece, where the input had
+/// ended). `Read` and `Write` come only where the device failed in this run, or `Read` after 2^32
+/// reads (of which the contract says that 2^32 bytes at least were read). `OutOfMemory` is for want of
+/// memory (tests show that it comes for nothing else), and is never written as an answer.
+pub fn replay<I: Inlet, O: Outlet>(
+    alloc: Global,
+    config: Config,
+    inlet: &mut I,
+    outlet: &mut O,
+    ticks: &mut Ticks,
+) -> Result<(), ReplayFault>
+    // All that the inlet had left was read and answered.
+    ensures text { OnOk result (IfSome (I.left inlet.old) (λ input.
+        Appends (O.taken outlet.old) (O.taken outlet.new) (replay_output config.limits input))) }
+    ensures all_read { OnOk result (IsAtEnd (I.left inlet.new)) }
+
+    // However it ends, what was appended is a front of the whole text.
+    ensures front { IfSome (I.left inlet.old) (λ input.
+        AppendsPart (O.taken outlet.old) (O.taken outlet.new) (replay_output config.limits input)) }
+
+    // What was read and written, whether or not the inlet's bytes were known before.
+    ensures ok { OnOk result ((input : List ℕ) × (end : World)
+        × AnswersAll text_of_line world_of_line (new_world config.limits) end
+        (I.left inlet.old) (I.left inlet.new) (O.taken outlet.old) (O.taken outlet.new) input) }
+    ensures err { OnErr result ((read : List ℕ) × AnswersPart text_of_line world_of_line (new_world config.limits)
+        (I.left inlet.old) (I.left inlet.new) (O.taken outlet.old) (O.taken outlet.new) read) }
+
+    // A fault of a device has its cause.
+    ensures read_fault { InletHasCause result (I.failures inlet.old) (I.failures inlet.new)
+        (I.left inlet.old) (I.left inlet.new) }
+    ensures write_fault { OutletHasCause result (O.failures outlet.old) (O.failures outlet.new) }
+{
+    match House::new(alloc, &config, Moment::zero()) {
+        Ok(mut house) => run_lines(alloc, &mut house, inlet, outlet, ticks),
+        Err(_) => Err(ReplayFault::OutOfMemory),
+    }
+}
