@@ -1,7 +1,7 @@
 # `make test` is the gate: it proves every crate from nothing and runs every test.
 # `make run` proves and builds the replay and runs it on its stored example; `make try` runs the
-# same with no proof.
-.PHONY: test run try
+# same with no proof. `make refuse` runs the tests of refused memory once for each allocation.
+.PHONY: test run try refuse
 test:
 	rt ci
 
@@ -10,3 +10,6 @@ run:
 
 try:
 	cd crates/sqs_replay && rt try < stdin
+
+refuse:
+	tools/refuse-allocations
