@@ -1,3 +1,4 @@
 pub mod MemberLemmas
+pub mod EntryLemmas
 pub mod UrlLemmas
 pub mod ReplyLemmas

@@ -1,17 +1,27 @@
 -- Replies as JSON data (AWS JSON 1.0, Amazon SQS API Reference); keys stand in byte order.
-use Rattle.std.specs.Prelude.{ℕ, ◌++◌, ◌==◌, ◌||◌, [], ◌∷◌, length, Bool, if◌then◌else◌, List, codes, decimal, Option, Some, None}
-use Rattle.attribute_md5.specs.Digest.{body_digest}
+use Rattle.std.specs.Prelude.{ℕ, nat_le, ◌++◌, ◌==◌, ◌||◌, [], ◌∷◌, length, Bool, if◌then◌else◌, List, codes, decimal, Option, Some, None, Result, Ok, Err}
+use Rattle.attribute_md5.specs.Digest.{body_digest, attributes_digest}
+use Rattle.base64.specs.Engines.{standard}
+use Rattle.base64.specs.GeneralPurpose.{encode_of}
+use Rattle.message.specs.Attribute.{AttributeText}
 use Rattle.message.specs.Content.{ContentText}
+use Rattle.message.specs.Fault.{fault_code}
 use Rattle.message.specs.Id.{message_id_text}
+use Rattle.message.specs.declared.fault.Fault.{Fault}
 use Rattle.message.specs.declared.id.MessageId.{MessageId}
 use Rattle.receipt_handle.specs.declared.handle.Handle.{Handle}
 use Rattle.receipt_handle.specs.Handle.{handle_text}
 use Rattle.queue_core.specs.declared.offers.Offer.{Offer}
-use Rattle.serde_json.specs.Data.{Data, string, array, object, Items, no_items, item, Members, no_members, member, put}
+use Rattle.serde_json.specs.Data.{Data, boolean, string, array, object, Items, no_items, item, Members, no_members, member, put}
+use Rattle.aws_json.specs.Attributes.{asked_attributes}
+use Rattle.aws_json.specs.FaultText.{fault_name, fault_message}
 use Rattle.aws_json.specs.declared.request.ReceiveNames.{ReceiveNames}
 use Rattle.aws_json.specs.declared.request.CountNames.{CountNames}
+use Rattle.aws_json.specs.declared.batch.BatchAnswer.{BatchAnswer}
+use Rattle.aws_json.specs.declared.batch.EntryReply.{EntryReply}
+use Rattle.aws_json.specs.declared.batch.EntryReply.TheVariants as entries
 use Rattle.aws_json.specs.declared.reply.ReplyShape.{ReplyShape}
-use Rattle.aws_json.specs.declared.reply.ReplyShape.TheVariants.{QueueUrl, Sent, Counts, Messages, Nothing}
+use Rattle.aws_json.specs.declared.reply.ReplyShape.TheVariants.{QueueUrl, Sent, Counts, Messages, Batch, Nothing}
 
 -- the URL of a queue: host, port and account are this project's own choice, after ElasticMQ
 abbrev pub queue_url : List ℕ → List ℕ
@@ -36,9 +46,20 @@ counts_data (Some names) visible delayed in_flight = object (member (codes "Attr
 abbrev pub url_data : List ℕ → Data
 url_data name = object (member (codes "QueueUrl") (string (queue_url name)) no_members)
 
--- the digest of a message's body, and the message's id
+-- a text among the members, where there is one
+abbrev pub given_text : List ℕ → Option (List ℕ) → Members → Members
+given_text name None rest = rest
+given_text name (Some text) rest = member name (string text) rest
+
+-- the digests of a message's attributes, where it has some, and of its body, and the message's id
+abbrev pub sent_members : ContentText → MessageId → Members
+sent_members content id =
+    given_text (codes "MD5OfMessageAttributes") (attributes_digest content.attributes)
+    (member (codes "MD5OfMessageBody") (string (body_digest content.body))
+    (member (codes "MessageId") (string (message_id_text id)) no_members))
+
 abbrev pub sent_data : ContentText → MessageId → Data
-sent_data content id = object (member (codes "MD5OfMessageBody") (string (body_digest content.body)) (member (codes "MessageId") (string (message_id_text id)) no_members))
+sent_data content id = object (sent_members content id)
 
 -- ---- messages
 
@@ -46,7 +67,7 @@ sent_data content id = object (member (codes "MD5OfMessageBody") (string (body_d
 abbrev pub text_member_if : Bool → List ℕ → List ℕ → Members → Members
 text_member_if asked name text rest = if asked then member name (string text) rest else rest
 
--- the attributes of an offer that are asked for; the sender is always the one account
+-- the attributes of an offer that are asked for. The sender is always the one account. No message comes from another queue, so the source is not answered
 abbrev pub attribute_members : ReceiveNames → Offer → Members
 attribute_members names o =
     text_member_if names.first (codes "ApproximateFirstReceiveTimestamp") (decimal o.first_receive)
@@ -58,52 +79,94 @@ attribute_members names o =
 abbrev pub handle_of_offer : ℕ → Offer → Handle
 handle_of_offer uid o = record { uid = uid; number = o.number; receipt = o.receipt }
 
--- what every offer has
-abbrev pub message_members : ℕ → Offer → Members
-message_members uid o =
+-- a value by its type: a text, or the base64 of raw bytes
+abbrev pub attribute_data : AttributeText → Data
+attribute_data a =
+    if a.is_binary then object (member (codes "BinaryValue") (string (encode_of standard a.value)) (member (codes "DataType") (string a.kind) no_members))
+    else object (member (codes "DataType") (string a.kind) (member (codes "StringValue") (string a.value) no_members))
+
+-- these attributes put among the members, each under its name
+abbrev pub put_attributes : Members → List AttributeText → Members
+put_attributes members [] = members
+put_attributes members (a ∷ rest) = put_attributes (put a.name (attribute_data a) members) rest
+
+-- an object of attributes among the members, where there are some
+abbrev pub attributes_member : List AttributeText → Members → Members
+attributes_member attributes rest =
+    if length attributes == 0 then rest else member (codes "MessageAttributes") (object (put_attributes no_members attributes)) rest
+
+-- what every offer has, and the attributes that are asked for, with their digest
+abbrev pub message_members : ℕ → List (List ℕ) → Offer → Members
+message_members uid patterns o =
     member (codes "Body") (string o.content.body)
     (member (codes "MD5OfBody") (string (body_digest o.content.body))
+    (given_text (codes "MD5OfMessageAttributes") (attributes_digest (asked_attributes patterns o.content.attributes))
+    (attributes_member (asked_attributes patterns o.content.attributes)
     (member (codes "MessageId") (string (message_id_text o.id))
-    (member (codes "ReceiptHandle") (string (handle_text (handle_of_offer uid o))) no_members)))
+    (member (codes "ReceiptHandle") (string (handle_text (handle_of_offer uid o))) no_members)))))
 
 -- whether an attribute is asked for that offers have
 abbrev pub asks_attributes : ReceiveNames → Bool
 asks_attributes names = names.first || names.count || names.sender || names.sent
 
 -- an offer of the queue of a uid
-abbrev pub message_data : ℕ → ReceiveNames → Offer → Data
-message_data uid names o =
-    if asks_attributes names then object (member (codes "Attributes") (object (attribute_members names o)) (message_members uid o))
-    else object (message_members uid o)
+abbrev pub message_data : ℕ → ReceiveNames → List (List ℕ) → Offer → Data
+message_data uid names patterns o =
+    if asks_attributes names
+    then object (member (codes "Attributes") (object (attribute_members names o)) (message_members uid patterns o))
+    else object (message_members uid patterns o)
 
-abbrev pub message_items : ℕ → ReceiveNames → List Offer → Items
-message_items uid names [] = no_items
-message_items uid names (o ∷ os) = item (message_data uid names o) (message_items uid names os)
+abbrev pub message_items : ℕ → ReceiveNames → List (List ℕ) → List Offer → Items
+message_items uid names patterns [] = no_items
+message_items uid names patterns (o ∷ os) = item (message_data uid names patterns o) (message_items uid names patterns os)
 
 -- the offers of a receive; an empty object where there are none
-abbrev pub messages_data : ℕ → ReceiveNames → List Offer → Data
-messages_data uid names offers =
+abbrev pub messages_data : ℕ → ReceiveNames → List (List ℕ) → List Offer → Data
+messages_data uid names patterns offers =
     if length offers == 0 then object no_members
-    else object (member (codes "Messages") (array (message_items uid names offers)) no_members)
+    else object (member (codes "Messages") (array (message_items uid names patterns offers)) no_members)
+
+-- ---- batches
+
+-- what a client is told of an entry that was done: its id, and for a send what a send is told
+abbrev pub done_data : List ℕ → EntryReply → Data
+done_data id (entries.Sent content number) = object (member (codes "Id") (string id) (sent_members content number))
+done_data id entries.Done = object (member (codes "Id") (string id) no_members)
+
+-- what a client is told of an entry that was refused, and whether the fault is the client's
+abbrev pub failed_data : List ℕ → Fault → Data
+failed_data id fault =
+    object (member (codes "Code") (string (fault_name fault))
+    (member (codes "Id") (string id)
+    (member (codes "Message") (string (fault_message fault))
+    (member (codes "SenderFault") (boolean (nat_le (fault_code fault) 16)) no_members))))
+
+abbrev pub failed_item : List ℕ → Result EntryReply Fault → Items → Items
+failed_item id (Ok reply) rest = rest
+failed_item id (Err fault) rest = item (failed_data id fault) rest
+
+-- the entries that were refused, in their order
+abbrev pub failed_items : List BatchAnswer → Items
+failed_items [] = no_items
+failed_items (a ∷ rest) = failed_item a.id a.answer (failed_items rest)
+
+abbrev pub done_item : List ℕ → Result EntryReply Fault → Items → Items
+done_item id (Ok reply) rest = item (done_data id reply) rest
+done_item id (Err fault) rest = rest
+
+-- the entries that were done, in their order
+abbrev pub done_items : List BatchAnswer → Items
+done_items [] = no_items
+done_items (a ∷ rest) = done_item a.id a.answer (done_items rest)
+
+abbrev pub batch_data : List BatchAnswer → Data
+batch_data answers = object (member (codes "Failed") (array (failed_items answers)) (member (codes "Successful") (array (done_items answers)) no_members))
 
 -- one equation a reply
 abbrev pub reply_data : ReplyShape → Data
 reply_data (QueueUrl name) = url_data name
 reply_data (Sent content id) = sent_data content id
 reply_data (Counts names visible delayed in_flight) = counts_data names visible delayed in_flight
-reply_data (Messages uid names offers) = messages_data uid names offers
+reply_data (Messages uid names patterns offers) = messages_data uid names patterns offers
+reply_data (Batch answers) = batch_data answers
 reply_data Nothing = object no_members
-
--- ---- for private clauses
-
--- the members with this one put among them, where it is asked for
-abbrev pub put_if : Bool → List ℕ → Data → Members → Members
-put_if asked name d members = if asked then put name d members else members
-
--- the members with those that every offer has put among them
-abbrev pub with_offer : ℕ → Offer → Members → Members
-with_offer uid o members =
-    put (codes "ReceiptHandle") (string (handle_text (handle_of_offer uid o)))
-    (put (codes "MessageId") (string (message_id_text o.id))
-    (put (codes "MD5OfBody") (string (body_digest o.content.body))
-    (put (codes "Body") (string o.content.body) members)))

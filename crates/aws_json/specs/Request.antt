@@ -1,8 +1,7 @@
 -- The request that an action and a body are, or the first fault (Amazon SQS API Reference; the faults and their order are this project's own choice).
-use Rattle.std.specs.Prelude.{ℕ, ◌==◌, Bool, true, false, ◌||◌, unwrap_or, if◌then◌else◌, List, [], codes, Option, Some, None, Result, Ok, Err, ok_or}
+use Rattle.std.specs.Prelude.{ℕ, ◌==◌, Bool, true, false, ◌||◌, ◌&&◌, unwrap_or, if◌then◌else◌, List, [], ◌∷◌, codes, Option, Some, None, Result, Ok, Err, ok_or}
 use Rattle.std.specs.List.{after_last}
 use Rattle.std.specs.Str.{bytes_eq}
-use Rattle.message.specs.Content.{ContentText, content_of}
 use Rattle.message.specs.Name.{queue_name_of}
 use Rattle.message.specs.declared.fault.Fault.{Fault}
 use Rattle.message.specs.declared.fault.Fault.TheVariants.{QueueDoesNotExist, InvalidAttributeName, UnsupportedOperation, SerializationException}
@@ -10,13 +9,15 @@ use Rattle.queue_config.specs.Settings.{RequestedAttributes, no_requested_attrib
 use Rattle.serde_json.specs.Data.{Data, Items, no_items, item, Members, no_members, member}
 use Rattle.serde_json.specs.Find.{as_str}
 use Rattle.aws_json.specs.Steps.{◌>>=◌, result_map, refused_as, required}
-use Rattle.aws_json.specs.Members.{object_of, text_of, text_member, texts_member, named_texts_member, number_member, within, unserved_member}
-use Rattle.receipt_handle.specs.declared.handle.Handle.{Handle}
-use Rattle.receipt_handle.specs.Handle.{handle_of}
+use Rattle.aws_json.specs.Members.{object_of, text_in, items_in, members_in, number_in, within, Column, column, have_kinds}
+use Rattle.aws_json.specs.Entries.{message_given, given_handle, required_within, batch_of, entries_have_kinds}
+use Rattle.aws_json.specs.declared.batch.EntryKind.{EntryKind}
+use Rattle.aws_json.specs.declared.batch.EntryKind.TheVariants as entries
+use Rattle.aws_json.specs.declared.members.Kind.TheVariants.{Text, Number, Texts, NamedTexts, MessageAttributes}
 use Rattle.aws_json.specs.declared.request.CountNames.{CountNames}
 use Rattle.aws_json.specs.declared.request.ReceiveNames.{ReceiveNames}
 use Rattle.aws_json.specs.declared.request.Request.{Request}
-use Rattle.aws_json.specs.declared.request.Request.TheVariants.{CreateQueue, SendMessage, GetQueueAttributes, SetQueueAttributes, PurgeQueue, ReceiveMessage, DeleteMessage, ChangeMessageVisibility}
+use Rattle.aws_json.specs.declared.request.Request.TheVariants.{CreateQueue, SendMessage, GetQueueAttributes, SetQueueAttributes, PurgeQueue, ReceiveMessage, DeleteMessage, ChangeMessageVisibility, Batch}
 
 -- ---- members
 
@@ -39,27 +40,16 @@ new_name name = do
   text ← required name
   queue_name_of text
 
--- what a message holds
-abbrev pub message_content : Option (List ℕ) → Result ContentText Fault
-message_content body = do
-  text ← required body
-  content_of text []
-
 -- the requested attributes after one more member; a null asks for nothing
 abbrev pub request_text : RequestedAttributes → List ℕ → Option (List ℕ) → Result RequestedAttributes Fault
 request_text requested name None = Ok requested
 request_text requested name (Some text) = request_attribute requested name text
 
-abbrev pub request_member : RequestedAttributes → List ℕ → Data → Result RequestedAttributes Fault
-request_member requested name d = do
-  text ← text_of d
-  request_text requested name text
-
 -- the requested attributes after these members, which stand in byte order of their names
 abbrev pub request_members : RequestedAttributes → Members → Result RequestedAttributes Fault
 request_members requested no_members = Ok requested
 request_members requested (member name d rest) = do
-  more ← request_member requested name d
+  more ← request_text requested name (as_str d)
   request_members more rest
 
 abbrev pub requested_attributes : Option Members → Result RequestedAttributes Fault
@@ -91,23 +81,9 @@ asked_counts None = Ok None
 asked_counts (Some no_items) = Ok None
 asked_counts (Some (item d rest)) = result_map Some (ask_counts no_counts (item d rest))
 
--- ---- numbers, handles and names of receives
-
 -- how many messages a receive asks for: 1 where it does not say
 abbrev pub maximum_given : Option (Option ℕ) → Result ℕ Fault
 maximum_given number = result_map (λ n. unwrap_or n 1) (within 1 10 number)
-
--- a number that has to be there
-abbrev pub required_within : ℕ → ℕ → Option (Option ℕ) → Result ℕ Fault
-required_within least most number = do
-  n ← within least most number
-  required n
-
--- the handle of a receive, which has to be there
-abbrev pub given_handle : Option (List ℕ) → Result Handle Fault
-given_handle text = do
-  t ← required text
-  handle_of t
 
 abbrev pub no_receive_names : ReceiveNames
 no_receive_names = record { sender = false; sent = false; count = false; first = false; source = false }
@@ -145,94 +121,157 @@ abbrev pub ask_given_names : ReceiveNames → Option Items → Result ReceiveNam
 ask_given_names names None = Ok names
 ask_given_names names (Some items) = ask_receive_names names items
 
--- ---- actions: first the kinds of all served members, then a member that is not served yet, then the members in order
+-- the attributes that either list asks for, of those that a queue gives its messages; the first unknown name is the fault
+abbrev pub asked_names : Data → Result ReceiveNames Fault
+asked_names d = do
+  asked ← ask_given_names no_receive_names (items_in (codes "AttributeNames") d)
+  ask_given_names asked (items_in (codes "MessageSystemAttributeNames") d)
 
-abbrev pub create_queue : Data → Result Request Fault
-create_queue d = do
-  name ← text_member (codes "QueueName") d
-  attributes ← named_texts_member (codes "Attributes") d
-  queue ← new_name name
-  requested ← requested_attributes attributes
-  Ok (CreateQueue queue requested)
+-- the texts of a list
+abbrev pub patterns_of : Items → List (List ℕ)
+patterns_of no_items = []
+patterns_of (item d rest) = unwrap_or (as_str d) [] ∷ patterns_of rest
 
-abbrev pub set_queue_attributes : Data → Result Request Fault
-set_queue_attributes d = do
-  url ← text_member (codes "QueueUrl") d
-  attributes ← named_texts_member (codes "Attributes") d
-  queue ← named_queue url
-  members ← required attributes
-  requested ← request_members no_requested_attributes members
-  Ok (SetQueueAttributes queue requested)
+-- the names of message attributes that a receive asks for, as they are given
+abbrev pub asked_patterns : Option Items → List (List ℕ)
+asked_patterns None = []
+asked_patterns (Some items) = patterns_of items
 
-abbrev pub purge_queue : Data → Result Request Fault
-purge_queue d = do
-  url ← text_member (codes "QueueUrl") d
-  queue ← named_queue url
-  Ok (PurgeQueue queue)
+-- ---- actions: a row has the members that the action knows, with their kinds; of a batch, the kind of its entries, whose members have kinds too;
+-- and the request, or the first fault in the order in which the members are judged
 
-abbrev pub send_message : Data → Result Request Fault
-send_message d = do
-  url ← text_member (codes "QueueUrl") d
-  body ← text_member (codes "MessageBody") d
-  delay ← number_member (codes "DelaySeconds") d
-  attributes ← unserved_member (codes "MessageAttributes") d
-  queue ← named_queue url
-  content ← message_content body
-  seconds ← within 0 900 delay
-  Ok (SendMessage queue content seconds)
+pub record Row : Type 0 where
+  pub columns : List Column
+  pub entries : Option EntryKind
+  pub judge : Data → Result Request Fault
 
-abbrev pub receive_message : Data → Result Request Fault
-receive_message d = do
-  url ← text_member (codes "QueueUrl") d
-  maximum ← number_member (codes "MaxNumberOfMessages") d
-  timeout ← number_member (codes "VisibilityTimeout") d
-  wait ← number_member (codes "WaitTimeSeconds") d
-  names ← texts_member (codes "AttributeNames") d
-  system ← texts_member (codes "MessageSystemAttributeNames") d
-  attributes ← texts_member (codes "MessageAttributeNames") d
-  queue ← named_queue url
-  most ← maximum_given maximum
-  seconds ← within 0 43200 timeout
-  waited ← within 0 20 wait
-  asked ← ask_given_names no_receive_names names
-  both ← ask_given_names asked system
-  Ok (ReceiveMessage queue most seconds waited both)
+abbrev pub create_queue : Row
+create_queue = record {
+  columns = column (codes "QueueName") Text ∷ column (codes "Attributes") NamedTexts ∷ [];
+  entries = None;
+  judge = λ d. do
+    name ← new_name (text_in (codes "QueueName") d)
+    requested ← requested_attributes (members_in (codes "Attributes") d)
+    Ok (CreateQueue name requested);
+}
 
-abbrev pub delete_message : Data → Result Request Fault
-delete_message d = do
-  url ← text_member (codes "QueueUrl") d
-  text ← text_member (codes "ReceiptHandle") d
-  queue ← named_queue url
-  handle ← given_handle text
-  Ok (DeleteMessage queue handle)
+abbrev pub set_queue_attributes : Row
+set_queue_attributes = record {
+  columns = column (codes "QueueUrl") Text ∷ column (codes "Attributes") NamedTexts ∷ [];
+  entries = None;
+  judge = λ d. do
+    queue ← named_queue (text_in (codes "QueueUrl") d)
+    members ← required (members_in (codes "Attributes") d)
+    requested ← request_members no_requested_attributes members
+    Ok (SetQueueAttributes queue requested);
+}
 
-abbrev pub change_message_visibility : Data → Result Request Fault
-change_message_visibility d = do
-  url ← text_member (codes "QueueUrl") d
-  text ← text_member (codes "ReceiptHandle") d
-  timeout ← number_member (codes "VisibilityTimeout") d
-  queue ← named_queue url
-  handle ← given_handle text
-  seconds ← required_within 0 43200 timeout
-  Ok (ChangeMessageVisibility queue handle seconds)
+abbrev pub purge_queue : Row
+purge_queue = record {
+  columns = column (codes "QueueUrl") Text ∷ [];
+  entries = None;
+  judge = λ d. do
+    queue ← named_queue (text_in (codes "QueueUrl") d)
+    Ok (PurgeQueue queue);
+}
 
-abbrev pub get_queue_attributes : Data → Result Request Fault
-get_queue_attributes d = do
-  url ← text_member (codes "QueueUrl") d
-  names ← texts_member (codes "AttributeNames") d
-  queue ← named_queue url
-  counts ← asked_counts names
-  Ok (GetQueueAttributes queue counts)
+abbrev pub get_queue_attributes : Row
+get_queue_attributes = record {
+  columns = column (codes "QueueUrl") Text ∷ column (codes "AttributeNames") Texts ∷ [];
+  entries = None;
+  judge = λ d. do
+    queue ← named_queue (text_in (codes "QueueUrl") d)
+    counts ← asked_counts (items_in (codes "AttributeNames") d)
+    Ok (GetQueueAttributes queue counts);
+}
+
+abbrev pub send_message : Row
+send_message = record {
+  columns =
+      column (codes "QueueUrl") Text ∷ column (codes "MessageBody") Text ∷ column (codes "DelaySeconds") Number
+      ∷ column (codes "MessageAttributes") MessageAttributes ∷ [];
+  entries = None;
+  judge = λ d. do
+    queue ← named_queue (text_in (codes "QueueUrl") d)
+    message ← message_given d
+    Ok (SendMessage queue message.content message.delay);
+}
+
+abbrev pub receive_message : Row
+receive_message = record {
+  columns =
+      column (codes "QueueUrl") Text ∷ column (codes "MaxNumberOfMessages") Number ∷ column (codes "VisibilityTimeout") Number
+      ∷ column (codes "WaitTimeSeconds") Number ∷ column (codes "AttributeNames") Texts
+      ∷ column (codes "MessageSystemAttributeNames") Texts ∷ column (codes "MessageAttributeNames") Texts ∷ [];
+  entries = None;
+  judge = λ d. do
+    queue ← named_queue (text_in (codes "QueueUrl") d)
+    most ← maximum_given (number_in (codes "MaxNumberOfMessages") d)
+    seconds ← within 0 43200 (number_in (codes "VisibilityTimeout") d)
+    wait ← within 0 20 (number_in (codes "WaitTimeSeconds") d)
+    names ← asked_names d
+    Ok (ReceiveMessage queue most seconds wait names (asked_patterns (items_in (codes "MessageAttributeNames") d)));
+}
+
+abbrev pub delete_message : Row
+delete_message = record {
+  columns = column (codes "QueueUrl") Text ∷ column (codes "ReceiptHandle") Text ∷ [];
+  entries = None;
+  judge = λ d. do
+    queue ← named_queue (text_in (codes "QueueUrl") d)
+    handle ← given_handle (text_in (codes "ReceiptHandle") d)
+    Ok (DeleteMessage queue handle);
+}
+
+abbrev pub change_message_visibility : Row
+change_message_visibility = record {
+  columns = column (codes "QueueUrl") Text ∷ column (codes "ReceiptHandle") Text ∷ column (codes "VisibilityTimeout") Number ∷ [];
+  entries = None;
+  judge = λ d. do
+    queue ← named_queue (text_in (codes "QueueUrl") d)
+    handle ← given_handle (text_in (codes "ReceiptHandle") d)
+    seconds ← required_within 0 43200 (number_in (codes "VisibilityTimeout") d)
+    Ok (ChangeMessageVisibility queue handle seconds);
+}
+
+-- the row of a batch of entries of a kind
+abbrev pub batch : EntryKind → Row
+batch kind = record {
+  columns = column (codes "QueueUrl") Text ∷ [];
+  entries = Some kind;
+  judge = λ d. do
+    queue ← named_queue (text_in (codes "QueueUrl") d)
+    items ← required (items_in (codes "Entries") d)
+    entries ← batch_of kind items
+    Ok (Batch queue entries);
+}
+
+-- the row of an action that is served
+abbrev pub row_of : List ℕ → Option Row
+row_of action =
+    if bytes_eq action (codes "CreateQueue") then Some create_queue
+    else if bytes_eq action (codes "SendMessage") then Some send_message
+    else if bytes_eq action (codes "GetQueueAttributes") then Some get_queue_attributes
+    else if bytes_eq action (codes "SetQueueAttributes") then Some set_queue_attributes
+    else if bytes_eq action (codes "PurgeQueue") then Some purge_queue
+    else if bytes_eq action (codes "ReceiveMessage") then Some receive_message
+    else if bytes_eq action (codes "DeleteMessage") then Some delete_message
+    else if bytes_eq action (codes "ChangeMessageVisibility") then Some change_message_visibility
+    else if bytes_eq action (codes "SendMessageBatch") then Some (batch entries.Send)
+    else if bytes_eq action (codes "DeleteMessageBatch") then Some (batch entries.Delete)
+    else if bytes_eq action (codes "ChangeMessageVisibilityBatch") then Some (batch entries.Change)
+    else None
+
+-- the kinds of all members that are known, at any depth, come before the members one after another
+abbrev pub asked_of_row : Row → Data → Result Request Fault
+asked_of_row row d = if have_kinds row.columns d && entries_have_kinds row.entries d then row.judge d else Err SerializationException
+
+-- the same of a body's bytes
+abbrev pub read_row : Row → List ℕ → Result Request Fault
+read_row row body = object_of body >>= asked_of_row row
 
 -- an action that is not served is refused before the body is looked at
 abbrev pub request_of : List ℕ → List ℕ → Result Request Fault
-request_of action body =
-    if bytes_eq action (codes "CreateQueue") then object_of body >>= create_queue
-    else if bytes_eq action (codes "SendMessage") then object_of body >>= send_message
-    else if bytes_eq action (codes "GetQueueAttributes") then object_of body >>= get_queue_attributes
-    else if bytes_eq action (codes "SetQueueAttributes") then object_of body >>= set_queue_attributes
-    else if bytes_eq action (codes "PurgeQueue") then object_of body >>= purge_queue
-    else if bytes_eq action (codes "ReceiveMessage") then object_of body >>= receive_message
-    else if bytes_eq action (codes "DeleteMessage") then object_of body >>= delete_message
-    else if bytes_eq action (codes "ChangeMessageVisibility") then object_of body >>= change_message_visibility
-    else Err UnsupportedOperation
+request_of action body = do
+  row ← ok_or (row_of action) UnsupportedOperation
+  read_row row body

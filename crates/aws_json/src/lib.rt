@@ -2,22 +2,39 @@
 //! Amazon SQS API Reference).
 //!
 //! - [`parse`]: the request that an action and a body are, or the first fault in a fixed order: the
-//!   action, JSON, the kinds of all served members, a member that is not served yet, then the
-//!   members one after another.
-//! - [`reply_text`]: the JSON text of a reply.
+//!   action, JSON, the kinds of all members that the action knows, at any depth, then these members
+//!   one after another. A batch is a list of [`Entries`], each a queue's command or its own fault.
+//! - [`reply_text`]: the JSON text of a reply. Of a batch it is the [`BatchAnswers`].
 //! - [`fault_text`] and [`status`]: the JSON text and the status of a refusal.
+//! - [`Patterns`]: which message attributes a receive asks for.
 //! - [`read_object`]: the JSON object that a body is.
 //!
 //! Each contract is exact: it names the value, or the one refusal, that a definition in `specs/`
 //! computes from the bytes. Want of memory is the one thing that may come in its place.
 #![tactic(auto)]
 
+mod batch;
+mod batch_reply;
+mod entries;
 mod members;
+mod message_reply;
+mod put;
+mod refusal;
 mod reply;
 mod request;
+mod selection;
 #[cfg(test)]
 mod tests;
+#[cfg(test)]
+mod tests_of_attributes;
+#[cfg(test)]
+mod tests_of_replies;
+#[cfg(test)]
+mod tests_of_requests;
 
+pub use batch::{BatchAnswer, BatchAnswers, BatchEntry, Entries, EntryReply};
 pub use members::read_object;
-pub use reply::{ReplyShape, fault_text, reply_text, status};
+pub use refusal::{fault_text, status};
+pub use reply::{ReplyShape, reply_text};
 pub use request::{CountNames, ReceiveNames, Request, parse};
+pub use selection::Patterns;

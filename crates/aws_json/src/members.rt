@@ -1,16 +1,31 @@
-//! The members of a request's body (AWS JSON 1.0). A null member counts as absent, and a member of
-//! another kind than asked is a `SerializationException` (this project's own choice).
+//! The members of a request's body and their kinds (AWS JSON 1.0). A null member counts as absent,
+//! and a member of another kind than asked is a `SerializationException` (this project's own
+//! choice).
 
 ghost use Rattle.std.specs.Prelude.{◌≡◌, ◌≤◌, option_map, IfOk};
 ghost use Rattle.std.specs.Option.{ForSome};
 ghost use Rattle.message.specs.Fault.{Meets};
 ghost use Rattle.serde_json.specs.View.{view, items_view, members_view};
 ghost use Rattle.aws_json.specs.Steps.{result_map};
-ghost use Rattle.aws_json.specs.Members.{object_of, present, text_of, text_member, texts_member, named_texts_member, as_whole, number_member, within, unserved_member, are_texts, have_texts};
+ghost use Rattle.aws_json.specs.Members.{object_of, text_in, items_in, members_in, number_in, as_whole, within, may_be_text, are_texts, have_texts, is_attribute, have_attributes, is_of_kind, has_kind};
 
 use message::Fault;
 use serde_json::{Category, Map, Value};
 use std::alloc::Global;
+
+/// What a member has to be.
+#[derive(Clone, Copy, Debug, PartialEq, Eq)]
+pub(crate) enum Kind {
+    Text,
+    /// A whole number of 64 bits.
+    Number,
+    /// A list of texts.
+    Texts,
+    /// An object of texts.
+    NamedTexts,
+    /// An object of message attributes.
+    MessageAttributes,
+}
 
 /// The JSON object that a body is. Anything else, and bytes that are no UTF-8, is a
 /// `SerializationException`.
@@ -27,84 +42,37 @@ pub fn read_object(alloc: Global, body: &[u8]) -> Result<Value, Fault>
     }
 }
 
-/// A member that is there; a null counts as absent.
-fn present<'v>(body: &'v Value, name: &str) -> Option<&'v Value>
-    ensures { option_map (λ v. view v.now) result ≡ present name.now (view body.now) }
+/// A member's text, where it is one.
+pub(crate) fn text_in<'v>(body: &'v Value, name: &str) -> Option<&'v str>
+    ensures { option_map (λ s. s.now) result ≡ text_in name.now (view body.now) }
 {
     match body.get(name) {
-        Some(value) if !value.is_null() => Some(value),
-        _ => None,
+        Some(value) => value.as_str(),
+        None => None,
     }
 }
 
-/// A text, where the value is no null.
-pub(crate) fn text_of(value: &Value) -> Result<Option<&str>, Fault>
-    ensures { result_map (λ o. option_map (λ s. s.now) o) result ≡ text_of (view value.now) }
-{
-    if value.is_null() {
-        return Ok(None);
-    }
-    match value.as_str() {
-        Some(text) => Ok(Some(text)),
-        None => Err(Fault::SerializationException),
-    }
-}
-
-/// A text, where the member is there.
-pub(crate) fn text_member<'v>(body: &'v Value, name: &str) -> Result<Option<&'v str>, Fault>
-    ensures { result_map (λ o. option_map (λ s. s.now) o) result
-        ≡ text_member name.now (view body.now) }
+/// A member's list, where it is one.
+pub(crate) fn items_in<'v>(body: &'v Value, name: &str) -> Option<&'v [Value]>
+    ensures { option_map (λ items. items_view items.now) result ≡ items_in name.now (view body.now) }
 {
     match body.get(name) {
-        Some(value) => text_of(value),
-        None => Ok(None),
-    }
-}
-
-/// Whether every item is a text.
-fn are_texts(items: &[Value]) -> bool
-    ensures { result ≡ are_texts (items_view items.now) }
-{
-    items.iter().all(|item| item.is_string())
-}
-
-/// A list of texts, where the member is there.
-pub(crate) fn texts_member<'v>(body: &'v Value, name: &str) -> Result<Option<&'v [Value]>, Fault>
-    ensures { result_map (λ o. option_map (λ items. items_view items.now) o) result
-        ≡ texts_member name.now (view body.now) }
-{
-    match present(body, name) {
         Some(value) => match value.as_array() {
-            Some(items) if are_texts(items) => Ok(Some(items)),
-            _ => Err(Fault::SerializationException),
+            Some(items) => Some(items),
+            None => None,
         },
-        None => Ok(None),
+        None => None,
     }
 }
 
-/// Whether every member is a text or a null.
-fn have_texts(members: &Map<String, Value>) -> bool
-    ensures { result ≡ have_texts (members_view members.now.entries) }
+/// A member's object, where it is one.
+pub(crate) fn members_in<'v>(body: &'v Value, name: &str) -> Option<&'v Map<String, Value>>
+    ensures { option_map (λ members. members_view members.now.entries) result
+        ≡ members_in name.now (view body.now) }
 {
-    members
-        .values()
-        .all(|value| value.is_null() || value.is_string())
-}
-
-/// An object of texts, where the member is there.
-pub(crate) fn named_texts_member<'v>(
-    body: &'v Value,
-    name: &str,
-) -> Result<Option<&'v Map<String, Value>>, Fault>
-    ensures { result_map (λ o. option_map (λ members. members_view members.now.entries) o) result
-        ≡ named_texts_member name.now (view body.now) }
-{
-    match present(body, name) {
-        Some(value) => match value.as_object() {
-            Some(members) if have_texts(members) => Ok(Some(members)),
-            _ => Err(Fault::SerializationException),
-        },
-        None => Ok(None),
+    match body.get(name) {
+        Some(value) => value.as_object(),
+        None => None,
     }
 }
 
@@ -121,16 +89,13 @@ fn whole(value: &Value) -> Option<Option<u64>>
     }
 }
 
-/// A whole number, where the member is there.
-pub(crate) fn number_member(body: &Value, name: &str) -> Result<Option<Option<u64>>, Fault>
-    ensures { result ≡ number_member name.now (view body.now) }
+/// A member's whole number, where it is one.
+pub(crate) fn number_in(body: &Value, name: &str) -> Option<Option<u64>>
+    ensures { result ≡ number_in name.now (view body.now) }
 {
-    match present(body, name) {
-        Some(value) => match whole(value) {
-            Some(number) => Ok(Some(number)),
-            None => Err(Fault::SerializationException),
-        },
-        None => Ok(None),
+    match body.get(name) {
+        Some(value) => whole(value),
+        None => None,
     }
 }
 
@@ -151,13 +116,82 @@ pub(crate) fn within(
     }
 }
 
-/// A member that is not served yet is an `UnsupportedOperation` where it is there. Its kind does
-/// not count.
-pub(crate) fn unserved_member(body: &Value, name: &str) -> Result<(), Fault>
-    ensures { result ≡ unserved_member name.now (view body.now) }
+/// Whether every item is a text.
+fn are_texts(items: &[Value]) -> bool
+    ensures { result ≡ are_texts (items_view items.now) }
 {
-    match present(body, name) {
-        Some(_) => Err(Fault::UnsupportedOperation),
-        None => Ok(()),
+    items.iter().all(|item| item.is_string())
+}
+
+/// Whether every member is a text or a null.
+fn have_texts(members: &Map<String, Value>) -> bool
+    ensures { result ≡ have_texts (members_view members.now.entries) }
+{
+    members
+        .values()
+        .all(|value| value.is_null() || value.is_string())
+}
+
+/// Whether a member is a text, where it is there.
+fn may_be_text(name: &str, body: &Value) -> bool
+    ensures { result ≡ may_be_text name.now (view body.now) }
+{
+    match body.get(name) {
+        Some(value) => value.is_null() || value.is_string(),
+        None => true,
+    }
+}
+
+/// Whether the value is an object whose members that count are texts.
+fn is_attribute(value: &Value) -> bool
+    ensures { result ≡ is_attribute (view value.now) }
+{
+    value.is_object()
+        && may_be_text("DataType", value)
+        && may_be_text("StringValue", value)
+        && may_be_text("BinaryValue", value)
+}
+
+/// Whether every member is an attribute or a null.
+fn have_attributes(members: &Map<String, Value>) -> bool
+    ensures { result ≡ have_attributes (members_view members.now.entries) }
+{
+    for (_name, value) in members {
+        if !(value.is_null() || is_attribute(value)) {
+            return false;
+        }
+    }
+    true
+}
+
+/// Whether a value is of a kind.
+fn is_of_kind(kind: Kind, value: &Value) -> bool
+    ensures { result ≡ is_of_kind kind (view value.now) }
+{
+    match kind {
+        Kind::Text => value.is_string(),
+        Kind::Number => value.is_u64() || value.is_i64(),
+        Kind::Texts => match value.as_array() {
+            Some(items) => are_texts(items),
+            None => false,
+        },
+        Kind::NamedTexts => match value.as_object() {
+            Some(members) => have_texts(members),
+            None => false,
+        },
+        Kind::MessageAttributes => match value.as_object() {
+            Some(members) => have_attributes(members),
+            None => false,
+        },
+    }
+}
+
+/// Whether a member is of a kind, where it is there.
+pub(crate) fn has_kind(body: &Value, name: &str, kind: Kind) -> bool
+    ensures { result ≡ has_kind name.now kind (view body.now) }
+{
+    match body.get(name) {
+        Some(value) => value.is_null() || is_of_kind(kind, value),
+        None => true,
     }
 }

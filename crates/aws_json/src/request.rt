@@ -1,17 +1,21 @@
 //! Requests: an action and a JSON body (AWS JSON 1.0, Amazon SQS API Reference). Which fault is
 //! which, and the order in which they are judged, is this project's own choice.
 
-ghost use Rattle.std.specs.Prelude.{◌≡◌, option_map};
+ghost use Rattle.std.specs.Prelude.{◌≡◌, Ok, Err, None, option_map};
 ghost use Rattle.message.specs.Fault.{Meets};
 ghost use Rattle.queue_config.specs.Settings.{no_requested_attributes};
 ghost use Rattle.serde_json.specs.View.{view, items_view, members_view};
-ghost use Rattle.aws_json.specs.Request.{name_part, named_queue, new_name, message_content, request_member, request_members, requested_attributes, no_counts, ask_count, ask_counts, asked_counts, maximum_given, required_within, given_handle, is_unanswered, ask_receive_name, ask_receive_names, ask_given_names, create_queue, set_queue_attributes, purge_queue, send_message, receive_message, delete_message, change_message_visibility, get_queue_attributes, request_of};
-ghost use Rattle.aws_json.specs.Members.{within};
+ghost use Rattle.aws_json.specs.Members.{within, have_kinds};
+ghost use Rattle.aws_json.specs.Request.{name_part, named_queue, new_name, request_text, request_members, requested_attributes, no_counts, ask_count, ask_counts, asked_counts, maximum_given, is_unanswered, ask_receive_name, ask_receive_names, ask_given_names, asked_patterns, patterns_of, asked_names, asked_of_row, read_row, row_of, create_queue, set_queue_attributes, purge_queue, send_message, receive_message, delete_message, change_message_visibility, get_queue_attributes, batch, request_of};
 
-use crate::members::{
-    named_texts_member, number_member, read_object, text_member, text_of, texts_member,
-    unserved_member, within,
+use crate::batch::{Entries, EntryKind, GivenMessage};
+use crate::entries::{
+    batch_of, entries_have_kinds, given_handle, message_given, required_timeout, timeout_within,
 };
+use crate::members::{
+    Kind, has_kind, items_in, members_in, number_in, read_object, text_in, within,
+};
+use crate::selection::Patterns;
 use message::{Content, Fault, QueueName};
 use queue_config::Wish;
 use queue_core::{Delay, Maximum, Timeout};
@@ -74,13 +78,15 @@ pub enum Request {
         queue: QueueName,
     },
     /// Receives messages, for a timeout in seconds or the queue's own, and waits for them so many
-    /// seconds or as the queue has it.
+    /// seconds or as the queue has it. The names are of attributes that the queue gives a message,
+    /// the patterns of those that its sender gave it.
     ReceiveMessage {
         queue: QueueName,
         maximum: Maximum,
         timeout: Option<Timeout>,
         wait: Option<u64>,
         names: ReceiveNames,
+        attributes: Patterns,
     },
     /// Deletes a message.
     DeleteMessage {
@@ -92,6 +98,11 @@ pub enum Request {
         queue: QueueName,
         handle: Handle,
         timeout: Timeout,
+    },
+    /// Sends, deletes or changes messages one after another, each by itself.
+    Batch {
+        queue: QueueName,
+        entries: Entries,
     },
 }
 
@@ -125,15 +136,6 @@ fn new_name(name: Option<&str>) -> Result<QueueName, Fault>
     QueueName::read(name)
 }
 
-/// What a message with this body holds. The body has to be there.
-fn message_content(alloc: Global, body: Option<&str>) -> Result<Content, Fault>
-    ensures { Meets result (message_content (option_map (λ s. s.now) body.entry)) }
-{
-    let body = body.ok_or(Fault::InvalidParameterValue)?;
-    let body = String::from_str(alloc, body)?;
-    Content::new(alloc, body, Vec::new(alloc))
-}
-
 /// The counts that are asked for after one more name.
 fn ask_count(counts: CountNames, name: &str) -> Result<CountNames, Fault>
     ensures { result ≡ ask_count counts name.now }
@@ -155,12 +157,12 @@ fn ask_count(counts: CountNames, name: &str) -> Result<CountNames, Fault>
     }
 }
 
-/// The requested attributes after one more member; a null asks for nothing.
-fn request_member(alloc: Global, wish: Wish, name: &str, value: &Value) -> Result<Wish, Fault>
-    ensures { Meets result (request_member wish name.now (view value.now)) }
+/// The requested attributes after one more member; one that is no text asks for nothing.
+fn request_text(alloc: Global, wish: Wish, name: &str, text: Option<&str>) -> Result<Wish, Fault>
+    ensures { Meets result (request_text wish name.now (option_map (λ s. s.now) text.entry)) }
 {
     let mut wish = wish;
-    if let Some(text) = text_of(value)? {
+    if let Some(text) = text {
         wish.put(alloc, name, text)?;
     }
     Ok(wish)
@@ -173,7 +175,7 @@ fn request_members(alloc: Global, attributes: &Map<String, Value>) -> Result<Wis
 {
     let mut wish = Wish::new();
     for (name, value) in attributes {
-        wish = request_member(alloc, wish, name.as_str(), value)?;
+        wish = request_text(alloc, wish, name.as_str(), value.as_str())?;
     }
     Ok(wish)
 }
@@ -220,39 +222,6 @@ fn ask_counts(names: &[Value]) -> Result<CountNames, Fault>
     Ok(counts)
 }
 
-/// A delay in seconds, where there is one.
-fn delay_within(number: Option<Option<u64>>) -> Result<Option<Delay>, Fault>
-    ensures { result ≡ within 0 900 number }
-{
-    match within(0, 900, number)? {
-        Some(seconds) => match Delay::new(seconds as u16) {
-            Some(delay) => Ok(Some(delay)),
-            None => Err(Fault::InvalidParameterValue),
-        },
-        None => Ok(None),
-    }
-}
-
-/// A visibility timeout in seconds, where there is one.
-fn timeout_within(number: Option<Option<u64>>) -> Result<Option<Timeout>, Fault>
-    ensures { result ≡ within 0 43200 number }
-{
-    match within(0, 43_200, number)? {
-        Some(seconds) => match Timeout::new(seconds as u32) {
-            Some(timeout) => Ok(Some(timeout)),
-            None => Err(Fault::InvalidParameterValue),
-        },
-        None => Ok(None),
-    }
-}
-
-/// A visibility timeout in seconds, which has to be there.
-fn required_timeout(number: Option<Option<u64>>) -> Result<Timeout, Fault>
-    ensures { result ≡ required_within 0 43200 number }
-{
-    timeout_within(number)?.ok_or(Fault::InvalidParameterValue)
-}
-
 /// How many messages a receive asks for: one where it does not say.
 fn maximum_given(number: Option<Option<u64>>) -> Result<Maximum, Fault>
     ensures { result ≡ maximum_given number }
@@ -262,14 +231,6 @@ fn maximum_given(number: Option<Option<u64>>) -> Result<Maximum, Fault>
         Some(maximum) => Ok(maximum),
         None => Err(Fault::InvalidParameterValue),
     }
-}
-
-/// The handle of a receive. It has to be there.
-fn given_handle(text: Option<&str>) -> Result<Handle, Fault>
-    ensures { result ≡ given_handle (option_map (λ s. s.now) text.entry) }
-{
-    let text = text.ok_or(Fault::InvalidParameterValue)?;
-    Handle::read(text)
 }
 
 /// Whether the attribute is one that is accepted and not answered.
@@ -343,49 +304,89 @@ fn ask_given_names(names: ReceiveNames, more: Option<&[Value]>) -> Result<Receiv
     }
 }
 
+/// The texts of a list.
+fn patterns_of(alloc: Global, items: &[Value]) -> Result<Patterns, Fault>
+    ensures { Meets result (Ok (patterns_of (items_view items.now))) }
+{
+    let mut patterns = Patterns::new(alloc);
+    for item in items {
+        let text = match item.as_str() {
+            Some(text) => text,
+            None => "",
+        };
+        patterns.push(String::from_str(alloc, text)?)?;
+    }
+    Ok(patterns)
+}
+
+/// The names of message attributes that a receive asks for; none where there is no list.
+fn asked_patterns(alloc: Global, items: Option<&[Value]>) -> Result<Patterns, Fault>
+    ensures { Meets result
+        (Ok (asked_patterns (option_map (λ items. items_view items.now) items.entry))) }
+{
+    match items {
+        Some(items) => patterns_of(alloc, items),
+        None => Ok(Patterns::new(alloc)),
+    }
+}
+
 /// Reads a creation: the name first, then the attributes.
 fn create_queue(alloc: Global, body: &Value) -> Result<Request, Fault>
-    ensures { Meets result (create_queue (view body.now)) }
+    ensures { Meets result (asked_of_row create_queue (view body.now)) }
 {
-    let name = text_member(body, "QueueName")?;
-    let attributes = named_texts_member(body, "Attributes")?;
-    let name = new_name(name)?;
-    let wish = requested_attributes(alloc, attributes)?;
+    if !(has_kind(body, "QueueName", Kind::Text)
+        && has_kind(body, "Attributes", Kind::NamedTexts))
+    {
+        return Err(Fault::SerializationException);
+    }
+    let name = new_name(text_in(body, "QueueName"))?;
+    let wish = requested_attributes(alloc, members_in(body, "Attributes"))?;
     Ok(Request::CreateQueue { name, wish })
 }
 
 /// Reads a change of settings: the queue first, then the attributes, which have to be there.
 fn set_queue_attributes(alloc: Global, body: &Value) -> Result<Request, Fault>
-    ensures { Meets result (set_queue_attributes (view body.now)) }
+    ensures { Meets result (asked_of_row set_queue_attributes (view body.now)) }
 {
-    let url = text_member(body, "QueueUrl")?;
-    let attributes = named_texts_member(body, "Attributes")?;
-    let queue = named_queue(url)?;
-    let members = attributes.ok_or(Fault::InvalidParameterValue)?;
+    if !(has_kind(body, "QueueUrl", Kind::Text) && has_kind(body, "Attributes", Kind::NamedTexts)) {
+        return Err(Fault::SerializationException);
+    }
+    let queue = named_queue(text_in(body, "QueueUrl"))?;
+    let members = members_in(body, "Attributes").ok_or(Fault::InvalidParameterValue)?;
     let wish = request_members(alloc, members)?;
     Ok(Request::SetQueueAttributes { queue, wish })
 }
 
 /// Reads a purge.
 fn purge_queue(body: &Value) -> Result<Request, Fault>
-    ensures { result ≡ purge_queue (view body.now) }
+    ensures { result ≡ asked_of_row purge_queue (view body.now) }
 {
-    let url = text_member(body, "QueueUrl")?;
-    let queue = named_queue(url)?;
+    if !has_kind(body, "QueueUrl", Kind::Text) {
+        return Err(Fault::SerializationException);
+    }
+    let queue = named_queue(text_in(body, "QueueUrl"))?;
     Ok(Request::PurgeQueue { queue })
 }
 
-/// Reads a send: the queue first, then the body, then the delay. Attributes are not served yet.
-fn send_message(alloc: Global, body: &Value) -> Result<Request, Fault>
-    ensures { Meets result (send_message (view body.now)) }
+/// Whether the members of a send have their kinds.
+fn has_send_kinds(body: &Value) -> bool
+    ensures { result ≡ have_kinds send_message.columns (view body.now) }
 {
-    let url = text_member(body, "QueueUrl")?;
-    let text = text_member(body, "MessageBody")?;
-    let delay = number_member(body, "DelaySeconds")?;
-    unserved_member(body, "MessageAttributes")?;
-    let queue = named_queue(url)?;
-    let content = message_content(alloc, text)?;
-    let delay = delay_within(delay)?;
+    has_kind(body, "QueueUrl", Kind::Text)
+        && has_kind(body, "MessageBody", Kind::Text)
+        && has_kind(body, "DelaySeconds", Kind::Number)
+        && has_kind(body, "MessageAttributes", Kind::MessageAttributes)
+}
+
+/// Reads a send: the queue first, then what is sent.
+fn send_message(alloc: Global, body: &Value) -> Result<Request, Fault>
+    ensures { Meets result (asked_of_row send_message (view body.now)) }
+{
+    if !has_send_kinds(body) {
+        return Err(Fault::SerializationException);
+    }
+    let queue = named_queue(text_in(body, "QueueUrl"))?;
+    let GivenMessage { content, delay } = message_given(alloc, body)?;
     Ok(Request::SendMessage {
         queue,
         content,
@@ -393,22 +394,23 @@ fn send_message(alloc: Global, body: &Value) -> Result<Request, Fault>
     })
 }
 
-/// Reads a receive: the queue first, then the numbers, then the names of attributes. The names of
-/// message attributes select nothing yet.
-fn receive_message(body: &Value) -> Result<Request, Fault>
-    ensures { result ≡ receive_message (view body.now) }
+/// Whether the members of a receive have their kinds.
+fn has_receive_kinds(body: &Value) -> bool
+    ensures { result ≡ have_kinds receive_message.columns (view body.now) }
 {
-    let url = text_member(body, "QueueUrl")?;
-    let maximum = number_member(body, "MaxNumberOfMessages")?;
-    let timeout = number_member(body, "VisibilityTimeout")?;
-    let wait = number_member(body, "WaitTimeSeconds")?;
-    let names = texts_member(body, "AttributeNames")?;
-    let system = texts_member(body, "MessageSystemAttributeNames")?;
-    texts_member(body, "MessageAttributeNames")?;
-    let queue = named_queue(url)?;
-    let maximum = maximum_given(maximum)?;
-    let timeout = timeout_within(timeout)?;
-    let wait = within(0, 20, wait)?;
+    has_kind(body, "QueueUrl", Kind::Text)
+        && has_kind(body, "MaxNumberOfMessages", Kind::Number)
+        && has_kind(body, "VisibilityTimeout", Kind::Number)
+        && has_kind(body, "WaitTimeSeconds", Kind::Number)
+        && has_kind(body, "AttributeNames", Kind::Texts)
+        && has_kind(body, "MessageSystemAttributeNames", Kind::Texts)
+        && has_kind(body, "MessageAttributeNames", Kind::Texts)
+}
+
+/// The attributes that either list asks for, of those that a queue gives its messages.
+fn asked_names(body: &Value) -> Result<ReceiveNames, Fault>
+    ensures { result ≡ asked_names (view body.now) }
+{
     let asked = ReceiveNames {
         sender: false,
         sent: false,
@@ -416,38 +418,64 @@ fn receive_message(body: &Value) -> Result<Request, Fault>
         first: false,
         source: false,
     };
-    let asked = ask_given_names(asked, names)?;
-    let names = ask_given_names(asked, system)?;
+    let asked = ask_given_names(asked, items_in(body, "AttributeNames"))?;
+    ask_given_names(asked, items_in(body, "MessageSystemAttributeNames"))
+}
+
+/// Reads a receive: the queue first, then the numbers, then the names of attributes.
+fn receive_message(alloc: Global, body: &Value) -> Result<Request, Fault>
+    ensures { Meets result (asked_of_row receive_message (view body.now)) }
+{
+    if !has_receive_kinds(body) {
+        return Err(Fault::SerializationException);
+    }
+    let queue = named_queue(text_in(body, "QueueUrl"))?;
+    let maximum = maximum_given(number_in(body, "MaxNumberOfMessages"))?;
+    let timeout = timeout_within(number_in(body, "VisibilityTimeout"))?;
+    let wait = within(0, 20, number_in(body, "WaitTimeSeconds"))?;
+    let names = asked_names(body)?;
+    let attributes = asked_patterns(alloc, items_in(body, "MessageAttributeNames"))?;
     Ok(Request::ReceiveMessage {
         queue,
         maximum,
         timeout,
         wait,
         names,
+        attributes,
     })
 }
 
 /// Reads a delete: the queue first, then the handle.
 fn delete_message(body: &Value) -> Result<Request, Fault>
-    ensures { result ≡ delete_message (view body.now) }
+    ensures { result ≡ asked_of_row delete_message (view body.now) }
 {
-    let url = text_member(body, "QueueUrl")?;
-    let text = text_member(body, "ReceiptHandle")?;
-    let queue = named_queue(url)?;
-    let handle = given_handle(text)?;
+    if !(has_kind(body, "QueueUrl", Kind::Text) && has_kind(body, "ReceiptHandle", Kind::Text)) {
+        return Err(Fault::SerializationException);
+    }
+    let queue = named_queue(text_in(body, "QueueUrl"))?;
+    let handle = given_handle(text_in(body, "ReceiptHandle"))?;
     Ok(Request::DeleteMessage { queue, handle })
+}
+
+/// Whether the members of a change of visibility have their kinds.
+fn has_change_kinds(body: &Value) -> bool
+    ensures { result ≡ have_kinds change_message_visibility.columns (view body.now) }
+{
+    has_kind(body, "QueueUrl", Kind::Text)
+        && has_kind(body, "ReceiptHandle", Kind::Text)
+        && has_kind(body, "VisibilityTimeout", Kind::Number)
 }
 
 /// Reads a change of visibility: the queue first, then the handle, then the timeout.
 fn change_message_visibility(body: &Value) -> Result<Request, Fault>
-    ensures { result ≡ change_message_visibility (view body.now) }
+    ensures { result ≡ asked_of_row change_message_visibility (view body.now) }
 {
-    let url = text_member(body, "QueueUrl")?;
-    let text = text_member(body, "ReceiptHandle")?;
-    let timeout = number_member(body, "VisibilityTimeout")?;
-    let queue = named_queue(url)?;
-    let handle = given_handle(text)?;
-    let timeout = required_timeout(timeout)?;
+    if !has_change_kinds(body) {
+        return Err(Fault::SerializationException);
+    }
+    let queue = named_queue(text_in(body, "QueueUrl"))?;
+    let handle = given_handle(text_in(body, "ReceiptHandle"))?;
+    let timeout = required_timeout(number_in(body, "VisibilityTimeout"))?;
     Ok(Request::ChangeMessageVisibility {
         queue,
         handle,
@@ -457,19 +485,41 @@ fn change_message_visibility(body: &Value) -> Result<Request, Fault>
 
 /// Reads a request for attributes: the queue first, then the names.
 fn get_queue_attributes(body: &Value) -> Result<Request, Fault>
-    ensures { result ≡ get_queue_attributes (view body.now) }
+    ensures { result ≡ asked_of_row get_queue_attributes (view body.now) }
 {
-    let url = text_member(body, "QueueUrl")?;
-    let names = texts_member(body, "AttributeNames")?;
-    let queue = named_queue(url)?;
-    let names = asked_counts(names)?;
+    if !(has_kind(body, "QueueUrl", Kind::Text) && has_kind(body, "AttributeNames", Kind::Texts)) {
+        return Err(Fault::SerializationException);
+    }
+    let queue = named_queue(text_in(body, "QueueUrl"))?;
+    let names = asked_counts(items_in(body, "AttributeNames"))?;
     Ok(Request::GetQueueAttributes { queue, names })
 }
 
+/// Reads a batch: the queue first, then the entries.
+fn batch(alloc: Global, kind: EntryKind, body: &Value) -> Result<Request, Fault>
+    ensures { Meets result (asked_of_row (batch kind) (view body.now)) }
+{
+    if !(has_kind(body, "QueueUrl", Kind::Text) && entries_have_kinds(kind, body)) {
+        return Err(Fault::SerializationException);
+    }
+    let queue = named_queue(text_in(body, "QueueUrl"))?;
+    let items = items_in(body, "Entries").ok_or(Fault::InvalidParameterValue)?;
+    let entries = batch_of(alloc, kind, items)?;
+    Ok(Request::Batch { queue, entries })
+}
+
+/// Reads a batch of a kind from the bytes of its body.
+fn batch_in(alloc: Global, kind: EntryKind, body: &[u8]) -> Result<Request, Fault>
+    ensures { Meets result (read_row (batch kind) body.now) }
+{
+    batch(alloc, kind, &read_object(alloc, body)?)
+}
+
 /// The request that an action and a body are, or the first fault. An action that is not served is
-/// `UnsupportedOperation`, whatever the body is, and so is a member that is not served yet.
+/// `UnsupportedOperation`, whatever the body is.
 pub fn parse(alloc: Global, action: &str, body: &[u8]) -> Result<Request, Fault>
-    ensures { Meets result (request_of action.now body.now) }
+    ensures request { Meets result (request_of action.now body.now) }
+    ensures unserved { row_of action.now ≡ None → result ≡ Err Fault.UnsupportedOperation }
 {
     match action {
         "CreateQueue" => create_queue(alloc, &read_object(alloc, body)?),
@@ -477,9 +527,12 @@ pub fn parse(alloc: Global, action: &str, body: &[u8]) -> Result<Request, Fault>
         "GetQueueAttributes" => get_queue_attributes(&read_object(alloc, body)?),
         "SetQueueAttributes" => set_queue_attributes(alloc, &read_object(alloc, body)?),
         "PurgeQueue" => purge_queue(&read_object(alloc, body)?),
-        "ReceiveMessage" => receive_message(&read_object(alloc, body)?),
+        "ReceiveMessage" => receive_message(alloc, &read_object(alloc, body)?),
         "DeleteMessage" => delete_message(&read_object(alloc, body)?),
         "ChangeMessageVisibility" => change_message_visibility(&read_object(alloc, body)?),
+        "SendMessageBatch" => batch_in(alloc, EntryKind::Send, body),
+        "DeleteMessageBatch" => batch_in(alloc, EntryKind::Delete, body),
+        "ChangeMessageVisibilityBatch" => batch_in(alloc, EntryKind::Change, body),
         _ => Err(Fault::UnsupportedOperation),
     }
 }

@@ -1,2 +1,4 @@
 pub mod NameLemmas
 pub mod IdLemmas
+pub mod AttributeLemmas
+pub mod OrderLemmas

@@ -1,10 +1,11 @@
 -- What a message holds (Amazon SQS API Reference, SendMessage).
-use Rattle.std.specs.Prelude.{ℕ, ◌+◌, ◌==◌, nat_le, Bool, ◌&&◌, ◌||◌, if◌then◌else◌, List, length, sum_by, Result, Ok, Err}
+use Rattle.std.specs.Prelude.{ℕ, ◌+◌, ◌==◌, nat_le, Bool, ◌&&◌, if◌then◌else◌, List, length, sum_by, is_none, Option, Some, None, Result, Ok, Err}
 use Rattle.std.specs.List.{list_all}
-use Rattle.std.specs.Str.{chars}
+use Rattle.std.specs.Option.{option_or}
 use Rattle.message.specs.declared.fault.Fault.{Fault}
 use Rattle.message.specs.declared.fault.Fault.TheVariants.{InvalidParameterValue, InvalidMessageContents}
-use Rattle.message.specs.Attribute.{AttributeText, attribute_size}
+use Rattle.message.specs.Attribute.{AttributeText, attribute_size, attribute_fault, attributes_fault, by_name, is_ascending}
+use Rattle.message.specs.Characters.{is_message_text}
 
 -- the UTF-8 bytes of the body, and the attributes
 pub record ContentText : Type 0 where
@@ -15,24 +16,22 @@ pub record ContentText : Type 0 where
 abbrev pub content_size : ContentText → ℕ
 content_size c = length c.body + sum_by attribute_size c.attributes
 
--- tab, line feed, carriage return, and the characters of three ranges
-abbrev pub is_message_character : ℕ → Bool
-is_message_character c =
-    (c == 0x9) || (c == 0xA) || (c == 0xD) || (nat_le 0x20 c && nat_le c 0xD7FF)
-    || (nat_le 0xE000 c && nat_le c 0xFFFD) || (nat_le 0x10000 c && nat_le c 0x10FFFF)
+-- what is wrong with a body
+abbrev pub body_fault : List ℕ → Option Fault
+body_fault body = if length body == 0 then Some InvalidParameterValue else if is_message_text body then None else Some InvalidMessageContents
 
--- a text of message characters alone
-abbrev pub is_message_text : List ℕ → Bool
-is_message_text text = list_all is_message_character (chars text)
+-- a value, unless something is wrong
+abbrev pub unless_fault : {A : Type 0} → Option Fault → A → Result A Fault
+unless_fault None x = Ok x
+unless_fault (Some fault) x = Err fault
 
--- the content that a body and attributes make, or what is first wrong with them; attributes are not taken yet
+-- the content that a body and attributes make, or what is first wrong with them: the body is judged before the attributes
 abbrev pub content_of : List ℕ → List AttributeText → Result ContentText Fault
 content_of body attributes =
-    if length body == 0 then Err InvalidParameterValue
-    else if is_message_text body
-    then (if length attributes == 0 then Ok (record { body = body; attributes = attributes }) else Err InvalidParameterValue)
-    else Err InvalidMessageContents
+    unless_fault (option_or (body_fault body) (attributes_fault attributes)) (record { body = body; attributes = by_name attributes })
 
--- a content that these rules take
+-- a content that these rules take: its attributes stand ascending by name
 abbrev pub is_content : ContentText → Bool
-is_content c = nat_le 1 (length c.body) && is_message_text c.body && (length c.attributes == 0)
+is_content c =
+    is_none (body_fault c.body) && nat_le (length c.attributes) 10 && is_ascending c.attributes
+    && list_all (λ a. is_none (attribute_fault a)) c.attributes

@@ -1,10 +1,14 @@
 //! What a message holds.
 
-ghost use Rattle.std.specs.Prelude.{◌≡◌, IsTrue, string_bytes};
+ghost use Rattle.std.specs.Prelude.{◌≡◌, ◌+◌, IsTrue, Ok, Err, IfOk, IfErr, IfSome, length, string_bytes, sum_by};
+ghost use Rattle.message.specs.declared.fault.Fault.TheVariants.{OutOfMemory};
 ghost use Rattle.message.specs.Fault.{Meets};
-ghost use Rattle.message.specs.Content.{content_of, content_size, is_content, is_message_character, is_message_text};
+ghost use Rattle.message.specs.Attribute.{attribute_size};
+ghost use Rattle.message.specs.Content.{body_fault, content_of, content_size, is_content};
 
 use crate::attribute::Attribute;
+use crate::attributes;
+use crate::characters::is_message_text;
 use crate::fault::Fault;
 use std::alloc::Global;
 use std::marker::Model;
@@ -18,8 +22,26 @@ struct Parts {
     size: u64,
 }
 
-/// What a message holds: a body of at least one allowed character, and attributes. Contracts see
-/// the body's UTF-8 bytes and the list of attributes.
+impl Parts {
+    /// The parts with their size. A size that cannot be counted is that of no memory: it is refused
+    /// as `OutOfMemory`.
+    fn of(body: String, attributes: Vec<Attribute>) -> Result<Parts, Fault>
+        ensures ok { IfOk result (λ parts. parts ≡ record { body = body; attributes = attributes; size = length (string_bytes body) + sum_by attribute_size attributes.items }) }
+        ensures errors { IfErr result (λ fault. fault ≡ OutOfMemory) }
+    {
+        match attributes::size(body.as_str(), attributes.as_slice()) {
+            Some(size) => Ok(Parts {
+                body,
+                attributes,
+                size,
+            }),
+            None => Err(Fault::OutOfMemory),
+        }
+    }
+}
+
+/// What a message holds: a body of one or more characters, all of them allowed, and at most ten
+/// attributes, ascending by name. Contracts see the body's UTF-8 bytes and the list of attributes.
 #[derive(Debug, Drop)]
 pub struct Content {
     parts: Arc<Parts>,
@@ -36,50 +58,37 @@ impl Model for Content {
     ghost invariant = { λ c. IsStoredContent c.parts.value };
 }
 
-/// Whether messages may have the character (W3C XML 1.0, `Char`, as the Amazon SQS API Reference
-/// has it for message bodies).
-fn is_allowed(character: char) -> bool
-    ensures { result ≡ is_message_character character }
+/// What is wrong with a body: an empty one is `InvalidParameterValue`, one with a character that
+/// messages may not have is `InvalidMessageContents`.
+pub fn body_fault(body: &str) -> Option<Fault>
+    ensures { result ≡ body_fault body.now }
 {
-    matches!(
-        character,
-        '\t' | '\n' | '\r' | ' '..='\u{D7FF}' | '\u{E000}'..='\u{FFFD}' | '\u{10000}'..='\u{10FFFF}'
-    )
-}
-
-/// Whether messages may have all characters of the text.
-fn is_allowed_text(text: &str) -> bool
-    ensures { result ≡ is_message_text text.now }
-{
-    text.chars().all(|character| is_allowed(character))
+    if body.is_empty() {
+        return Some(Fault::InvalidParameterValue);
+    }
+    if !is_message_text(body) {
+        return Some(Fault::InvalidMessageContents);
+    }
+    None
 }
 
 impl Content {
-    /// The content with this body and these attributes, or the first fault: an empty body is
-    /// `InvalidParameterValue`, a body with a character that messages may not have is
-    /// `InvalidMessageContents`. Attributes are not taken yet: a list that is not empty is
-    /// `InvalidParameterValue`. `OutOfMemory` may come in the place of any answer.
+    /// The content with this body and these attributes, which may come in any order, or the first
+    /// fault. The body is judged as [`body_fault`] judges it. Then more than ten attributes, or two
+    /// of one name, are `InvalidParameterValue`. Then the attributes are judged in byte order of
+    /// their names, each its name, its type and its value: a value with a character that messages
+    /// may not have is `InvalidMessageContents`, every other fault `InvalidParameterValue`.
+    /// `OutOfMemory` may come in the place of any answer but a fault of the body.
     pub fn new(alloc: Global, body: String, attributes: Vec<Attribute>) -> Result<Content, Fault>
-        ensures { Meets result (content_of (string_bytes body) attributes.items) }
+        ensures content { Meets result (content_of (string_bytes body) attributes.items) }
+        ensures faulty_body { IfSome (body_fault (string_bytes body)) (λ fault. result ≡ Err fault) }
     {
-        if body.is_empty() {
-            return Err(Fault::InvalidParameterValue);
+        if let Some(fault) = body_fault(body.as_str()) {
+            return Err(fault);
         }
-        if !is_allowed_text(body.as_str()) {
-            return Err(Fault::InvalidMessageContents);
-        }
-        if !attributes.is_empty() {
-            return Err(Fault::InvalidParameterValue);
-        }
-        let size = body.len() as u64;
-        let parts = Arc::new(
-            alloc,
-            Parts {
-                body,
-                attributes,
-                size,
-            },
-        )?;
+        let attributes = attributes::judged(alloc, attributes)?;
+        let parts = Parts::of(body, attributes)?;
+        let parts = Arc::new(alloc, parts)?;
         Ok(Content { parts })
     }
 
@@ -91,7 +100,7 @@ impl Content {
         self.parts.body.as_str()
     }
 
-    /// The attributes.
+    /// The attributes, ascending by name.
     pub fn attributes(&self) -> &[Attribute]
         ensures attributes { result.now ≡ self.now.attributes }
         ensures allowed { IsTrue (is_content self.now) }

@@ -7,8 +7,8 @@ ghost use Rattle.message.specs.declared.fault.Fault.TheVariants.{OutOfMemory};
 use std::alloc::{AllocError, AllocFailed};
 use thiserror::Error;
 
-/// A refusal. The variants stand in the order of their numbers. Their messages are in the words that
-/// a client reads; tests show them, and no contract.
+/// A refusal. The variants stand in the order of their numbers. What `Display` writes of them is shown
+/// by tests, and by no contract.
 ///
 /// The names are those of the Amazon SQS API Reference where it has one. Which refusal has which
 /// number, status and text is this project's own choice.
@@ -29,10 +29,10 @@ pub enum Fault {
     /// A parameter that is missing, out of range or of another form.
     #[error("Parameter value not allowed.")]
     InvalidParameterValue,
-    /// A text with a character that messages may not have.
+    /// A body, or the value of an attribute, with a character that messages may not have.
     #[error("Characters not allowed in the message.")]
     InvalidMessageContents,
-    /// A receipt handle that this queue never gave.
+    /// A text that is no receipt handle, or a handle that this queue never gave.
     #[error("The receipt handle is not valid.")]
     ReceiptHandleIsInvalid,
     /// A change of visibility of a message that is not in flight under this handle.
@@ -59,7 +59,8 @@ pub enum Fault {
     /// An action that this server does not serve.
     #[error("The action is not supported.")]
     UnsupportedOperation,
-    /// A request that is no JSON object, or has a member of another kind.
+    /// A request that is no JSON object in UTF-8, or has a member of another kind, or an input line
+    /// that cannot be read.
     #[error("The request cannot be read.")]
     SerializationException,
     /// The queue's journal has no room for another entry.

@@ -6,3 +6,4 @@ pub mod AloneLemmas
 pub mod LineLemmas
 pub mod GrammarLemmas
 pub mod AnswerLemmas
+pub mod BatchLemmas

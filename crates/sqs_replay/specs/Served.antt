@@ -1,5 +1,5 @@
 -- What a line of the input asks, and what a world answers it.
-use Rattle.std.specs.Prelude.{◌≡◌, ℕ, ⊤, nat_lt, if◌then◌else◌, List, ◌++◌, length, codes, decimal, Option, Result, Ok, Err, ok_or, MatchBool}
+use Rattle.std.specs.Prelude.{◌≡◌, ℕ, ⊤, nat_lt, if◌then◌else◌, List, [], ◌∷◌, ◌++◌, length, codes, decimal, Option, Result, Ok, Err, ok_or, MatchBool}
 use Rattle.std.specs.Option.{option_map_or}
 use Rattle.std.specs.Str.{bytes_eq}
 use Rattle.message.specs.declared.fault.Fault.{Fault}
@@ -16,12 +16,16 @@ use Rattle.aws_json.specs.Members.{object_of}
 use Rattle.aws_json.specs.Request.{request_of}
 use Rattle.aws_json.specs.Reply.{reply_data}
 use Rattle.aws_json.specs.FaultText.{fault_body, fault_status}
+use Rattle.aws_json.specs.declared.batch.BatchAnswer.{BatchAnswer}
+use Rattle.aws_json.specs.declared.batch.BatchEntry.{BatchEntry}
+use Rattle.aws_json.specs.declared.batch.EntryReply.{EntryReply}
+use Rattle.aws_json.specs.declared.batch.EntryReply.TheVariants as entries
 use Rattle.aws_json.specs.declared.request.CountNames.{CountNames}
 use Rattle.aws_json.specs.declared.request.ReceiveNames.{ReceiveNames}
 use Rattle.aws_json.specs.declared.request.Request.{Request}
-use Rattle.aws_json.specs.declared.request.Request.TheVariants.{CreateQueue, SendMessage, GetQueueAttributes, SetQueueAttributes, PurgeQueue, ReceiveMessage, DeleteMessage, ChangeMessageVisibility}
+use Rattle.aws_json.specs.declared.request.Request.TheVariants as requests
 use Rattle.aws_json.specs.declared.reply.ReplyShape.{ReplyShape}
-use Rattle.aws_json.specs.declared.reply.ReplyShape.TheVariants.{QueueUrl, Sent, Counts, Messages, Nothing}
+use Rattle.aws_json.specs.declared.reply.ReplyShape.TheVariants.{QueueUrl, Sent, Counts, Messages, Batch, Nothing}
 use Rattle.sqs_replay.specs.declared.lines.TheConstants.{LINE_LIMIT}
 use Rattle.sqs_replay.specs.declared.answer.Asked.{Asked}
 use Rattle.sqs_replay.specs.declared.answer.Asked.TheVariants.{Client, Tick}
@@ -52,7 +56,7 @@ command_answer w at name command = named_uid w name >>= λ uid. step_answer w ui
 abbrev pub command_world : World → ℕ → List ℕ → Command → World
 command_world w at name command = option_map_or (λ uid. world_after_step w uid at command (step_answer w uid at command)) (found_uid w name) w
 
--- ---- a queue's reply as a client sees it; a queue answers each command by its own kind of reply
+-- ---- a queue's reply as a client sees it. A queue answers each command by its own kind of reply, so the equations for other kinds never apply
 
 abbrev pub sent_shape : ContentText → Reply → ReplyShape
 sent_shape content (replies.Sent posted) = Sent content posted.id
@@ -66,37 +70,72 @@ counts_shape names (replies.Received offers) = Nothing
 counts_shape names (replies.Looked look) = Counts names look.gauges.visible look.gauges.delayed look.gauges.in_flight
 counts_shape names replies.Done = Nothing
 
-abbrev pub messages_shape : ReceiveNames → ℕ → Reply → ReplyShape
-messages_shape names uid (replies.Sent posted) = Nothing
-messages_shape names uid (replies.Received offers) = Messages uid names offers
-messages_shape names uid (replies.Looked look) = Nothing
-messages_shape names uid replies.Done = Nothing
+abbrev pub messages_shape : ReceiveNames → List (List ℕ) → ℕ → Reply → ReplyShape
+messages_shape names patterns uid (replies.Sent posted) = Nothing
+messages_shape names patterns uid (replies.Received offers) = Messages uid names patterns offers
+messages_shape names patterns uid (replies.Looked look) = Nothing
+messages_shape names patterns uid replies.Done = Nothing
 
 abbrev pub done_shape : Reply → ReplyShape
 done_shape reply = Nothing
 
--- ---- requests
+-- ---- batches: the entries are done one after another, each by itself
+
+-- what a client is told of an entry's command that was done. Entries only send, change and delete, so the other equations never apply
+abbrev pub entry_reply : Command → Reply → EntryReply
+entry_reply (commands.Send content delay) (replies.Sent posted) = entries.Sent content posted.id
+entry_reply (commands.Send content delay) (replies.Received offers) = entries.Done
+entry_reply (commands.Send content delay) (replies.Looked look) = entries.Done
+entry_reply (commands.Send content delay) replies.Done = entries.Done
+entry_reply (commands.Receive maximum timeout) reply = entries.Done
+entry_reply (commands.Change handle timeout) reply = entries.Done
+entry_reply (commands.Delete handle) reply = entries.Done
+entry_reply commands.Purge reply = entries.Done
+entry_reply (commands.Set wish target) reply = entries.Done
+entry_reply commands.Look reply = entries.Done
+
+-- an entry with a fault of its own reaches no queue
+abbrev pub entry_answer : World → ℕ → ℕ → Result Command Fault → Result EntryReply Fault
+entry_answer w uid at (Ok command) = result_map (entry_reply command) (step_answer w uid at command)
+entry_answer w uid at (Err fault) = Err fault
+
+abbrev pub entry_world : World → ℕ → ℕ → Result Command Fault → World
+entry_world w uid at (Ok command) = world_after_step w uid at command (step_answer w uid at command)
+entry_world w uid at (Err fault) = w
+
+abbrev pub batch_answers : World → ℕ → ℕ → List BatchEntry → List BatchAnswer
+batch_answers w uid at [] = []
+batch_answers w uid at (e ∷ es) =
+    record { id = e.id; answer = entry_answer w uid at e.command } ∷ batch_answers (entry_world w uid at e.command) uid at es
+
+abbrev pub batch_world : World → ℕ → ℕ → List BatchEntry → World
+batch_world w uid at [] = w
+batch_world w uid at (e ∷ es) = batch_world (entry_world w uid at e.command) uid at es
+
+-- ---- requests; no queue has a dead-letter target, which the 0 of a Set says
 
 abbrev pub request_answer : World → ℕ → Request → Result ReplyShape Fault
-request_answer w at (CreateQueue name wish) = result_map (λ uid. QueueUrl name) (create_answer w name wish)
-request_answer w at (SendMessage queue content delay) = result_map (sent_shape content) (command_answer w at queue (commands.Send content delay))
-request_answer w at (GetQueueAttributes queue names) = result_map (counts_shape names) (command_answer w at queue commands.Look)
-request_answer w at (SetQueueAttributes queue wish) = result_map done_shape (command_answer w at queue (commands.Set wish 0))
-request_answer w at (PurgeQueue queue) = result_map done_shape (command_answer w at queue commands.Purge)
-request_answer w at (ReceiveMessage queue maximum timeout wait names) =
-    named_uid w queue >>= λ uid. result_map (messages_shape names uid) (step_answer w uid at (commands.Receive maximum timeout))
-request_answer w at (DeleteMessage queue handle) = result_map done_shape (command_answer w at queue (commands.Delete handle))
-request_answer w at (ChangeMessageVisibility queue handle timeout) = result_map done_shape (command_answer w at queue (commands.Change handle timeout))
+request_answer w at (requests.CreateQueue name wish) = result_map (λ uid. QueueUrl name) (create_answer w name wish)
+request_answer w at (requests.SendMessage queue content delay) = result_map (sent_shape content) (command_answer w at queue (commands.Send content delay))
+request_answer w at (requests.GetQueueAttributes queue names) = result_map (counts_shape names) (command_answer w at queue commands.Look)
+request_answer w at (requests.SetQueueAttributes queue wish) = result_map done_shape (command_answer w at queue (commands.Set wish 0))
+request_answer w at (requests.PurgeQueue queue) = result_map done_shape (command_answer w at queue commands.Purge)
+request_answer w at (requests.ReceiveMessage queue maximum timeout wait names patterns) =
+    named_uid w queue >>= λ uid. result_map (messages_shape names patterns uid) (step_answer w uid at (commands.Receive maximum timeout))
+request_answer w at (requests.DeleteMessage queue handle) = result_map done_shape (command_answer w at queue (commands.Delete handle))
+request_answer w at (requests.ChangeMessageVisibility queue handle timeout) = result_map done_shape (command_answer w at queue (commands.Change handle timeout))
+request_answer w at (requests.Batch queue entries) = result_map (λ uid. Batch (batch_answers w uid at entries)) (named_uid w queue)
 
 abbrev pub request_world : World → ℕ → Request → World
-request_world w at (CreateQueue name wish) = world_after_create w at name wish (create_answer w name wish)
-request_world w at (SendMessage queue content delay) = command_world w at queue (commands.Send content delay)
-request_world w at (GetQueueAttributes queue names) = command_world w at queue commands.Look
-request_world w at (SetQueueAttributes queue wish) = command_world w at queue (commands.Set wish 0)
-request_world w at (PurgeQueue queue) = command_world w at queue commands.Purge
-request_world w at (ReceiveMessage queue maximum timeout wait names) = command_world w at queue (commands.Receive maximum timeout)
-request_world w at (DeleteMessage queue handle) = command_world w at queue (commands.Delete handle)
-request_world w at (ChangeMessageVisibility queue handle timeout) = command_world w at queue (commands.Change handle timeout)
+request_world w at (requests.CreateQueue name wish) = world_after_create w at name wish (create_answer w name wish)
+request_world w at (requests.SendMessage queue content delay) = command_world w at queue (commands.Send content delay)
+request_world w at (requests.GetQueueAttributes queue names) = command_world w at queue commands.Look
+request_world w at (requests.SetQueueAttributes queue wish) = command_world w at queue (commands.Set wish 0)
+request_world w at (requests.PurgeQueue queue) = command_world w at queue commands.Purge
+request_world w at (requests.ReceiveMessage queue maximum timeout wait names patterns) = command_world w at queue (commands.Receive maximum timeout)
+request_world w at (requests.DeleteMessage queue handle) = command_world w at queue (commands.Delete handle)
+request_world w at (requests.ChangeMessageVisibility queue handle timeout) = command_world w at queue (commands.Change handle timeout)
+request_world w at (requests.Batch queue entries) = option_map_or (λ uid. batch_world w uid at entries) (found_uid w queue) w
 
 -- ---- lines
 

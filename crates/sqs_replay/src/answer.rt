@@ -2,21 +2,24 @@
 
 ghost use Rattle.std.specs.Prelude.{◌≡◌, ◌<◌, ℕ, ◌++◌, length, codes, decimal, Option, IfOk, IfErr, OnOk, false};
 ghost use Rattle.message.specs.Fault.{Meets, is_out_of_memory};
-ghost use Rattle.aws_json.specs.Steps.{result_map};
+ghost use Rattle.aws_json.specs.Steps.{◌>>=◌ as ◌then◌, result_map};
+ghost use Rattle.sqs_replay.specs.World.{step_answer};
 ghost use Rattle.sqs_replay.specs.Served.{done_shape, asked_by, asked_of, named_uid, command_answer, command_world, sent_shape, counts_shape, messages_shape, request_answer, request_world, asked_answer, asked_world, line_answer, line_world, answer_text, text_of_line, world_of_line, Leaves};
 
 use crate::ReplayFault;
+use crate::batch::answer_batch;
 use crate::house::House;
 use crate::input_line::{InputLine, read_line};
 use crate::lines::{LINE_LIMIT, Lines};
 use aws_json::{
-    CountNames, ReceiveNames, ReplyShape, Request, fault_text, parse, read_object, reply_text,
-    status,
+    CountNames, Patterns, ReceiveNames, ReplyShape, Request, fault_text, parse, read_object,
+    reply_text, status,
 };
 use journal::{Moment, Ticks};
 use message::{Content, Fault, QueueName};
 use queue_config::Wish;
-use queue_core::{Command, Delay, Maximum, Reply, Timeout};
+use queue_core::{Command, Delay, Reply, Timeout};
+use receipt_handle::Handle;
 use std::alloc::Global;
 
 /// What a line asks.
@@ -165,44 +168,44 @@ fn counts(
     Ok(counts_shape(names, &reply))
 }
 
+/// What a receive's reply tells of a message.
+#[derive(Debug, Drop)]
+struct Told {
+    names: ReceiveNames,
+    attributes: Patterns,
+}
+
 /// What a receive's reply is to a client.
-fn messages_shape(names: ReceiveNames, uid: u64, reply: Reply) -> ReplyShape
-    ensures { result ≡ messages_shape names uid reply }
+fn messages_shape(told: Told, uid: u64, reply: Reply) -> ReplyShape
+    ensures { result ≡ messages_shape told.names told.attributes uid reply }
 {
     match reply {
-        Reply::Received(offers) => ReplyShape::Messages { uid, names, offers },
+        Reply::Received(offers) => ReplyShape::Messages {
+            uid,
+            names: told.names,
+            attributes: told.attributes,
+            offers,
+        },
         Reply::Sent(_) | Reply::Looked(_) | Reply::Done => ReplyShape::Nothing,
     }
 }
 
-/// What a receive asks for, with the wait in seconds that the replay leaves aside.
-#[derive(Clone, Copy, Debug)]
-struct AskedMessages {
-    maximum: Maximum,
-    timeout: Option<Timeout>,
-    wait: Option<u64>,
-    names: ReceiveNames,
-}
-
-/// Receives messages. The replay does not wait for them.
+/// Does a receive's command. The replay does not wait for messages.
 fn receive(
     alloc: Global,
     house: &mut House,
     at: Moment,
     queue: &QueueName,
-    asked: AskedMessages,
+    command: Command,
+    told: Told,
     ticks: &mut Ticks,
 ) -> Result<ReplyShape, Fault>
-    ensures answer { Meets result (request_answer house.old at (Request.ReceiveMessage queue.now asked.maximum asked.timeout asked.wait asked.names)) }
-    ensures state { Leaves result house.new (request_world house.old at (Request.ReceiveMessage queue.now asked.maximum asked.timeout asked.wait asked.names)) }
+    ensures answer { Meets result (named_uid house.old queue.now then λ uid. result_map (messages_shape told.names told.attributes uid) (step_answer house.old uid at command)) }
+    ensures state { Leaves result house.new (command_world house.old at queue.now command) }
 {
     let uid = uid_named(house, queue)?;
-    let command = Command::Receive {
-        maximum: asked.maximum,
-        timeout: asked.timeout,
-    };
     let reply = ask(alloc, house, at, queue, command, ticks)?;
-    Ok(messages_shape(asked.names, uid, reply))
+    Ok(messages_shape(told, uid, reply))
 }
 
 /// Does a command whose success a client is told and nothing more.
@@ -219,6 +222,39 @@ fn finish(
 {
     ask(alloc, house, at, queue, command, ticks)?;
     Ok(ReplyShape::Nothing)
+}
+
+/// Gives a queue the requested settings.
+fn set(
+    alloc: Global,
+    house: &mut House,
+    at: Moment,
+    queue: &QueueName,
+    wish: Wish,
+    ticks: &mut Ticks,
+) -> Result<ReplyShape, Fault>
+    ensures answer { Meets result (request_answer house.old at (Request.SetQueueAttributes queue.now wish)) }
+    ensures state { Leaves result house.new (request_world house.old at (Request.SetQueueAttributes queue.now wish)) }
+{
+    let command = Command::Set { wish, target: 0 };
+    finish(alloc, house, at, queue, command, ticks)
+}
+
+/// Gives a message in flight another timeout.
+fn change(
+    alloc: Global,
+    house: &mut House,
+    at: Moment,
+    queue: &QueueName,
+    handle: Handle,
+    timeout: Timeout,
+    ticks: &mut Ticks,
+) -> Result<ReplyShape, Fault>
+    ensures answer { Meets result (request_answer house.old at (Request.ChangeMessageVisibility queue.now handle timeout)) }
+    ensures state { Leaves result house.new (request_world house.old at (Request.ChangeMessageVisibility queue.now handle timeout)) }
+{
+    let command = Command::Change { handle, timeout };
+    finish(alloc, house, at, queue, command, ticks)
 }
 
 /// Answers a client's request.
@@ -242,38 +278,29 @@ fn serve(
         Request::GetQueueAttributes { queue, names } => {
             counts(alloc, house, at, &queue, names, ticks)
         }
-        Request::SetQueueAttributes { queue, wish } => {
-            let command = Command::Set { wish, target: 0 };
-            finish(alloc, house, at, &queue, command, ticks)
-        }
-        Request::PurgeQueue { queue } => { finish(alloc, house, at, &queue, Command::Purge, ticks) }
+        Request::SetQueueAttributes { queue, wish } => set(alloc, house, at, &queue, wish, ticks),
+        Request::PurgeQueue { queue } => finish(alloc, house, at, &queue, Command::Purge, ticks),
         Request::ReceiveMessage {
             queue,
             maximum,
             timeout,
-            wait,
+            wait: _,
             names,
+            attributes,
         } => {
-            let asked = AskedMessages {
-                maximum,
-                timeout,
-                wait,
-                names,
-            };
-            receive(alloc, house, at, &queue, asked, ticks)
+            let command = Command::Receive { maximum, timeout };
+            let told = Told { names, attributes };
+            receive(alloc, house, at, &queue, command, told, ticks)
         }
         Request::DeleteMessage { queue, handle } => {
-            let command = Command::Delete { handle };
-            finish(alloc, house, at, &queue, command, ticks)
+            finish(alloc, house, at, &queue, Command::Delete { handle }, ticks)
         }
         Request::ChangeMessageVisibility {
             queue,
             handle,
             timeout,
-        } => {
-            let command = Command::Change { handle, timeout };
-            finish(alloc, house, at, &queue, command, ticks)
-        }
+        } => change(alloc, house, at, &queue, handle, timeout, ticks),
+        Request::Batch { queue, entries } => answer_batch(alloc, house, at, &queue, entries, ticks),
     }
 }
 

@@ -15,6 +15,7 @@
 #![tactic(auto)]
 
 mod answer;
+mod batch;
 mod device;
 mod fault;
 mod house;
@@ -23,6 +24,16 @@ mod lines;
 mod run;
 #[cfg(test)]
 mod tests;
+#[cfg(test)]
+mod tests_of_attributes;
+#[cfg(test)]
+mod tests_of_batches;
+#[cfg(test)]
+mod tests_of_devices;
+#[cfg(test)]
+mod tests_of_house;
+#[cfg(test)]
+mod tests_of_lines;
 mod whole;
 
 pub use answer::{Asked, Timed};

@@ -1,48 +1,39 @@
-//! Runs of the replay with the answers that a client sees, the borders of the input's lines and of
-//! the registry, devices that give or take little at a time or fail, and what a refused allocation
-//! leaves.
+//! Runs of the replay with the answers that a client sees, the borders of the input's lines, and what
+//! a refused allocation leaves.
 
-ghost use Rattle.std.specs.Prelude.{ℕ};
-ghost use Rattle.std.proofs.Common.{ap};
-ghost use Rattle.sqs_replay.specs.Toy.{toy_text, toy_count, toy_text-beyond, toy_count-beyond};
-
-use super::{
-    Device, House, InputLine, LINE_LIMIT, Lines, Outlet, QueueStep, ReplayFault, read_line, replay,
-    run_lines,
-};
+use super::{Device, LINE_LIMIT, ReplayFault, replay};
+use crate::tests_of_house::{create, house, send};
 use journal::{Moment, Ticks};
-use message::{Content, Fault, QueueName};
-use queue_config::{Config, Limits, Wish};
-use queue_core::{Command, Gauges, Reply};
+use message::Fault;
+use queue_config::{Config, Limits};
 use std::alloc::Global;
-use std::io;
 use std::process::Abort;
 use std::rt::Clock;
 use std::test::Fail;
 
-const CREATE: &str = r#"CreateQueue {"QueueName":"jobs"}"#;
+pub(crate) const CREATE: &str = r#"CreateQueue {"QueueName":"jobs"}"#;
 
-const SEND_A: &str = r#"SendMessage {"QueueUrl":"jobs","MessageBody":"a"}"#;
+pub(crate) const SEND_A: &str = r#"SendMessage {"QueueUrl":"jobs","MessageBody":"a"}"#;
 
-const SEND_B: &str = r#"SendMessage {"QueueUrl":"jobs","MessageBody":"b"}"#;
+pub(crate) const SEND_B: &str = r#"SendMessage {"QueueUrl":"jobs","MessageBody":"b"}"#;
 
 const SEND_C: &str = r#"SendMessage {"QueueUrl":"jobs","MessageBody":"c"}"#;
 
 const SEND_HELLO: &str = r#"SendMessage {"QueueUrl":"jobs","MessageBody":"hello"}"#;
 
-const RECEIVE: &str = r#"ReceiveMessage {"QueueUrl":"jobs"}"#;
+pub(crate) const RECEIVE: &str = r#"ReceiveMessage {"QueueUrl":"jobs"}"#;
 
-const COUNT: &str =
+pub(crate) const COUNT: &str =
     r#"GetQueueAttributes {"QueueUrl":"jobs","AttributeNames":["ApproximateNumberOfMessages","ApproximateNumberOfMessagesDelayed","ApproximateNumberOfMessagesNotVisible"]}"#;
 
-const URL: &str = r#"200 {"QueueUrl":"http://localhost:9324/000000000000/jobs"}"#;
+pub(crate) const URL: &str = r#"200 {"QueueUrl":"http://localhost:9324/000000000000/jobs"}"#;
 
 const DONE: &str = "200 {}";
 // The digests are MD5 (RFC 1321) of the bodies; its appendix A.5 lists that of "a".
-const SENT_A: &str =
+pub(crate) const SENT_A: &str =
     r#"200 {"MD5OfMessageBody":"0cc175b9c0f1b6a831c399e269772661","MessageId":"00000000-0000-0001-0000-000000000000"}"#;
 
-const SENT_B: &str =
+pub(crate) const SENT_B: &str =
     r#"200 {"MD5OfMessageBody":"92eb5ffee6ae2fec3ad71c777531578f","MessageId":"00000000-0000-0001-0000-000000000001"}"#;
 
 const SENT_C: &str =
@@ -57,22 +48,22 @@ const OFFERED_A: &str =
 const OFFERED_HELLO: &str =
     r#"200 {"Messages":[{"Body":"hello","MD5OfBody":"5d41402abc4b2a76b9719d911017c592","MessageId":"00000000-0000-0001-0000-000000000000","ReceiptHandle":"000000000000000100000000000000000000000000000001"}]}"#;
 
-const NO_MESSAGES: &str =
+pub(crate) const NO_MESSAGES: &str =
     r#"200 {"Attributes":{"ApproximateNumberOfMessages":"0","ApproximateNumberOfMessagesDelayed":"0","ApproximateNumberOfMessagesNotVisible":"0"}}"#;
 
-const ONE_VISIBLE: &str =
+pub(crate) const ONE_VISIBLE: &str =
     r#"200 {"Attributes":{"ApproximateNumberOfMessages":"1","ApproximateNumberOfMessagesDelayed":"0","ApproximateNumberOfMessagesNotVisible":"0"}}"#;
 
 const THREE_VISIBLE: &str =
     r#"200 {"Attributes":{"ApproximateNumberOfMessages":"3","ApproximateNumberOfMessagesDelayed":"0","ApproximateNumberOfMessagesNotVisible":"0"}}"#;
 
-const ONE_DELAYED: &str =
+pub(crate) const ONE_DELAYED: &str =
     r#"200 {"Attributes":{"ApproximateNumberOfMessages":"0","ApproximateNumberOfMessagesDelayed":"1","ApproximateNumberOfMessagesNotVisible":"0"}}"#;
 
 const ONE_IN_FLIGHT: &str =
     r#"200 {"Attributes":{"ApproximateNumberOfMessages":"0","ApproximateNumberOfMessagesDelayed":"0","ApproximateNumberOfMessagesNotVisible":"1"}}"#;
 
-const NO_QUEUE: &str =
+pub(crate) const NO_QUEUE: &str =
     r#"400 {"__type":"com.amazonaws.sqs#QueueDoesNotExist","message":"The specified queue does not exist."}"#;
 
 const NAME_EXISTS: &str =
@@ -81,13 +72,13 @@ const NAME_EXISTS: &str =
 const BAD_NAME: &str =
     r#"400 {"__type":"com.amazonaws.sqs#InvalidAttributeName","message":"Unknown attribute name."}"#;
 
-const BAD_PARAMETER: &str =
+pub(crate) const BAD_PARAMETER: &str =
     r#"400 {"__type":"com.amazonaws.sqs#InvalidParameterValue","message":"Parameter value not allowed."}"#;
 
-const BAD_CONTENTS: &str =
+pub(crate) const BAD_CONTENTS: &str =
     r#"400 {"__type":"com.amazonaws.sqs#InvalidMessageContents","message":"Characters not allowed in the message."}"#;
 
-const BAD_HANDLE: &str =
+pub(crate) const BAD_HANDLE: &str =
     r#"400 {"__type":"com.amazonaws.sqs#ReceiptHandleIsInvalid","message":"The receipt handle is not valid."}"#;
 
 const NOT_IN_FLIGHT: &str =
@@ -99,7 +90,7 @@ const OVER_LIMIT: &str =
 const UNSUPPORTED: &str =
     r#"400 {"__type":"com.amazonaws.sqs#UnsupportedOperation","message":"The action is not supported."}"#;
 
-const UNREAD: &str =
+pub(crate) const UNREAD: &str =
     r#"400 {"__type":"com.amazonaws.sqs#SerializationException","message":"The request cannot be read."}"#;
 
 const FULL: &str =
@@ -124,7 +115,7 @@ fn replayed(
 }
 
 /// Asserts that requests, each at a moment, are answered as the table says when they are replayed.
-fn agrees<R: Abort + Clock>(
+pub(crate) fn agrees<R: Abort + Clock>(
     rt: &R,
     alloc: Global,
     limits: Limits,
@@ -718,608 +709,6 @@ fn longest_line(rt: HostRuntime) -> Result<(), Fail> {
     Ok(())
 }
 
-/// Asserts what a line says, and when.
-fn says(rt: &impl Abort, line: &[u8], at: u64, action: &str, body: &[u8]) -> Result<(), Fault> {
-    match read_line(line) {
-        Ok(
-            InputLine {
-                at: moment,
-                action: name,
-                body: rest,
-            },
-        ) => {
-            assert_eq!(rt; moment.milliseconds(), at, "{line:?}");
-            assert_eq!(rt; name, action, "{line:?}");
-            assert_eq!(rt; rest, body, "{line:?}");
-            Ok(())
-        }
-        Err(fault) => Err(fault),
-    }
-}
-
-/// The refusal of a line.
-fn refusal(line: &[u8]) -> Option<Fault> {
-    match read_line(line) {
-        Ok(InputLine { .. }) => None,
-        Err(fault) => Some(fault),
-    }
-}
-
-/// Lines of the right form, with their moments, actions and bodies.
-#[test]
-fn line_parts(rt: HostRuntime) -> Result<(), Fail> {
-    let table = [
-        ("1 Foo ", 1, "Foo", ""),
-        ("1 Tick  {}", 1, "Tick", " {}"),
-        ("0001 Tick {}", 1, "Tick", "{}"),
-        (
-            r#"1000 CreateQueue {"QueueName":"jobs"}"#,
-            1000,
-            "CreateQueue",
-            r#"{"QueueName":"jobs"}"#,
-        ),
-        ("0 a b c ", 0, "a", "b c "),
-        (
-            "4611686018427387903 Z \t",
-            4_611_686_018_427_387_903,
-            "Z",
-            "\t",
-        ),
-        ("0000000000000000007 Tick \r", 7, "Tick", "\r"),
-        (
-            "5 abcdefghijklmnopqrstuvwxyzABCDEFGHIJKLMNOPQRSTUVWXYZabcdefghijkl x",
-            5,
-            "abcdefghijklmnopqrstuvwxyzABCDEFGHIJKLMNOPQRSTUVWXYZabcdefghijkl",
-            "x",
-        ),
-    ];
-    for (line, at, action, body) in table {
-        says(&rt, line.as_bytes(), at, action, body.as_bytes())?;
-    }
-    says(&rt, b"1 Foo \xFF \x00", 1, "Foo", b"\xFF \x00")?;
-    Ok(())
-}
-
-/// Lines of another form.
-#[test]
-fn lines_that_cannot_be_read(rt: HostRuntime) {
-    let table = [
-        "",
-        " ",
-        "  ",
-        "1",
-        "1 ",
-        "1 Foo",
-        "1  ",
-        "1  Tick {}",
-        " 1 Tick {}",
-        "1\tTick {}",
-        "1 Tick\t{}",
-        "\r",
-        "\r1 Tick {}",
-        "\u{FEFF}1 Tick {}",
-        " Tick {}",
-        "a Tick {}",
-        "-1 Tick {}",
-        "+1 Tick {}",
-        "1.0 Tick {}",
-        "0x1 Tick {}",
-        "4611686018427387904 Tick {}",
-        "9999999999999999999 Tick {}",
-        "00000000000000000001 Tick {}",
-        "18446744073709551617 Tick {}",
-        "1 Tick2 {}",
-        "1 Ti-ck {}",
-        "1 Tick\u{E9} {}",
-        "1 Tick\r {}",
-        "5 abcdefghijklmnopqrstuvwxyzABCDEFGHIJKLMNOPQRSTUVWXYZabcdefghijklm x",
-        "\u{661} Tick {}",
-    ];
-    for line in table {
-        let wanted = Some(Fault::SerializationException);
-        assert_eq!(rt; refusal(line.as_bytes()), wanted, "{line:?}");
-    }
-    for line in [b"1 Ti\xFFk {}".as_slice(), b"\xFF Tick {}".as_slice()] {
-        assert_eq!(rt; refusal(line), Some(Fault::SerializationException));
-    }
-}
-
-/// A registry whose queues may have so many entries.
-fn house(alloc: Global, max_lines: u32) -> Result<House, Fault> {
-    let mut config = Config::default();
-    if 0 < max_lines && max_lines <= 16_777_216 {
-        config.limits = Limits {
-            max_lines,
-            ..config.limits
-        };
-    }
-    House::new(alloc, &config, Moment::zero())
-}
-
-/// Creates a queue at the moment 0, with a visibility timeout or without one.
-fn create(house: &mut House, alloc: Global, name: &str, timeout: &str) -> Result<u64, Fault> {
-    let mut wish = Wish::new();
-    if !timeout.is_empty() {
-        wish.put(alloc, "VisibilityTimeout", timeout)?;
-    }
-    house.create(alloc, Moment::zero(), QueueName::read(name)?, wish)
-}
-
-/// The uid of the queue of a name.
-fn find(house: &House, name: &str) -> Option<u64> {
-    house.find(&QueueName::read(name).ok()?)
-}
-
-/// The time of so many milliseconds.
-fn at(milliseconds: u64) -> Moment {
-    Moment::new(milliseconds).unwrap_or(Moment::zero())
-}
-
-/// A send of a body without a delay of its own.
-fn message(alloc: Global, body: &str) -> Result<Command, Fault> {
-    let body = String::from_str(alloc, body)?;
-    let content = Content::new(alloc, body, Vec::new(alloc))?;
-    Ok(Command::Send {
-        content,
-        delay: None,
-    })
-}
-
-/// The uid and the number in the id of a message that was sent, or the refusal.
-fn posted(answer: Result<Reply, Fault>) -> Result<(u64, u64), Fault> {
-    match answer? {
-        Reply::Sent(posted) => Ok((posted.id.uid, posted.number)),
-        _ => Err(Fault::UnsupportedOperation),
-    }
-}
-
-/// Sends a message to the queue of a uid.
-fn send(
-    house: &mut House,
-    alloc: Global,
-    uid: u64,
-    milliseconds: u64,
-    ticks: &mut Ticks,
-) -> Result<(u64, u64), Fault> {
-    let command = message(alloc, "hello")?;
-    posted(house.step(alloc, uid, at(milliseconds), command, ticks))
-}
-
-/// Asserts how many messages of a queue are visible, and how old the first is.
-fn has(rt: &impl Abort, house: &House, uid: u64, visible: u64, age: u64) {
-    let wanted = Gauges {
-        visible,
-        delayed: 0,
-        in_flight: 0,
-        age,
-    };
-    match house.state(uid) {
-        Some(queue) => assert_eq!(rt; queue.gauges(), wanted, "of {uid}"),
-        None => assert!(rt; false, "no queue {uid}"),
-    }
-}
-
-/// Amazon SQS API Reference, `CreateQueue`: a name that is taken answers the queue where its
-/// attributes are those requested, and else `QueueNameExists`.
-#[test]
-fn creates_each_name_once(rt: HostRuntime) -> Result<(), Fail> {
-    let alloc = rt.alloc();
-    let mut house = house(alloc, 100)?;
-    let other = Err(Fault::QueueNameExists);
-    let table = [
-        ("jobs", "", Ok(1)),
-        ("jobs", "", Ok(1)),
-        ("jobs", "5", other),
-        ("jobs", "30", Ok(1)),
-        ("Jobs", "5", Ok(2)),
-        ("Jobs", "", Ok(2)),
-        ("Jobs", "005", Ok(2)),
-        ("Jobs", "30", other),
-    ];
-    for (name, timeout, answer) in table {
-        assert_eq!(rt;
-            create(&mut house, alloc, name, timeout),
-            answer,
-            "{name} {timeout}"
-        );
-    }
-    for (name, uid) in [("jobs", Some(1)), ("Jobs", Some(2)), ("job", None)] {
-        assert_eq!(rt; find(&house, name), uid, "{name}");
-    }
-    for (uid, is_there) in [(0, false), (1, true), (2, true), (3, false)] {
-        assert_eq!(rt; house.state(uid).is_some(), is_there, "{uid}");
-    }
-    Ok(())
-}
-
-/// A command reaches the queue of its uid and no other; time reaches all of them.
-#[test]
-fn steps_reach_one_queue(rt: HostRuntime) -> Result<(), Fail> {
-    let alloc = rt.alloc();
-    let mut ticks = Ticks::new(&rt);
-    let mut house = house(alloc, 100)?;
-    for name in ["jobs", "dead", "more"] {
-        create(&mut house, alloc, name, "")?;
-    }
-    let table = [
-        (9, 1000, Err(Fault::QueueDoesNotExist)),
-        (2, 1000, Ok((2, 0))),
-        (2, 2000, Ok((2, 1))),
-        (3, 3000, Ok((3, 0))),
-    ];
-    for (uid, milliseconds, answer) in table {
-        let sent = send(&mut house, alloc, uid, milliseconds, &mut ticks);
-        assert_eq!(rt; sent, answer, "{uid} at {milliseconds}");
-    }
-    for (uid, visible, age) in [(1, 0, 0), (2, 2, 1), (3, 1, 0)] {
-        has(&rt, &house, uid, visible, age);
-    }
-    house.advance_all(at(5500), &mut ticks);
-    for (uid, visible, age) in [(1, 0, 0), (2, 2, 4), (3, 1, 2)] {
-        has(&rt, &house, uid, visible, age);
-    }
-    Ok(())
-}
-
-/// The 1,001st queue is refused and uses up no uid; names that are taken still answer.
-#[test]
-fn holds_a_thousand_queues(rt: HostRuntime) -> Result<(), Fail> {
-    let alloc = rt.alloc();
-    let mut house = house(alloc, 100)?;
-    for number in 1..1001u64 {
-        let name = format!(in alloc; "queue-{number}")?;
-        assert_eq!(rt; create(&mut house, alloc, name.as_str(), ""), Ok(number));
-    }
-    let table = [
-        ("queue-1001", "", Err(Fault::OverLimit)),
-        ("queue-7", "", Ok(7)),
-        ("queue-7", "5", Err(Fault::QueueNameExists)),
-        ("queue-1000", "", Ok(1000)),
-    ];
-    for (name, timeout, answer) in table {
-        assert_eq!(rt; create(&mut house, alloc, name, timeout), answer, "{name}");
-    }
-    assert_eq!(rt; find(&house, "queue-1001"), None);
-    assert!(rt; house.state(1001).is_none());
-    Ok(())
-}
-
-/// Each queue has the configuration's limits, and a list of commands is answered in order.
-#[test]
-fn runs_a_list(rt: HostRuntime) -> Result<(), Fail> {
-    let alloc = rt.alloc();
-    let mut ticks = Ticks::new(&rt);
-    let mut house = house(alloc, 2)?;
-    for name in ["jobs", "dead"] {
-        create(&mut house, alloc, name, "")?;
-    }
-    let mut steps = Vec::new(alloc);
-    for uid in [1, 2, 1, 3] {
-        let command = message(alloc, "text")?;
-        steps.push(QueueStep {
-            uid,
-            at: at(5),
-            command,
-        })?;
-    }
-    let answers = house.run(alloc, &steps, &mut ticks)?;
-    let wanted = [
-        Ok((1, 0)),
-        Ok((2, 0)),
-        Err(Fault::JournalFull),
-        Err(Fault::QueueDoesNotExist),
-    ];
-    assert_eq!(rt; answers.len(), wanted.len());
-    for (answer, wanted) in answers.into_iter().zip(wanted) {
-        assert_eq!(rt; posted(answer), wanted);
-    }
-    Ok(())
-}
-
-/// A server that answers how many lines it answered before, and how long the line is. It runs out
-/// of memory after so many lines.
-#[derive(Drop)]
-struct Toy {
-    count: u64,
-    most: u64,
-}
-
-impl Toy {
-    fn new() -> Toy {
-        Toy {
-            count: 0,
-            most: u64::MAX,
-        }
-    }
-}
-
-impl Lines for Toy {
-    ghost text = { λ toy line. toy_text toy.count line };
-
-    ghost after = { λ toy line. record toy { count = toy_count toy.count line } };
-
-    ghost same_text = { λ toy first second one two. toy_text-beyond toy.count first second one two };
-
-    ghost same_after = { λ toy first second one two. ap (λ (n : ℕ). record toy { count = n }) (toy_count-beyond toy.count first second one two) };
-
-    fn answer(
-        &mut self,
-        alloc: Global,
-        line: &[u8],
-        _ticks: &mut Ticks,
-    ) -> Result<Vec<u8>, ReplayFault> {
-        if line.len() > LINE_LIMIT {
-            return Ok(String::from_str(alloc, "too long\n")?.into_bytes());
-        }
-        let count = self.count;
-        if count >= self.most {
-            return Err(ReplayFault::OutOfMemory);
-        }
-        let length = line.len();
-        let text = format!(in alloc; "{count} {length}\n")?;
-        self.count = self.count.saturating_add(1);
-        Ok(text.into_bytes())
-    }
-}
-
-/// What the server answers to an input in memory.
-fn answer_to(clock: &impl Clock, alloc: Global, input: &[u8]) -> Result<Vec<u8>, ReplayFault> {
-    let mut outlet = Device::new(Vec::new(alloc));
-    run_lines(
-        alloc,
-        &mut Toy::new(),
-        &mut Device::new(input),
-        &mut outlet,
-        &mut Ticks::new(clock),
-    )?;
-    Ok(outlet.into_inner())
-}
-
-#[test]
-fn cuts_lines(rt: HostRuntime) -> Result<(), Fail> {
-    for (input, text) in [
-        ("", ""),
-        ("a\nb", "0 1\n1 1\n"),
-        ("a\nbc\n", "0 1\n1 2\n"),
-        ("\n\n", ""),
-        ("\r\n", ""),
-        ("\r", ""),
-        ("\r\r\n", "0 1\n"),
-        ("a\r\n\r\nbcd\r", "0 1\n1 3\n"),
-        ("a\rb\n", "0 3\n"),
-    ] {
-        let written = answer_to(&rt, rt.alloc(), input.as_bytes())?;
-        assert_eq!(rt; written.as_slice(), text.as_bytes(), "at {input:?}");
-    }
-    Ok(())
-}
-
-/// A reader that gives one byte at a time, and fails once it was read so often.
-#[derive(Drop)]
-struct Drip<'a> {
-    rest: &'a [u8],
-    reads: usize,
-}
-
-impl io::Read for Drip<'_> {
-    fn read(&mut self, buffer: &mut [u8]) -> io::Result<usize> {
-        if self.reads == 0 {
-            return Err(io::Error::other("unplugged"));
-        }
-        self.reads -= 1;
-        match (self.rest, buffer) {
-            ([first, rest @ ..], [place, ..]) => {
-                *place = *first;
-                self.rest = rest;
-                Ok(1)
-            }
-            _ => Ok(0),
-        }
-    }
-}
-
-/// A writer that takes three bytes at a time at most, and fails once it was written to so often.
-#[derive(Drop)]
-struct Narrow {
-    taken: Vec<u8>,
-    writes: usize,
-}
-
-impl io::Write for Narrow {
-    fn write(&mut self, bytes: &[u8]) -> io::Result<usize> {
-        if self.writes == 0 {
-            return Err(io::Error::other("full"));
-        }
-        self.writes -= 1;
-        let count = bytes.len().min(3);
-        self.taken.extend_from_slice(&bytes[..count])?;
-        Ok(count)
-    }
-
-    fn flush(&mut self) -> io::Result<()> {
-        Ok(())
-    }
-}
-
-#[test]
-fn reads_a_byte_at_a_time(rt: HostRuntime) -> Result<(), Fail> {
-    // The fourth read finds the end, where it comes that far.
-    for (reads, outcome, text) in [
-        (9, Ok(()), "0 1\n1 1\n"),
-        (3, Err(ReplayFault::Read), "0 1\n"),
-        (1, Err(ReplayFault::Read), ""),
-        (0, Err(ReplayFault::Read), ""),
-    ] {
-        let mut inlet = Device::new(Drip {
-            rest: b"a\nb",
-            reads,
-        });
-        let mut outlet = Device::new(Vec::new(rt.alloc()));
-        let result = run_lines(
-            rt.alloc(),
-            &mut Toy::new(),
-            &mut inlet,
-            &mut outlet,
-            &mut Ticks::new(&rt),
-        );
-        assert_eq!(rt; result, outcome, "after {reads} reads");
-        assert_eq!(rt; inlet.failures(), u64::from(result.is_err()));
-        assert_eq!(rt; outlet.failures(), 0);
-        assert_eq!(rt; outlet.into_inner().as_slice(), text.as_bytes());
-    }
-    Ok(())
-}
-
-#[test]
-fn writes_a_part(rt: HostRuntime) -> Result<(), Fail> {
-    for (writes, outcome, text) in [
-        (4, Ok(()), "0 1\n1 1\n"),
-        (3, Err(ReplayFault::Write), "0 1\n1 1"),
-        (1, Err(ReplayFault::Write), "0 1"),
-        (0, Err(ReplayFault::Write), ""),
-    ] {
-        let input: &[u8] = b"a\nb";
-        let mut inlet = Device::new(input);
-        let mut outlet = Device::new(Narrow {
-            taken: Vec::new(rt.alloc()),
-            writes,
-        });
-        let result = run_lines(
-            rt.alloc(),
-            &mut Toy::new(),
-            &mut inlet,
-            &mut outlet,
-            &mut Ticks::new(&rt),
-        );
-        assert_eq!(rt; result, outcome, "after {writes} writes");
-        assert_eq!(rt; outlet.failures(), u64::from(result.is_err()));
-        assert_eq!(rt; inlet.failures(), 0);
-        assert_eq!(rt; outlet.into_inner().taken.as_slice(), text.as_bytes());
-    }
-    Ok(())
-}
-
-#[test]
-fn stops_where_memory_runs_out(rt: HostRuntime) {
-    let input: &[u8] = b"a\nb\nc\n";
-    let mut inlet = Device::new(input);
-    let mut outlet = Device::new(Vec::new(rt.alloc()));
-    let mut server = Toy { count: 0, most: 2 };
-    let mut ticks = Ticks::new(&rt);
-    let result = run_lines(rt.alloc(), &mut server, &mut inlet, &mut outlet, &mut ticks);
-    assert_eq!(rt; result, Err(ReplayFault::OutOfMemory));
-    assert_eq!(rt; server.count, 2);
-    assert_eq!(rt; inlet.failures(), 0);
-    assert_eq!(rt; outlet.failures(), 0);
-    assert_eq!(rt; outlet.into_inner().as_slice(), b"0 1\n1 1\n".as_slice());
-}
-
-/// A writer that needs memory and finds none.
-#[derive(Drop)]
-struct Starved;
-
-impl io::Write for Starved {
-    fn write(&mut self, _bytes: &[u8]) -> io::Result<usize> {
-        Err(io::Error::from(io::ErrorKind::OutOfMemory))
-    }
-
-    fn flush(&mut self) -> io::Result<()> {
-        Ok(())
-    }
-}
-
-#[test]
-fn tells_a_writer_without_memory_from_one_that_fails(rt: HostRuntime) {
-    let mut outlet = Device::new(Starved);
-    assert_eq!(rt; outlet.write(b"a"), Err(ReplayFault::OutOfMemory));
-    assert_eq!(rt; outlet.failures(), 1);
-}
-
-/// A writer that takes nothing.
-#[derive(Drop)]
-struct Blocked;
-
-impl io::Write for Blocked {
-    fn write(&mut self, _bytes: &[u8]) -> io::Result<usize> {
-        Ok(0)
-    }
-
-    fn flush(&mut self) -> io::Result<()> {
-        Ok(())
-    }
-}
-
-#[test]
-fn gives_up_a_writer_that_takes_nothing(rt: HostRuntime) {
-    let mut outlet = Device::new(Blocked);
-    assert_eq!(rt; outlet.write(b""), Ok(()));
-    assert_eq!(rt; outlet.failures(), 0);
-    assert_eq!(rt; outlet.write(b"a"), Err(ReplayFault::Write));
-    assert_eq!(rt; outlet.failures(), 1);
-}
-
-#[test]
-fn numbers_and_names_its_faults(rt: HostRuntime) -> Result<(), Fail> {
-    for (fault, code, text) in [
-        (ReplayFault::Read, 1, "read failed"),
-        (ReplayFault::Write, 2, "write failed"),
-        (ReplayFault::OutOfMemory, 3, "out of memory"),
-    ] {
-        assert_eq!(rt; fault.code(), code);
-        assert_eq!(rt; fault.to_string(rt.alloc())?.as_str(), text);
-    }
-    Ok(())
-}
-
-/// A device that fails ends the replay, and what was answered before stays written.
-#[test]
-fn a_device_that_fails(rt: HostRuntime) -> Result<(), Fail> {
-    let input: &[u8] = b"1 Tick {}\n2 Tick {}";
-    for (reads, writes, outcome, text) in [
-        (20, 6, Ok(()), "200 {}\n200 {}\n"),
-        (19, 6, Err(ReplayFault::Read), "200 {}\n"),
-        (0, 6, Err(ReplayFault::Read), ""),
-        (20, 3, Err(ReplayFault::Write), "200 {}\n"),
-        (20, 0, Err(ReplayFault::Write), ""),
-    ] {
-        let mut inlet = Device::new(Drip { rest: input, reads });
-        let mut outlet = Device::new(Narrow {
-            taken: Vec::new(rt.alloc()),
-            writes,
-        });
-        let mut ticks = Ticks::new(&rt);
-        let result = replay(
-            rt.alloc(),
-            Config::default(),
-            &mut inlet,
-            &mut outlet,
-            &mut ticks,
-        );
-        assert_eq!(rt; result, outcome, "{reads} reads, {writes} writes");
-        assert_eq!(rt;
-            inlet.failures(),
-            u64::from(result == Err(ReplayFault::Read))
-        );
-        assert_eq!(rt;
-            outlet.failures(),
-            u64::from(result == Err(ReplayFault::Write))
-        );
-        assert_eq!(rt; outlet.into_inner().taken.as_slice(), text.as_bytes());
-    }
-    let mut outlet = Device::new(Blocked);
-    let mut ticks = Ticks::new(&rt);
-    let result = replay(
-        rt.alloc(),
-        Config::default(),
-        &mut Device::new(input),
-        &mut outlet,
-        &mut ticks,
-    );
-    assert_eq!(rt; result, Err(ReplayFault::Write));
-    assert_eq!(rt; outlet.failures(), 1);
-    Ok(())
-}
-
 /// Calls whose allocation is refused answer `OutOfMemory`, and give their values when they are asked
 /// again: a create that is refused uses up no uid, and a replay has written a part of its text from
 /// the front, and never that memory ran out. The gate runs this with ample memory, where the first
@@ -1344,12 +733,16 @@ fn refused_memory(rt: HostRuntime) -> Result<(), Fail> {
 3 ReceiveMessage {"QueueUrl":"jobs"}
 4 ChangeMessageVisibility {"QueueUrl":"jobs","ReceiptHandle":"000000000000000100000000000000000000000000000001","VisibilityTimeout":0}
 5 Foo {}
+6 SendMessageBatch {"QueueUrl":"jobs","Entries":[{"Id":"x","MessageBody":"b","MessageAttributes":{"a":{"DataType":"Binary","BinaryValue":"AA=="}}},{"Id":"y"}]}
+7 ReceiveMessage {"QueueUrl":"jobs","MaxNumberOfMessages":2,"MessageAttributeNames":["a"]}
 "#;
     let text = r#"200 {"QueueUrl":"http://localhost:9324/000000000000/jobs"}
 200 {"MD5OfMessageBody":"5d41402abc4b2a76b9719d911017c592","MessageId":"00000000-0000-0001-0000-000000000000"}
 200 {"Messages":[{"Body":"hello","MD5OfBody":"5d41402abc4b2a76b9719d911017c592","MessageId":"00000000-0000-0001-0000-000000000000","ReceiptHandle":"000000000000000100000000000000000000000000000001"}]}
 200 {}
 400 {"__type":"com.amazonaws.sqs#UnsupportedOperation","message":"The action is not supported."}
+200 {"Failed":[{"Code":"InvalidParameterValue","Id":"y","Message":"Parameter value not allowed.","SenderFault":true}],"Successful":[{"Id":"x","MD5OfMessageAttributes":"571c39fbc54bae37495f6de54f270af5","MD5OfMessageBody":"92eb5ffee6ae2fec3ad71c777531578f","MessageId":"00000000-0000-0001-0000-000000000001"}]}
+200 {"Messages":[{"Body":"hello","MD5OfBody":"5d41402abc4b2a76b9719d911017c592","MessageId":"00000000-0000-0001-0000-000000000000","ReceiptHandle":"000000000000000100000000000000000000000000000002"},{"Body":"b","MD5OfBody":"92eb5ffee6ae2fec3ad71c777531578f","MD5OfMessageAttributes":"571c39fbc54bae37495f6de54f270af5","MessageAttributes":{"a":{"BinaryValue":"AA==","DataType":"Binary"}},"MessageId":"00000000-0000-0001-0000-000000000001","ReceiptHandle":"000000000000000100000000000000010000000000000001"}]}
 "#;
     let (mut result, mut written) = replayed(&rt, alloc, Limits::default(), input);
     if result == Err(ReplayFault::OutOfMemory) {

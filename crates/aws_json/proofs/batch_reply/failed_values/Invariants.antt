@@ -1,0 +1,7 @@
+use Rattle.std.proofs.Common.{◌≡◌, drop}
+use Rattle.aws_json.specs.Reply.{failed_items}
+use Rattle.aws_json.proofs.ReplyLemmas.{items_then}
+use Rattle.aws_json.proofs.batch_reply.failed_values.Given as goal
+
+abbrev pub invariant-loop-answer : goal.invariant-loop-answer
+invariant-loop-answer l = items_then l.values.items (failed_items (drop l.answer-index l.answers)) ≡ failed_items l.answers

@@ -1,6 +1,0 @@
-use Rattle.serde_json.proofs.Views.{members_view-insert_entry}
-use Rattle.aws_json.proofs.reply.put_text.Goals as goal
-
-pub returns-in_ok-insert-clause-ok : goal.returns-in_ok-insert-clause-ok
-returns-in_ok-insert-clause-ok c =
-    rw (c.if-asked.true, c.in_ok-insert.ensures.entries, members_view-insert_entry c.args.members.now.entries c.in_ok-name.name c.from.result, c.from.ensures, c.in_ok-name.ensures.ok, c.in_ok-text.ensures.ok)

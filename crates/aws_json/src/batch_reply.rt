@@ -1,0 +1,113 @@
+//! The answers to a send and to the entries of a batch, as JSON (Amazon SQS API Reference,
+//! `SendMessage`, `BatchResultErrorEntry` and the result entries of the three batches).
+
+ghost use Rattle.std.specs.Prelude.{◌≡◌, Ok, OnOk, IfErr};
+ghost use Rattle.message.specs.Fault.{Meets};
+ghost use Rattle.message.specs.declared.fault.Fault.TheVariants.{OutOfMemory};
+ghost use Rattle.serde_json.specs.View.{view, items_view, members_view};
+ghost use Rattle.aws_json.specs.Steps.{result_map};
+ghost use Rattle.aws_json.specs.Put.{put_sent};
+ghost use Rattle.aws_json.specs.Reply.{sent_data, done_data, failed_data, done_items, failed_items, batch_data};
+
+use crate::batch::{BatchAnswer, EntryReply};
+use crate::put::{put_given, put_text};
+use crate::refusal::{fault_message, fault_name};
+use attribute_md5::{attributes_md5, body_md5};
+use message::{Content, Fault, MessageId, QueueName};
+use serde_json::{Map, Value, json};
+use std::alloc::Global;
+
+/// Puts what a client is told of a send among the members.
+fn put_sent(
+    alloc: Global,
+    members: &mut Map<String, Value>,
+    content: &Content,
+    id: MessageId,
+) -> Result<(), Fault>
+    ensures ok { OnOk result (members_view members.new.entries
+        ≡ put_sent content.now id (members_view members.old.entries)) }
+    ensures refusal { IfErr result (λ fault. fault ≡ OutOfMemory) }
+{
+    let attributes = attributes_md5(alloc, content)?;
+    put_given(
+        alloc,
+        members,
+        "MD5OfMessageAttributes",
+        attributes.as_deref(),
+    )?;
+    let body = body_md5(alloc, content.body())?;
+    put_text(alloc, members, "MD5OfMessageBody", body.as_str())?;
+    let id = id.text(alloc)?;
+    put_text(alloc, members, "MessageId", id.as_str())?;
+    Ok(())
+}
+
+/// What a client is told of a send.
+pub(crate) fn sent_reply(alloc: Global, content: &Content, id: MessageId) -> Result<Value, Fault>
+    ensures { Meets (result_map view result) (Ok (sent_data content.now id)) }
+{
+    let mut members = Map::new(alloc);
+    put_sent(alloc, &mut members, content, id)?;
+    Ok(Value::Object(members))
+}
+
+/// What a client is told of an entry that was done.
+fn done_value(alloc: Global, id: &QueueName, reply: &EntryReply) -> Result<Value, Fault>
+    ensures { Meets (result_map view result) (Ok (done_data id.now reply.now)) }
+{
+    let mut members = Map::new(alloc);
+    put_text(alloc, &mut members, "Id", id.as_text())?;
+    match reply {
+        EntryReply::Sent { content, id } => put_sent(alloc, &mut members, content, *id)?,
+        EntryReply::Done => {}
+    }
+    Ok(Value::Object(members))
+}
+
+/// What a client is told of an entry that was refused.
+fn failed_value(alloc: Global, id: &QueueName, fault: Fault) -> Result<Value, Fault>
+    ensures { Meets (result_map view result) (Ok (failed_data id.now fault)) }
+{
+    let code = String::from_str(alloc, fault_name(fault))?;
+    let id = String::from_str(alloc, id.as_text())?;
+    let message = String::from_str(alloc, fault_message(fault))?;
+    let is_of_sender = fault.code() <= 16;
+    Ok(json!(in alloc; {"Code": code, "Id": id, "Message": message, "SenderFault": is_of_sender})?)
+}
+
+/// The entries that were done, in their order.
+fn done_values(alloc: Global, answers: &[BatchAnswer]) -> Result<Vec<Value>, Fault>
+    ensures { Meets (result_map (λ values. items_view values.items) result)
+        (Ok (done_items answers.now)) }
+{
+    let mut values = Vec::new(alloc);
+    for answer in answers {
+        if let Ok(reply) = &answer.answer {
+            values.push(done_value(alloc, &answer.id, reply)?)?;
+        }
+    }
+    Ok(values)
+}
+
+/// The entries that were refused, in their order.
+fn failed_values(alloc: Global, answers: &[BatchAnswer]) -> Result<Vec<Value>, Fault>
+    ensures { Meets (result_map (λ values. items_view values.items) result)
+        (Ok (failed_items answers.now)) }
+{
+    let mut values = Vec::new(alloc);
+    for answer in answers {
+        if let Err(fault) = &answer.answer {
+            values.push(failed_value(alloc, &answer.id, *fault)?)?;
+        }
+    }
+    Ok(values)
+}
+
+/// What a client is told of a batch.
+pub(crate) fn batch_reply(alloc: Global, answers: &[BatchAnswer]) -> Result<Value, Fault>
+    ensures { Meets (result_map view result) (Ok (batch_data answers.now)) }
+{
+    let failed = Value::Array(failed_values(alloc, answers)?);
+    let done = Value::Array(done_values(alloc, answers)?);
+    Ok(json!(in alloc; {"Failed": failed, "Successful": done})?)
+}
