@@ -1,5 +1,5 @@
 -- Items made one after another, members put one after another, and that no reply has a float.
-use Rattle.std.proofs.Common.{◌≡◌, ℕ, Bool, true, false, true≢false, ◌||◌, ◌==◌, cond, List, [], ◌∷◌, ◌++◌, length, get_or, drop, ◌+◌, ◌<◌, ◌≤◌, Option, Some, None, Result, Ok, Err, Ordering, Less, Equal, Greater, codes, refl, sym, ap, ◌∙◌}
+use Rattle.std.proofs.Common.{◌≡◌, ℕ, Bool, true, false, true≢false, ◌||◌, ◌==◌, ◌/◌, cond, List, [], ◌∷◌, ◌++◌, length, get_or, drop, ◌+◌, ◌<◌, ◌≤◌, Option, Some, None, Result, Ok, Err, Ordering, Less, Equal, Greater, codes, decimal, refl, sym, ap, ◌∙◌}
 use Rattle.std.proofs.lemmas.List.{at_drop_more, drop_all}
 use Rattle.std.specs.Cmp.Lexicographic.{slice_cmp}
 use Rattle.std.specs.Ordering.{nat_cmp, match_ordering}
@@ -9,7 +9,10 @@ use Rattle.message.specs.Content.{ContentText}
 use Rattle.message.specs.Id.{message_id_text}
 use Rattle.message.specs.declared.fault.Fault.{Fault}
 use Rattle.message.specs.declared.id.MessageId.{MessageId}
+use Rattle.queue_config.specs.Settings.{QueueSettings}
+use Rattle.queue_core.specs.declared.gauges.Gauges.{Gauges}
 use Rattle.queue_core.specs.declared.offers.Offer.{Offer}
+use Rattle.queue_core.specs.declared.reply.Look.{Look}
 use Rattle.serde_json.specs.Data.{Data, string, array, object, Items, no_items, item, Members, no_members, member, put}
 use Rattle.serde_json.specs.View.{view, items_view}
 use Rattle.serde_json.specs.Written.{has_float, items_have_float, members_have_float}
@@ -17,13 +20,13 @@ use Rattle.serde_json.specs.declared.value.Value.{Value}
 use Rattle.aws_json.specs.declared.batch.BatchAnswer.{BatchAnswer}
 use Rattle.aws_json.specs.declared.batch.EntryReply.{EntryReply}
 use Rattle.aws_json.specs.declared.batch.EntryReply.TheVariants as entries
-use Rattle.aws_json.specs.declared.request.CountNames.{CountNames}
+use Rattle.aws_json.specs.declared.request.AttributeNames.{AttributeNames}
 use Rattle.aws_json.specs.declared.request.ReceiveNames.{ReceiveNames}
 use Rattle.aws_json.specs.declared.reply.ReplyShape.{ReplyShape}
-use Rattle.aws_json.specs.declared.reply.ReplyShape.TheVariants.{QueueUrl, Sent, Counts, Messages, Batch, Nothing}
+use Rattle.aws_json.specs.declared.reply.ReplyShape.TheVariants.{QueueUrl, QueueUrls, Sent, Attributes, Messages, Batch, Nothing}
 use Rattle.aws_json.specs.Attributes.{asked_attributes}
 use Rattle.aws_json.specs.Put.{put_given, put_sent}
-use Rattle.aws_json.specs.Reply.{count_member, count_members, given_text, sent_members, text_member_if, attribute_members, attribute_data, put_attributes, message_members, asks_attributes, message_data, message_items, done_data, done_item, done_items, failed_item, failed_items, reply_data}
+use Rattle.aws_json.specs.Reply.{put_if, put_count, put_counts, put_times, put_settings, queue_arn, queue_attributes, queue_url, url_items, given_text, sent_members, text_member_if, attribute_members, attribute_data, put_attributes, message_members, asks_attributes, message_data, message_items, done_data, done_item, done_items, failed_item, failed_items, reply_data}
 
 -- ---- items
 
@@ -50,6 +53,16 @@ pub message_items-all : (uid : ℕ) (names : ReceiveNames) (patterns : List (Lis
     → items_then vs (message_items uid names patterns (drop i os)) ≡ message_items uid names patterns os → items_view vs ≡ message_items uid names patterns os
 message_items-all uid names patterns os vs i past h =
     sym (items_then-end vs) ∙ ap (λ (rest : List Offer). items_then vs (message_items uid names patterns rest)) (sym (drop_all i os past)) ∙ h
+
+-- what is left of the names, one on and at the end
+pub url_items-drop : (names : List (List ℕ)) (i : ℕ) (name : List ℕ) → i < length names → name ≡ get_or names i name
+    → url_items (drop i names) ≡ item (string (queue_url name)) (url_items (drop (i + 1) names))
+url_items-drop names i name lt is =
+    at_drop_more url_items names i name lt ∙ ap (λ (x : List ℕ). item (string (queue_url x)) (url_items (drop (i + 1) names))) (sym is)
+
+pub url_items-all : (names : List (List ℕ)) (vs : List Value) (i : ℕ) → length names ≤ i → items_then vs (url_items (drop i names)) ≡ url_items names → items_view vs ≡ url_items names
+url_items-all names vs i past h =
+    sym (items_then-end vs) ∙ ap (λ (rest : List (List ℕ)). items_then vs (url_items rest)) (sym (drop_all i names past)) ∙ h
 
 -- what is left of the answers that were done, one on and at the end
 pub done_items-drop : (xs : List BatchAnswer) (i : ℕ) (a : BatchAnswer) → i < length xs → a ≡ get_or xs i a → done_items (drop i xs) ≡ done_item a.id a.answer (done_items (drop (i + 1) xs))
@@ -107,10 +120,6 @@ put_float k d (member l e ms) p q =
     let later = or_right (has_float e) (members_have_float ms) q in
     ordered_float (slice_cmp nat_cmp k l) _ _ _ (or_both _ _ p q) (or_both _ _ p later) (or_both _ _ here (put_float k d ms p later))
 
-count_member_float : (asked : Bool) (name : List ℕ) (n : ℕ) (rest : Members) → members_have_float rest ≡ false → members_have_float (count_member asked name n rest) ≡ false
-count_member_float true name n rest h = h
-count_member_float false name n rest h = h
-
 text_member_float : (asked : Bool) (name text : List ℕ) (rest : Members) → members_have_float rest ≡ false → members_have_float (text_member_if asked name text rest) ≡ false
 text_member_float true name text rest h = h
 text_member_float false name text rest h = h
@@ -122,8 +131,8 @@ given_float name (Some text) rest h = h
 sent_float : (content : ContentText) (id : MessageId) → members_have_float (sent_members content id) ≡ false
 sent_float content id = given_float _ (attributes_digest content.attributes) _ refl
 
-queue_attributes_float : (names : ReceiveNames) (o : Offer) → members_have_float (attribute_members names o) ≡ false
-queue_attributes_float names o =
+message_attributes_float : (names : ReceiveNames) (o : Offer) → members_have_float (attribute_members names o) ≡ false
+message_attributes_float names o =
     text_member_float names.first _ _ _ (text_member_float names.count _ _ _ (text_member_float names.sender _ _ _ (text_member_float names.sent _ _ _ refl)))
 
 either_float : (b : Bool) (d e : Data) → has_float d ≡ false → has_float e ≡ false → has_float (cond b d e) ≡ false
@@ -146,7 +155,7 @@ message_members_float uid patterns o =
 message_float : (uid : ℕ) (names : ReceiveNames) (patterns : List (List ℕ)) (o : Offer) → has_float (message_data uid names patterns o) ≡ false
 message_float uid names patterns o =
     either_float (asks_attributes names) (object (member (codes "Attributes") (object (attribute_members names o)) (message_members uid patterns o))) (object (message_members uid patterns o))
-    (or_both _ _ (queue_attributes_float names o) (message_members_float uid patterns o)) (message_members_float uid patterns o)
+    (or_both _ _ (message_attributes_float names o) (message_members_float uid patterns o)) (message_members_float uid patterns o)
 
 items_float : (uid : ℕ) (names : ReceiveNames) (patterns : List (List ℕ)) (os : List Offer) → items_have_float (message_items uid names patterns os) ≡ false
 items_float uid names patterns [] = refl
@@ -156,8 +165,47 @@ offers_float : (none : Bool) (name : List ℕ) (items : Items) → items_have_fl
     → has_float (cond none (object no_members) (object (member name (array items) no_members))) ≡ false
 offers_float none name items h = either_float none (object no_members) (object (member name (array items) no_members)) refl (or_both _ _ h refl)
 
-counts_float : (names : CountNames) (visible delayed in_flight : ℕ) → members_have_float (count_members names visible delayed in_flight) ≡ false
-counts_float names visible delayed in_flight = count_member_float names.visible _ _ _ (count_member_float names.delayed _ _ _ (count_member_float names.in_flight _ _ _ refl))
+put_if_float : (asked : Bool) (name text : List ℕ) (ms : Members) → members_have_float ms ≡ false → members_have_float (put_if asked name (string text) ms) ≡ false
+put_if_float true name text ms h = put_float name (string text) ms refl h
+put_if_float false name text ms h = h
+
+put_counts_float : (names : AttributeNames) (gauges : Gauges) (ms : Members) → members_have_float ms ≡ false → members_have_float (put_counts names gauges ms) ≡ false
+put_counts_float names gauges ms h =
+    let m0 : Members = put_count names.visible (codes "ApproximateNumberOfMessages") gauges.visible ms in
+    let h0 : members_have_float m0 ≡ false = put_if_float names.visible (codes "ApproximateNumberOfMessages") (decimal gauges.visible) ms h in
+    let m1 : Members = put_count names.delayed (codes "ApproximateNumberOfMessagesDelayed") gauges.delayed m0 in
+    let h1 : members_have_float m1 ≡ false = put_if_float names.delayed (codes "ApproximateNumberOfMessagesDelayed") (decimal gauges.delayed) m0 h0 in
+    put_if_float names.in_flight (codes "ApproximateNumberOfMessagesNotVisible") (decimal gauges.in_flight) m1 h1
+
+put_times_float : (names : AttributeNames) (look : Look) (ms : Members) → members_have_float ms ≡ false → members_have_float (put_times names look ms) ≡ false
+put_times_float names look ms h =
+    let m0 : Members = put_count names.created (codes "CreatedTimestamp") (look.created / 1000) ms in
+    let h0 : members_have_float m0 ≡ false = put_if_float names.created (codes "CreatedTimestamp") (decimal (look.created / 1000)) ms h in
+    put_if_float names.modified (codes "LastModifiedTimestamp") (decimal (look.modified / 1000)) m0 h0
+
+put_settings_float : (names : AttributeNames) (settings : QueueSettings) (ms : Members) → members_have_float ms ≡ false → members_have_float (put_settings names settings ms) ≡ false
+put_settings_float names settings ms h =
+    let m0 : Members = put_count names.delay (codes "DelaySeconds") settings.delay_seconds ms in
+    let h0 : members_have_float m0 ≡ false = put_if_float names.delay (codes "DelaySeconds") (decimal settings.delay_seconds) ms h in
+    let m1 : Members = put_count names.timeout (codes "VisibilityTimeout") settings.visibility_timeout m0 in
+    let h1 : members_have_float m1 ≡ false = put_if_float names.timeout (codes "VisibilityTimeout") (decimal settings.visibility_timeout) m0 h0 in
+    let m2 : Members = put_count names.retention (codes "MessageRetentionPeriod") settings.retention_seconds m1 in
+    let h2 : members_have_float m2 ≡ false = put_if_float names.retention (codes "MessageRetentionPeriod") (decimal settings.retention_seconds) m1 h1 in
+    let m3 : Members = put_count names.wait (codes "ReceiveMessageWaitTimeSeconds") settings.wait_seconds m2 in
+    let h3 : members_have_float m3 ≡ false = put_if_float names.wait (codes "ReceiveMessageWaitTimeSeconds") (decimal settings.wait_seconds) m2 h2 in
+    put_if_float names.size (codes "MaximumMessageSize") (decimal settings.maximum_message_size) m3 h3
+
+queue_attributes_float : (names : AttributeNames) (queue : List ℕ) (look : Look) → members_have_float (queue_attributes names queue look) ≡ false
+queue_attributes_float names queue look =
+    let counts : Members = put_counts names look.gauges no_members in
+    let times : Members = put_times names look counts in
+    let settings : Members = put_settings names look.settings times in
+    put_if_float names.arn (codes "QueueArn") (queue_arn queue) settings
+    (put_settings_float names look.settings times (put_times_float names look counts (put_counts_float names look.gauges no_members refl)))
+
+urls_float : (names : List (List ℕ)) → items_have_float (url_items names) ≡ false
+urls_float [] = refl
+urls_float (name ∷ names) = or_both _ _ refl (urls_float names)
 
 done_float : (id : List ℕ) (reply : EntryReply) → has_float (done_data id reply) ≡ false
 done_float id (entries.Sent content number) = sent_float content number
@@ -182,8 +230,9 @@ failed_items_float (a ∷ xs) = failed_item_float a.id a.answer (failed_items xs
 pub reply_data-float : (shape : ReplyShape) → has_float (reply_data shape) ≡ false
 reply_data-float (QueueUrl name) = refl
 reply_data-float (Sent content id) = sent_float content id
-reply_data-float (Counts None visible delayed in_flight) = refl
-reply_data-float (Counts (Some names) visible delayed in_flight) = or_both _ _ (counts_float names visible delayed in_flight) refl
+reply_data-float (QueueUrls names) = or_both _ _ (urls_float names) refl
+reply_data-float (Attributes None queue look) = refl
+reply_data-float (Attributes (Some names) queue look) = or_both _ _ (queue_attributes_float names queue look) refl
 reply_data-float (Messages uid names patterns offers) = offers_float (length offers == 0) _ _ (items_float uid names patterns offers)
 reply_data-float (Batch answers) = or_both _ _ (failed_items_float answers) (or_both _ _ (done_items_float answers) refl)
 reply_data-float Nothing = refl

@@ -108,6 +108,7 @@ command_size (Ok (commands.Change handle timeout)) = 0
 command_size (Ok (commands.Delete handle)) = 0
 command_size (Ok commands.Purge) = 0
 command_size (Ok (commands.Set wish target)) = 0
+command_size (Ok commands.Close) = 0
 command_size (Ok commands.Look) = 0
 command_size (Err fault) = 0
 

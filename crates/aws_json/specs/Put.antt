@@ -1,5 +1,5 @@
 -- Members put into an object one after another: words for private clauses.
-use Rattle.std.specs.Prelude.{ℕ, Bool, if◌then◌else◌, List, length, ◌==◌, Option, Some, None, codes}
+use Rattle.std.specs.Prelude.{ℕ, if◌then◌else◌, List, length, ◌==◌, Option, Some, None, codes}
 use Rattle.attribute_md5.specs.Digest.{body_digest, attributes_digest}
 use Rattle.message.specs.Attribute.{AttributeText}
 use Rattle.message.specs.Content.{ContentText}
@@ -7,13 +7,9 @@ use Rattle.message.specs.Id.{message_id_text}
 use Rattle.message.specs.declared.id.MessageId.{MessageId}
 use Rattle.queue_core.specs.declared.offers.Offer.{Offer}
 use Rattle.receipt_handle.specs.Handle.{handle_text}
-use Rattle.serde_json.specs.Data.{Data, string, object, Members, no_members, put}
+use Rattle.serde_json.specs.Data.{string, object, Members, no_members, put}
 use Rattle.aws_json.specs.Attributes.{asked_attributes}
 use Rattle.aws_json.specs.Reply.{handle_of_offer, put_attributes}
-
--- the members with this one put among them, where it is asked for
-abbrev pub put_if : Bool → List ℕ → Data → Members → Members
-put_if asked name d members = if asked then put name d members else members
 
 -- the members with this text put among them, where there is one
 abbrev pub put_given : List ℕ → Option (List ℕ) → Members → Members

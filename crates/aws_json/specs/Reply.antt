@@ -1,5 +1,5 @@
 -- Replies as JSON data (AWS JSON 1.0, Amazon SQS API Reference); keys stand in byte order.
-use Rattle.std.specs.Prelude.{ℕ, nat_le, ◌++◌, ◌==◌, ◌||◌, [], ◌∷◌, length, Bool, if◌then◌else◌, List, codes, decimal, Option, Some, None, Result, Ok, Err}
+use Rattle.std.specs.Prelude.{ℕ, nat_le, ◌++◌, ◌==◌, ◌||◌, ◌/◌, [], ◌∷◌, length, Bool, if◌then◌else◌, List, codes, decimal, Option, Some, None, Result, Ok, Err}
 use Rattle.attribute_md5.specs.Digest.{body_digest, attributes_digest}
 use Rattle.base64.specs.Engines.{standard}
 use Rattle.base64.specs.GeneralPurpose.{encode_of}
@@ -11,40 +11,88 @@ use Rattle.message.specs.declared.fault.Fault.{Fault}
 use Rattle.message.specs.declared.id.MessageId.{MessageId}
 use Rattle.receipt_handle.specs.declared.handle.Handle.{Handle}
 use Rattle.receipt_handle.specs.Handle.{handle_text}
+use Rattle.queue_config.specs.Settings.{QueueSettings}
+use Rattle.queue_core.specs.declared.gauges.Gauges.{Gauges}
 use Rattle.queue_core.specs.declared.offers.Offer.{Offer}
+use Rattle.queue_core.specs.declared.reply.Look.{Look}
 use Rattle.serde_json.specs.Data.{Data, boolean, string, array, object, Items, no_items, item, Members, no_members, member, put}
 use Rattle.aws_json.specs.Attributes.{asked_attributes}
 use Rattle.aws_json.specs.FaultText.{fault_name, fault_message}
 use Rattle.aws_json.specs.declared.request.ReceiveNames.{ReceiveNames}
-use Rattle.aws_json.specs.declared.request.CountNames.{CountNames}
+use Rattle.aws_json.specs.declared.request.AttributeNames.{AttributeNames}
 use Rattle.aws_json.specs.declared.batch.BatchAnswer.{BatchAnswer}
 use Rattle.aws_json.specs.declared.batch.EntryReply.{EntryReply}
 use Rattle.aws_json.specs.declared.batch.EntryReply.TheVariants as entries
 use Rattle.aws_json.specs.declared.reply.ReplyShape.{ReplyShape}
-use Rattle.aws_json.specs.declared.reply.ReplyShape.TheVariants.{QueueUrl, Sent, Counts, Messages, Batch, Nothing}
+use Rattle.aws_json.specs.declared.reply.ReplyShape.TheVariants.{QueueUrl, QueueUrls, Sent, Attributes, Messages, Batch, Nothing}
 
 -- the URL of a queue: host, port and account are this project's own choice, after ElasticMQ
 abbrev pub queue_url : List ℕ → List ℕ
 queue_url name = codes "http://localhost:9324/000000000000/" ++ name
 
--- a count among the members, where it is asked for
-abbrev pub count_member : Bool → List ℕ → ℕ → Members → Members
-count_member asked name count rest = if asked then member name (string (decimal count)) rest else rest
+-- the name by which policies and other services know a queue
+abbrev pub queue_arn : List ℕ → List ℕ
+queue_arn name = codes "arn:aws:sqs:elasticmq:000000000000:" ++ name
 
-abbrev pub count_members : CountNames → ℕ → ℕ → ℕ → Members
-count_members names visible delayed in_flight =
-    count_member names.visible (codes "ApproximateNumberOfMessages") visible
-    (count_member names.delayed (codes "ApproximateNumberOfMessagesDelayed") delayed
-    (count_member names.in_flight (codes "ApproximateNumberOfMessagesNotVisible") in_flight no_members))
+-- ---- attributes of a queue: each is a text, under its name, where it is asked for
 
--- the counts that are asked for; an empty object where no name was asked
-abbrev pub counts_data : Option CountNames → ℕ → ℕ → ℕ → Data
-counts_data None visible delayed in_flight = object no_members
-counts_data (Some names) visible delayed in_flight = object (member (codes "Attributes") (object (count_members names visible delayed in_flight)) no_members)
+-- the members with this one put among them, where it is asked for
+abbrev pub put_if : Bool → List ℕ → Data → Members → Members
+put_if asked name d members = if asked then put name d members else members
+
+abbrev pub put_count : Bool → List ℕ → ℕ → Members → Members
+put_count asked name count members = put_if asked name (string (decimal count)) members
+
+abbrev pub put_counts : AttributeNames → Gauges → Members → Members
+put_counts names gauges members =
+    put_count names.in_flight (codes "ApproximateNumberOfMessagesNotVisible") gauges.in_flight
+    (put_count names.delayed (codes "ApproximateNumberOfMessagesDelayed") gauges.delayed
+    (put_count names.visible (codes "ApproximateNumberOfMessages") gauges.visible members))
+
+-- seconds, rounded down
+abbrev pub put_times : AttributeNames → Look → Members → Members
+put_times names look members =
+    put_count names.modified (codes "LastModifiedTimestamp") (look.modified / 1000)
+    (put_count names.created (codes "CreatedTimestamp") (look.created / 1000) members)
+
+-- how long messages stay delayed, in flight, and at all
+abbrev pub put_durations : AttributeNames → QueueSettings → Members → Members
+put_durations names settings members =
+    put_count names.retention (codes "MessageRetentionPeriod") settings.retention_seconds
+    (put_count names.timeout (codes "VisibilityTimeout") settings.visibility_timeout
+    (put_count names.delay (codes "DelaySeconds") settings.delay_seconds members))
+
+abbrev pub put_settings : AttributeNames → QueueSettings → Members → Members
+put_settings names settings members =
+    put_count names.size (codes "MaximumMessageSize") settings.maximum_message_size
+    (put_count names.wait (codes "ReceiveMessageWaitTimeSeconds") settings.wait_seconds (put_durations names settings members))
+
+-- the attributes of a queue that are asked for
+abbrev pub queue_attributes : AttributeNames → List ℕ → Look → Members
+queue_attributes names queue look =
+    put_if names.arn (codes "QueueArn") (string (queue_arn queue))
+    (put_settings names look.settings (put_times names look (put_counts names look.gauges no_members)))
+
+-- an empty object where no name was asked
+abbrev pub attributes_data : Option AttributeNames → List ℕ → Look → Data
+attributes_data None queue look = object no_members
+attributes_data (Some names) queue look = object (member (codes "Attributes") (object (queue_attributes names queue look)) no_members)
+
+-- ---- URLs
 
 -- the URL of a queue
 abbrev pub url_data : List ℕ → Data
 url_data name = object (member (codes "QueueUrl") (string (queue_url name)) no_members)
+
+abbrev pub url_items : List (List ℕ) → Items
+url_items [] = no_items
+url_items (name ∷ names) = item (string (queue_url name)) (url_items names)
+
+-- the URLs of queues
+abbrev pub urls_data : List (List ℕ) → Data
+urls_data names = object (member (codes "QueueUrls") (array (url_items names)) no_members)
+
+-- ---- sends
 
 -- a text among the members, where there is one
 abbrev pub given_text : List ℕ → Option (List ℕ) → Members → Members
@@ -166,7 +214,8 @@ batch_data answers = object (member (codes "Failed") (array (failed_items answer
 abbrev pub reply_data : ReplyShape → Data
 reply_data (QueueUrl name) = url_data name
 reply_data (Sent content id) = sent_data content id
-reply_data (Counts names visible delayed in_flight) = counts_data names visible delayed in_flight
+reply_data (QueueUrls names) = urls_data names
+reply_data (Attributes names queue look) = attributes_data names queue look
 reply_data (Messages uid names patterns offers) = messages_data uid names patterns offers
 reply_data (Batch answers) = batch_data answers
 reply_data Nothing = object no_members

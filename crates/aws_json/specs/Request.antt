@@ -5,7 +5,7 @@ use Rattle.std.specs.Str.{bytes_eq}
 use Rattle.message.specs.Name.{queue_name_of}
 use Rattle.message.specs.declared.fault.Fault.{Fault}
 use Rattle.message.specs.declared.fault.Fault.TheVariants.{QueueDoesNotExist, InvalidAttributeName, UnsupportedOperation, SerializationException}
-use Rattle.queue_config.specs.Settings.{RequestedAttributes, no_requested_attributes, request_attribute}
+use Rattle.queue_config.specs.Settings.{RequestedAttributes, no_requested_attributes, request_attribute, is_ignored_attribute}
 use Rattle.serde_json.specs.Data.{Data, Items, no_items, item, Members, no_members, member}
 use Rattle.serde_json.specs.Find.{as_str}
 use Rattle.aws_json.specs.Steps.{◌>>=◌, result_map, refused_as, required}
@@ -14,10 +14,10 @@ use Rattle.aws_json.specs.Entries.{message_given, given_handle, required_within,
 use Rattle.aws_json.specs.declared.batch.EntryKind.{EntryKind}
 use Rattle.aws_json.specs.declared.batch.EntryKind.TheVariants as entries
 use Rattle.aws_json.specs.declared.members.Kind.TheVariants.{Text, Number, Texts, NamedTexts, MessageAttributes}
-use Rattle.aws_json.specs.declared.request.CountNames.{CountNames}
+use Rattle.aws_json.specs.declared.request.AttributeNames.{AttributeNames}
 use Rattle.aws_json.specs.declared.request.ReceiveNames.{ReceiveNames}
 use Rattle.aws_json.specs.declared.request.Request.{Request}
-use Rattle.aws_json.specs.declared.request.Request.TheVariants.{CreateQueue, SendMessage, GetQueueAttributes, SetQueueAttributes, PurgeQueue, ReceiveMessage, DeleteMessage, ChangeMessageVisibility, Batch}
+use Rattle.aws_json.specs.declared.request.Request.TheVariants.{CreateQueue, SendMessage, GetQueueAttributes, SetQueueAttributes, PurgeQueue, DeleteQueue, GetQueueUrl, ListQueues, ReceiveMessage, DeleteMessage, ChangeMessageVisibility, Batch}
 
 -- ---- members
 
@@ -40,6 +40,12 @@ new_name name = do
   text ← required name
   queue_name_of text
 
+-- the name of a queue that is looked for; a name that no queue can have is that of no queue
+abbrev pub known_name : Option (List ℕ) → Result (List ℕ) Fault
+known_name name = do
+  text ← required name
+  refused_as QueueDoesNotExist (queue_name_of text)
+
 -- the requested attributes after one more member; a null asks for nothing
 abbrev pub request_text : RequestedAttributes → List ℕ → Option (List ℕ) → Result RequestedAttributes Fault
 request_text requested name None = Ok requested
@@ -56,30 +62,71 @@ abbrev pub requested_attributes : Option Members → Result RequestedAttributes 
 requested_attributes None = Ok no_requested_attributes
 requested_attributes (Some members) = request_members no_requested_attributes members
 
--- no count
-abbrev pub no_counts : CountNames
-no_counts = record { visible = false; delayed = false; in_flight = false }
+-- no attribute of a queue
+abbrev pub no_attribute_names : AttributeNames
+no_attribute_names = record {
+  visible = false;
+  delayed = false;
+  in_flight = false;
+  created = false;
+  modified = false;
+  arn = false;
+  delay = false;
+  timeout = false;
+  retention = false;
+  wait = false;
+  size = false;
+}
 
--- the counts that are asked for after one more name
-abbrev pub ask_count : CountNames → List ℕ → Result CountNames Fault
-ask_count counts name =
-    if bytes_eq name (codes "ApproximateNumberOfMessages") then Ok (record counts { visible = true })
-    else if bytes_eq name (codes "ApproximateNumberOfMessagesDelayed") then Ok (record counts { delayed = true })
-    else if bytes_eq name (codes "ApproximateNumberOfMessagesNotVisible") then Ok (record counts { in_flight = true })
+abbrev pub all_attribute_names : AttributeNames
+all_attribute_names = record {
+  visible = true;
+  delayed = true;
+  in_flight = true;
+  created = true;
+  modified = true;
+  arn = true;
+  delay = true;
+  timeout = true;
+  retention = true;
+  wait = true;
+  size = true;
+}
+
+-- names that are accepted and not answered: no queue has what they speak of
+abbrev pub is_never_answered : List ℕ → Bool
+is_never_answered name = bytes_eq name (codes "RedrivePolicy") || is_ignored_attribute name
+
+-- the attributes of a queue that are asked for after one more name
+abbrev pub ask_attribute : AttributeNames → List ℕ → Result AttributeNames Fault
+ask_attribute names name =
+    if bytes_eq name (codes "All") then Ok all_attribute_names
+    else if bytes_eq name (codes "ApproximateNumberOfMessages") then Ok (record names { visible = true })
+    else if bytes_eq name (codes "ApproximateNumberOfMessagesDelayed") then Ok (record names { delayed = true })
+    else if bytes_eq name (codes "ApproximateNumberOfMessagesNotVisible") then Ok (record names { in_flight = true })
+    else if bytes_eq name (codes "CreatedTimestamp") then Ok (record names { created = true })
+    else if bytes_eq name (codes "LastModifiedTimestamp") then Ok (record names { modified = true })
+    else if bytes_eq name (codes "QueueArn") then Ok (record names { arn = true })
+    else if bytes_eq name (codes "DelaySeconds") then Ok (record names { delay = true })
+    else if bytes_eq name (codes "VisibilityTimeout") then Ok (record names { timeout = true })
+    else if bytes_eq name (codes "MessageRetentionPeriod") then Ok (record names { retention = true })
+    else if bytes_eq name (codes "ReceiveMessageWaitTimeSeconds") then Ok (record names { wait = true })
+    else if bytes_eq name (codes "MaximumMessageSize") then Ok (record names { size = true })
+    else if is_never_answered name then Ok names
     else Err InvalidAttributeName
 
-abbrev pub ask_counts : CountNames → Items → Result CountNames Fault
-ask_counts counts no_items = Ok counts
-ask_counts counts (item d rest) = do
+abbrev pub ask_attributes : AttributeNames → Items → Result AttributeNames Fault
+ask_attributes names no_items = Ok names
+ask_attributes names (item d rest) = do
   name ← ok_or (as_str d) SerializationException
-  more ← ask_count counts name
-  ask_counts more rest
+  more ← ask_attribute names name
+  ask_attributes more rest
 
--- the counts that a list of names asks for, where it names any
-abbrev pub asked_counts : Option Items → Result (Option CountNames) Fault
-asked_counts None = Ok None
-asked_counts (Some no_items) = Ok None
-asked_counts (Some (item d rest)) = result_map Some (ask_counts no_counts (item d rest))
+-- the attributes that a list of names asks for, where it names any
+abbrev pub asked_attribute_names : Option Items → Result (Option AttributeNames) Fault
+asked_attribute_names None = Ok None
+asked_attribute_names (Some no_items) = Ok None
+asked_attribute_names (Some (item d rest)) = result_map Some (ask_attributes no_attribute_names (item d rest))
 
 -- how many messages a receive asks for: 1 where it does not say
 abbrev pub maximum_given : Option (Option ℕ) → Result ℕ Fault
@@ -166,6 +213,32 @@ set_queue_attributes = record {
     Ok (SetQueueAttributes queue requested);
 }
 
+abbrev pub delete_queue : Row
+delete_queue = record {
+  columns = column (codes "QueueUrl") Text ∷ [];
+  entries = None;
+  judge = λ d. do
+    queue ← named_queue (text_in (codes "QueueUrl") d)
+    Ok (DeleteQueue queue);
+}
+
+abbrev pub get_queue_url : Row
+get_queue_url = record {
+  columns = column (codes "QueueName") Text ∷ [];
+  entries = None;
+  judge = λ d. do
+    name ← known_name (text_in (codes "QueueName") d)
+    Ok (GetQueueUrl name);
+}
+
+-- without a prefix every name is listed
+abbrev pub list_queues : Row
+list_queues = record {
+  columns = column (codes "QueueNamePrefix") Text ∷ [];
+  entries = None;
+  judge = λ d. Ok (ListQueues (unwrap_or (text_in (codes "QueueNamePrefix") d) []));
+}
+
 abbrev pub purge_queue : Row
 purge_queue = record {
   columns = column (codes "QueueUrl") Text ∷ [];
@@ -181,8 +254,8 @@ get_queue_attributes = record {
   entries = None;
   judge = λ d. do
     queue ← named_queue (text_in (codes "QueueUrl") d)
-    counts ← asked_counts (items_in (codes "AttributeNames") d)
-    Ok (GetQueueAttributes queue counts);
+    names ← asked_attribute_names (items_in (codes "AttributeNames") d)
+    Ok (GetQueueAttributes queue names);
 }
 
 abbrev pub send_message : Row
@@ -254,6 +327,9 @@ row_of action =
     else if bytes_eq action (codes "GetQueueAttributes") then Some get_queue_attributes
     else if bytes_eq action (codes "SetQueueAttributes") then Some set_queue_attributes
     else if bytes_eq action (codes "PurgeQueue") then Some purge_queue
+    else if bytes_eq action (codes "DeleteQueue") then Some delete_queue
+    else if bytes_eq action (codes "GetQueueUrl") then Some get_queue_url
+    else if bytes_eq action (codes "ListQueues") then Some list_queues
     else if bytes_eq action (codes "ReceiveMessage") then Some receive_message
     else if bytes_eq action (codes "DeleteMessage") then Some delete_message
     else if bytes_eq action (codes "ChangeMessageVisibility") then Some change_message_visibility

@@ -127,7 +127,7 @@ impl BatchAnswers {
     }
 
     /// Adds an answer at the end. `OutOfMemory` is the only refusal; the list is then as it was.
-    pub fn push(&mut self, answer: BatchAnswer) -> Result<(), Fault>
+    pub fn push(&mut self, _alloc: Global, answer: BatchAnswer) -> Result<(), Fault>
         ensures ok { OnOk result (self.new ≡ self.old ++ answer ∷ []) }
         ensures err { OnErr result (self.new ≡ self.old) }
         ensures errors { IfErr result (λ fault. fault ≡ OutOfMemory) }

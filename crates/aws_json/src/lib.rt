@@ -6,7 +6,8 @@
 //!   one after another. A batch is a list of [`Entries`], each a queue's command or its own fault.
 //! - [`reply_text`]: the JSON text of a reply. Of a batch it is the [`BatchAnswers`].
 //! - [`fault_text`] and [`status`]: the JSON text and the status of a refusal.
-//! - [`Patterns`]: which message attributes a receive asks for.
+//! - [`Patterns`]: which message attributes a receive asks for. [`Prefix`] and [`QueueNames`]: which
+//!   queues a client lists, and which there are.
 //! - [`read_object`]: the JSON object that a body is.
 //!
 //! Each contract is exact: it names the value, or the one refusal, that a definition in `specs/`
@@ -18,7 +19,10 @@ mod batch_reply;
 mod entries;
 mod members;
 mod message_reply;
+mod prefix;
 mod put;
+mod queue_names;
+mod queue_reply;
 mod refusal;
 mod reply;
 mod request;
@@ -34,7 +38,9 @@ mod tests_of_requests;
 
 pub use batch::{BatchAnswer, BatchAnswers, BatchEntry, Entries, EntryReply};
 pub use members::read_object;
+pub use prefix::Prefix;
+pub use queue_names::QueueNames;
 pub use refusal::{fault_text, status};
 pub use reply::{ReplyShape, reply_text};
-pub use request::{CountNames, ReceiveNames, Request, parse};
+pub use request::{AttributeNames, ReceiveNames, Request, parse};
 pub use selection::Patterns;

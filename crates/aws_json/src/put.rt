@@ -1,10 +1,11 @@
 //! Members of JSON objects, put in one after another.
 
-ghost use Rattle.std.specs.Prelude.{◌≡◌, OnOk, IfErr, Option, decimal, option_map};
+ghost use Rattle.std.specs.Prelude.{◌≡◌, OnOk, IfErr, Option, option_map};
 ghost use Rattle.message.specs.declared.fault.Fault.TheVariants.{OutOfMemory};
 ghost use Rattle.serde_json.specs.Data.{string, put};
 ghost use Rattle.serde_json.specs.View.{view, members_view};
-ghost use Rattle.aws_json.specs.Put.{put_if, put_given};
+ghost use Rattle.aws_json.specs.Reply.{put_if, put_count};
+ghost use Rattle.aws_json.specs.Put.{put_given};
 
 use message::Fault;
 use serde_json::{Map, Value};
@@ -68,7 +69,7 @@ pub(crate) fn put_count(
     count: u64,
 ) -> Result<(), Fault>
     ensures ok { OnOk result (members_view members.new.entries
-        ≡ put_if asked name.now (string (decimal count)) (members_view members.old.entries)) }
+        ≡ put_count asked name.now count (members_view members.old.entries)) }
     ensures refusal { IfErr result (λ fault. fault ≡ OutOfMemory) }
 {
     let text = count.to_string(alloc)?;

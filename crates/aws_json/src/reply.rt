@@ -1,22 +1,23 @@
 //! Replies and their JSON texts (AWS JSON 1.0, Amazon SQS API Reference).
 
-ghost use Rattle.std.specs.Prelude.{◌≡◌, Ok, string_bytes};
+ghost use Rattle.std.specs.Prelude.{◌≡◌, Ok, IfOk, IfErr, string_bytes};
+ghost use Rattle.message.specs.declared.fault.Fault.TheVariants.{OutOfMemory};
 ghost use Rattle.message.specs.Fault.{Meets};
-ghost use Rattle.serde_json.specs.Data.{object};
-ghost use Rattle.serde_json.specs.View.{view};
+ghost use Rattle.serde_json.specs.View.{view, items_view};
 ghost use Rattle.serde_json.specs.Written.{compact_text};
 ghost use Rattle.aws_json.specs.Steps.{result_map};
-ghost use Rattle.aws_json.specs.Reply.{queue_url, count_members, counts_data, url_data, reply_data};
+ghost use Rattle.aws_json.specs.Reply.{queue_url, url_data, url_items, urls_data, reply_data};
 
 use crate::batch::BatchAnswers;
 use crate::batch_reply::{batch_reply, sent_reply};
 use crate::message_reply::messages_reply;
-use crate::put::put_count;
-use crate::request::{CountNames, ReceiveNames};
+use crate::queue_names::QueueNames;
+use crate::queue_reply::attributes_reply;
+use crate::request::{AttributeNames, ReceiveNames};
 use crate::selection::Patterns;
 use message::{Content, Fault, MessageId, QueueName};
-use queue_core::Offers;
-use serde_json::{Map, Value, json};
+use queue_core::{Look, Offers};
+use serde_json::{Value, json};
 use std::alloc::Global;
 
 /// What a client is answered.
@@ -24,17 +25,19 @@ use std::alloc::Global;
 pub enum ReplyShape {
     /// The URL of a queue.
     QueueUrl(QueueName),
+    /// The URLs of queues, in this order.
+    QueueUrls(QueueNames),
     /// The message that was sent, whose digests the client gets, and its id.
     Sent {
         content: Content,
         id: MessageId,
     },
-    /// The counts of a queue that were asked for; an empty object where no name was asked.
-    Counts {
-        names: Option<CountNames>,
-        visible: u64,
-        delayed: u64,
-        in_flight: u64,
+    /// The attributes of a queue that were asked for, by a look at it; an empty object where no name
+    /// was asked.
+    Attributes {
+        names: Option<AttributeNames>,
+        queue: QueueName,
+        look: Look,
     },
     /// What a receive offers of the queue of a uid, with the attributes that were asked for, of the
     /// queue's (no message comes from another queue, so none has a source) and of the sender's; an empty object where it offers
@@ -60,59 +63,24 @@ fn queue_url(alloc: Global, name: &QueueName) -> Result<String, Fault>
     Ok(url)
 }
 
-/// The counts that are asked for.
-fn counts_value(
-    alloc: Global,
-    names: CountNames,
-    visible: u64,
-    delayed: u64,
-    in_flight: u64,
-) -> Result<Value, Fault>
-    ensures { Meets (result_map view result)
-        (Ok (object (count_members names visible delayed in_flight))) }
+/// The URLs of queues.
+fn urls_reply(alloc: Global, names: &[QueueName]) -> Result<Value, Fault>
+    ensures { Meets (result_map view result) (Ok (urls_data names.now)) }
 {
-    let mut counts = Map::new(alloc);
-    put_count(
-        alloc,
-        &mut counts,
-        names.visible,
-        "ApproximateNumberOfMessages",
-        visible,
-    )?;
-    put_count(
-        alloc,
-        &mut counts,
-        names.delayed,
-        "ApproximateNumberOfMessagesDelayed",
-        delayed,
-    )?;
-    put_count(
-        alloc,
-        &mut counts,
-        names.in_flight,
-        "ApproximateNumberOfMessagesNotVisible",
-        in_flight,
-    )?;
-    Ok(Value::Object(counts))
+    let urls = url_values(alloc, names)?;
+    Ok(json!(in alloc; {"QueueUrls": urls})?)
 }
 
-/// The counts that are asked for; an empty object where no name was asked.
-fn counts_reply(
-    alloc: Global,
-    names: Option<CountNames>,
-    visible: u64,
-    delayed: u64,
-    in_flight: u64,
-) -> Result<Value, Fault>
-    ensures { Meets (result_map view result) (Ok (counts_data names visible delayed in_flight)) }
+/// The URLs of queues, one after another.
+fn url_values(alloc: Global, names: &[QueueName]) -> Result<Vec<Value>, Fault>
+    ensures ok { IfOk result (λ urls. items_view urls.items ≡ url_items names.now) }
+    ensures errors { IfErr result (λ fault. fault ≡ OutOfMemory) }
 {
-    match names {
-        Some(names) => {
-            let counts = counts_value(alloc, names, visible, delayed, in_flight)?;
-            Ok(json!(in alloc; {"Attributes": counts})?)
-        }
-        None => Ok(json!(in alloc; {})?),
+    let mut urls = Vec::new(alloc);
+    for name in names {
+        urls.push(Value::from(queue_url(alloc, name)?))?;
     }
+    Ok(urls)
 }
 
 /// The URL of a queue.
@@ -130,12 +98,10 @@ fn reply_value(alloc: Global, shape: &ReplyShape) -> Result<Value, Fault>
     match shape {
         ReplyShape::QueueUrl(name) => url_reply(alloc, name),
         ReplyShape::Sent { content, id } => sent_reply(alloc, content, *id),
-        ReplyShape::Counts {
-            names,
-            visible,
-            delayed,
-            in_flight,
-        } => counts_reply(alloc, *names, *visible, *delayed, *in_flight),
+        ReplyShape::QueueUrls(names) => urls_reply(alloc, names.as_slice()),
+        ReplyShape::Attributes { names, queue, look } => {
+            attributes_reply(alloc, *names, queue, look)
+        }
         ReplyShape::Messages {
             uid,
             names,

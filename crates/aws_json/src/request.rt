@@ -1,12 +1,12 @@
 //! Requests: an action and a JSON body (AWS JSON 1.0, Amazon SQS API Reference). Which fault is
 //! which, and the order in which they are judged, is this project's own choice.
 
-ghost use Rattle.std.specs.Prelude.{◌≡◌, Ok, Err, None, option_map};
+ghost use Rattle.std.specs.Prelude.{◌≡◌, Ok, Err, None, option_map, if◌then◌else◌};
 ghost use Rattle.message.specs.Fault.{Meets};
 ghost use Rattle.queue_config.specs.Settings.{no_requested_attributes};
 ghost use Rattle.serde_json.specs.View.{view, items_view, members_view};
 ghost use Rattle.aws_json.specs.Members.{within, have_kinds};
-ghost use Rattle.aws_json.specs.Request.{name_part, named_queue, new_name, request_text, request_members, requested_attributes, no_counts, ask_count, ask_counts, asked_counts, maximum_given, is_unanswered, ask_receive_name, ask_receive_names, ask_given_names, asked_patterns, patterns_of, asked_names, asked_of_row, read_row, row_of, create_queue, set_queue_attributes, purge_queue, send_message, receive_message, delete_message, change_message_visibility, get_queue_attributes, batch, request_of};
+ghost use Rattle.aws_json.specs.Request.{name_part, named_queue, new_name, request_text, request_members, requested_attributes, known_name, no_attribute_names, all_attribute_names, is_never_answered, ask_attribute, ask_attributes, asked_attribute_names, maximum_given, is_unanswered, ask_receive_name, ask_receive_names, ask_given_names, asked_patterns, patterns_of, asked_names, asked_of_row, read_row, row_of, create_queue, set_queue_attributes, purge_queue, delete_queue, get_queue_url, list_queues, send_message, receive_message, delete_message, change_message_visibility, get_queue_attributes, batch, request_of};
 
 use crate::batch::{Entries, EntryKind, GivenMessage};
 use crate::entries::{
@@ -15,23 +15,40 @@ use crate::entries::{
 use crate::members::{
     Kind, has_kind, items_in, members_in, number_in, read_object, text_in, within,
 };
+use crate::prefix::Prefix;
 use crate::selection::Patterns;
 use message::{Content, Fault, QueueName};
-use queue_config::Wish;
+use queue_config::{Wish, is_ignored};
 use queue_core::{Delay, Maximum, Timeout};
 use receipt_handle::Handle;
 use serde_json::{Map, Value};
 use std::alloc::Global;
 
-/// Which of a queue's counts are asked for.
+/// Which attributes of a queue are asked for, of those that are answered.
 #[derive(Clone, Copy, Debug, PartialEq, Eq)]
-pub struct CountNames {
+pub struct AttributeNames {
     /// `ApproximateNumberOfMessages`
     pub visible: bool,
     /// `ApproximateNumberOfMessagesDelayed`
     pub delayed: bool,
     /// `ApproximateNumberOfMessagesNotVisible`
     pub in_flight: bool,
+    /// `CreatedTimestamp`
+    pub created: bool,
+    /// `LastModifiedTimestamp`
+    pub modified: bool,
+    /// `QueueArn`
+    pub arn: bool,
+    /// `DelaySeconds`
+    pub delay: bool,
+    /// `VisibilityTimeout`
+    pub timeout: bool,
+    /// `MessageRetentionPeriod`
+    pub retention: bool,
+    /// `ReceiveMessageWaitTimeSeconds`
+    pub wait: bool,
+    /// `MaximumMessageSize`
+    pub size: bool,
 }
 
 /// Which attributes of messages a receive asks for.
@@ -63,10 +80,10 @@ pub enum Request {
         content: Content,
         delay: Option<Delay>,
     },
-    /// Asks for counts of a queue; `None` where no name was asked.
+    /// Asks for attributes of a queue; `None` where no name was asked.
     GetQueueAttributes {
         queue: QueueName,
-        names: Option<CountNames>,
+        names: Option<AttributeNames>,
     },
     /// Gives a queue the requested settings.
     SetQueueAttributes {
@@ -76,6 +93,18 @@ pub enum Request {
     /// Removes all messages of a queue.
     PurgeQueue {
         queue: QueueName,
+    },
+    /// Deletes a queue.
+    DeleteQueue {
+        queue: QueueName,
+    },
+    /// Asks for the URL of a queue.
+    GetQueueUrl {
+        name: QueueName,
+    },
+    /// Asks for the URLs of the queues whose names begin with a prefix.
+    ListQueues {
+        prefix: Prefix,
     },
     /// Receives messages, for a timeout in seconds or the queue's own, and waits for them so many
     /// seconds or as the queue has it. The names are of attributes that the queue gives a message,
@@ -122,7 +151,16 @@ fn named_queue(url: Option<&str>) -> Result<QueueName, Fault>
     ensures { result ≡ named_queue (option_map (λ s. s.now) url.entry) }
 {
     let url = url.ok_or(Fault::InvalidParameterValue)?;
-    match QueueName::read(name_part(url)) {
+    known_name(Some(name_part(url)))
+}
+
+/// The name of a queue that is looked for. It has to be there; a name that no queue can have is
+/// `QueueDoesNotExist`.
+fn known_name(name: Option<&str>) -> Result<QueueName, Fault>
+    ensures { result ≡ known_name (option_map (λ s. s.now) name.entry) }
+{
+    let name = name.ok_or(Fault::InvalidParameterValue)?;
+    match QueueName::read(name) {
         Ok(name) => Ok(name),
         Err(_) => Err(Fault::QueueDoesNotExist),
     }
@@ -136,24 +174,53 @@ fn new_name(name: Option<&str>) -> Result<QueueName, Fault>
     QueueName::read(name)
 }
 
-/// The counts that are asked for after one more name.
-fn ask_count(counts: CountNames, name: &str) -> Result<CountNames, Fault>
-    ensures { result ≡ ask_count counts name.now }
+/// Whether an attribute of queues is accepted and not answered.
+fn is_never_answered(name: &str) -> bool
+    ensures { result ≡ is_never_answered name.now }
 {
+    name == "RedrivePolicy" || is_ignored(name)
+}
+
+/// The attributes of a queue that are asked for after one more name.
+fn ask_attribute(names: AttributeNames, name: &str) -> Result<AttributeNames, Fault>
+    ensures { result ≡ ask_attribute names name.now }
+{
+    let mut names = names;
     match name {
-        "ApproximateNumberOfMessages" => Ok(CountNames {
-            visible: true,
-            ..counts
-        }),
-        "ApproximateNumberOfMessagesDelayed" => Ok(CountNames {
-            delayed: true,
-            ..counts
-        }),
-        "ApproximateNumberOfMessagesNotVisible" => Ok(CountNames {
-            in_flight: true,
-            ..counts
-        }),
-        _ => Err(Fault::InvalidAttributeName),
+        "All" => return Ok(every_attribute(true)),
+        "ApproximateNumberOfMessages" => names.visible = true,
+        "ApproximateNumberOfMessagesDelayed" => names.delayed = true,
+        "ApproximateNumberOfMessagesNotVisible" => names.in_flight = true,
+        "CreatedTimestamp" => names.created = true,
+        "LastModifiedTimestamp" => names.modified = true,
+        "QueueArn" => names.arn = true,
+        "DelaySeconds" => names.delay = true,
+        "VisibilityTimeout" => names.timeout = true,
+        "MessageRetentionPeriod" => names.retention = true,
+        "ReceiveMessageWaitTimeSeconds" => names.wait = true,
+        "MaximumMessageSize" => names.size = true,
+        _ if is_never_answered(name) => {}
+        _ => return Err(Fault::InvalidAttributeName),
+    }
+    Ok(names)
+}
+
+/// Every attribute of a queue, or none.
+fn every_attribute(asked: bool) -> AttributeNames
+    ensures { result ≡ (if asked then all_attribute_names else no_attribute_names) }
+{
+    AttributeNames {
+        visible: asked,
+        delayed: asked,
+        in_flight: asked,
+        created: asked,
+        modified: asked,
+        arn: asked,
+        delay: asked,
+        timeout: asked,
+        retention: asked,
+        wait: asked,
+        size: asked,
     }
 }
 
@@ -194,32 +261,28 @@ fn requested_attributes(
     }
 }
 
-/// The counts that a list of names asks for, where it names any.
-fn asked_counts(names: Option<&[Value]>) -> Result<Option<CountNames>, Fault>
-    ensures { result ≡ asked_counts (option_map (λ items. items_view items.now) names.entry) }
+/// The attributes of a queue that a list of names asks for, where it names any.
+fn asked_attribute_names(names: Option<&[Value]>) -> Result<Option<AttributeNames>, Fault>
+    ensures { result ≡ asked_attribute_names (option_map (λ items. items_view items.now) names.entry) }
 {
     match names {
-        Some(items) if !items.is_empty() => Ok(Some(ask_counts(items)?)),
+        Some(items) if !items.is_empty() => Ok(Some(ask_attributes(items)?)),
         _ => Ok(None),
     }
 }
 
-/// The counts that the names ask for.
-fn ask_counts(names: &[Value]) -> Result<CountNames, Fault>
-    ensures { result ≡ ask_counts no_counts (items_view names.now) }
+/// The attributes of a queue that the names ask for.
+fn ask_attributes(names: &[Value]) -> Result<AttributeNames, Fault>
+    ensures { result ≡ ask_attributes no_attribute_names (items_view names.now) }
 {
-    let mut counts = CountNames {
-        visible: false,
-        delayed: false,
-        in_flight: false,
-    };
+    let mut asked = every_attribute(false);
     for name in names {
         match name.as_str() {
-            Some(name) => counts = ask_count(counts, name)?,
+            Some(name) => asked = ask_attribute(asked, name)?,
             None => return Err(Fault::SerializationException),
         }
     }
-    Ok(counts)
+    Ok(asked)
 }
 
 /// How many messages a receive asks for: one where it does not say.
@@ -368,6 +431,40 @@ fn purge_queue(body: &Value) -> Result<Request, Fault>
     Ok(Request::PurgeQueue { queue })
 }
 
+/// Reads a deletion of a queue.
+fn delete_queue(body: &Value) -> Result<Request, Fault>
+    ensures { result ≡ asked_of_row delete_queue (view body.now) }
+{
+    if !has_kind(body, "QueueUrl", Kind::Text) {
+        return Err(Fault::SerializationException);
+    }
+    let queue = named_queue(text_in(body, "QueueUrl"))?;
+    Ok(Request::DeleteQueue { queue })
+}
+
+/// Reads a request for a queue's URL.
+fn get_queue_url(body: &Value) -> Result<Request, Fault>
+    ensures { result ≡ asked_of_row get_queue_url (view body.now) }
+{
+    if !has_kind(body, "QueueName", Kind::Text) {
+        return Err(Fault::SerializationException);
+    }
+    let name = known_name(text_in(body, "QueueName"))?;
+    Ok(Request::GetQueueUrl { name })
+}
+
+/// Reads a request for the URLs of queues.
+fn list_queues(alloc: Global, body: &Value) -> Result<Request, Fault>
+    ensures { Meets result (asked_of_row list_queues (view body.now)) }
+{
+    if !has_kind(body, "QueueNamePrefix", Kind::Text) {
+        return Err(Fault::SerializationException);
+    }
+    let text = text_in(body, "QueueNamePrefix").unwrap_or("");
+    let prefix = Prefix::new(alloc, text)?;
+    Ok(Request::ListQueues { prefix })
+}
+
 /// Whether the members of a send have their kinds.
 fn has_send_kinds(body: &Value) -> bool
     ensures { result ≡ have_kinds send_message.columns (view body.now) }
@@ -491,7 +588,7 @@ fn get_queue_attributes(body: &Value) -> Result<Request, Fault>
         return Err(Fault::SerializationException);
     }
     let queue = named_queue(text_in(body, "QueueUrl"))?;
-    let names = asked_counts(items_in(body, "AttributeNames"))?;
+    let names = asked_attribute_names(items_in(body, "AttributeNames"))?;
     Ok(Request::GetQueueAttributes { queue, names })
 }
 
@@ -527,6 +624,9 @@ pub fn parse(alloc: Global, action: &str, body: &[u8]) -> Result<Request, Fault>
         "GetQueueAttributes" => get_queue_attributes(&read_object(alloc, body)?),
         "SetQueueAttributes" => set_queue_attributes(alloc, &read_object(alloc, body)?),
         "PurgeQueue" => purge_queue(&read_object(alloc, body)?),
+        "DeleteQueue" => delete_queue(&read_object(alloc, body)?),
+        "GetQueueUrl" => get_queue_url(&read_object(alloc, body)?),
+        "ListQueues" => list_queues(alloc, &read_object(alloc, body)?),
         "ReceiveMessage" => receive_message(alloc, &read_object(alloc, body)?),
         "DeleteMessage" => delete_message(&read_object(alloc, body)?),
         "ChangeMessageVisibility" => change_message_visibility(&read_object(alloc, body)?),

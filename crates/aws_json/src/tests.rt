@@ -3,37 +3,14 @@
 
 use super::*;
 use crate::tests_of_replies::offered;
-use journal::Ticks;
+use crate::tests_of_requests::told_request;
+use journal::{Moment, Ticks};
 use message::{Attribute, AttributeValue, Content, Fault, MessageId, QueueName};
 use queue_config::{Settings, Wish};
-use queue_core::Delay;
-use receipt_handle::Handle;
+use queue_core::{Gauges, Look};
 use std::alloc::Global;
 use std::process::Abort;
 use std::test::Fail;
-
-/// The actions that are served.
-pub(crate) const SERVED: [&str; 11] = [
-    "CreateQueue",
-    "SendMessage",
-    "GetQueueAttributes",
-    "SetQueueAttributes",
-    "PurgeQueue",
-    "ReceiveMessage",
-    "DeleteMessage",
-    "ChangeMessageVisibility",
-    "SendMessageBatch",
-    "DeleteMessageBatch",
-    "ChangeMessageVisibilityBatch",
-];
-
-/// Asserts that each of the bodies is refused so.
-pub(crate) fn refuses(rt: &impl Abort, alloc: Global, action: &str, fault: Fault, bodies: &[&str]) {
-    for body in bodies {
-        let answer = parse(alloc, action, body.as_bytes());
-        assert_eq!(rt; answer.err(), Some(fault), "{action} {body}");
-    }
-}
 
 /// The settings that a queue of the defaults gets: delay, timeout, retention, wait and size.
 pub(crate) fn settings(wish: &Wish) -> (u16, u32, u32, u16, u32) {
@@ -47,12 +24,61 @@ pub(crate) fn settings(wish: &Wish) -> (u16, u32, u32, u16, u32) {
     )
 }
 
-pub(crate) fn counts(visible: bool, delayed: bool, in_flight: bool) -> CountNames {
-    CountNames {
+/// The names of the three counts, where they are asked for, and no other name of a queue.
+pub(crate) fn counts(visible: bool, delayed: bool, in_flight: bool) -> AttributeNames {
+    AttributeNames {
         visible,
         delayed,
         in_flight,
+        created: false,
+        modified: false,
+        arn: false,
+        delay: false,
+        timeout: false,
+        retention: false,
+        wait: false,
+        size: false,
     }
+}
+
+/// Every name of a queue's attributes.
+pub(crate) fn every_name() -> AttributeNames {
+    AttributeNames {
+        created: true,
+        modified: true,
+        arn: true,
+        delay: true,
+        timeout: true,
+        retention: true,
+        wait: true,
+        size: true,
+        ..counts(true, true, true)
+    }
+}
+
+/// A look at a queue with these counts, whose other numbers are all different.
+pub(crate) fn look(visible: u64, delayed: u64, in_flight: u64) -> Result<Look, Fail> {
+    let settings = Settings {
+        delay_seconds: 1,
+        visibility_timeout: 2,
+        retention_seconds: 61,
+        wait_seconds: 3,
+        maximum_message_size: 1025,
+    };
+    Ok(Look {
+        gauges: Gauges {
+            visible,
+            delayed,
+            in_flight,
+            age: 8,
+        },
+        settings,
+        created: Moment::new(4999).ok_or("a time in range")?,
+        modified: Moment::new(5000).ok_or("a time in range")?,
+        lines: 6,
+        clock: Moment::new(7000).ok_or("a time in range")?,
+        closed: false,
+    })
 }
 
 /// The sender, the moment sent, the count, the first receive and the source, where they are asked
@@ -69,7 +95,7 @@ pub(crate) fn asked(names: [bool; 5]) -> ReceiveNames {
 }
 
 /// Attributes as a text: of each its name, its type and its value.
-pub(crate) fn told(alloc: Global, attributes: &[Attribute]) -> Result<String, Fail> {
+pub(crate) fn told(alloc: Global, attributes: &[Attribute]) -> Result<String, Fault> {
     let mut text = String::new(alloc);
     for attribute in attributes {
         let one = format!(in alloc;
@@ -77,15 +103,6 @@ pub(crate) fn told(alloc: Global, attributes: &[Attribute]) -> Result<String, Fa
             attribute.name, attribute.kind, attribute.value
         )?;
         text.push_str(one.as_str())?;
-    }
-    Ok(text)
-}
-
-/// A text of so many letters.
-pub(crate) fn letters(alloc: Global, count: usize) -> Result<String, Fault> {
-    let mut text = String::new(alloc);
-    for _ in 0..count {
-        text.push('a')?;
     }
     Ok(text)
 }
@@ -127,24 +144,28 @@ pub(crate) fn plain(alloc: Global, body: &str) -> Result<Content, Fault> {
     Content::new(alloc, String::from_str(alloc, body)?, Vec::new(alloc))
 }
 
-/// The names of message attributes that a receive gives.
-pub(crate) fn patterns(alloc: Global, texts: &[&str]) -> Result<Patterns, Fault> {
+/// The names of message attributes that a receive gives, one a line.
+pub(crate) fn patterns(alloc: Global, texts: &str) -> Result<Patterns, Fault> {
     let mut patterns = Patterns::new(alloc);
-    for text in texts {
+    for text in texts.lines() {
         patterns.push(String::from_str(alloc, text)?)?;
     }
     Ok(patterns)
 }
 
-/// What the call gives when it is made, or, where memory ran out, when it is made again.
-fn parse_again(alloc: Global, action: &str, body: &str) -> Result<Request, Fault> {
-    match parse(alloc, action, body.as_bytes()) {
-        Err(Fault::OutOfMemory) => parse(alloc, action, body.as_bytes()),
+/// What is read of an action and a body, as a text, each call made again where memory ran out.
+fn told_again(alloc: Global, action: &str, body: &str) -> Result<String, Fault> {
+    let request = match parse(alloc, action, body.as_bytes()) {
+        Err(Fault::OutOfMemory) => parse(alloc, action, body.as_bytes())?,
+        answer => answer?,
+    };
+    match told_request(alloc, &request) {
+        Err(Fault::OutOfMemory) => told_request(alloc, &request),
         answer => answer,
     }
 }
 
-/// The same of a reply.
+/// The text of a reply, or, where memory ran out, what the same call gives again.
 fn reply_again(alloc: Global, shape: &ReplyShape) -> Result<String, Fault> {
     match reply_text(alloc, shape) {
         Err(Fault::OutOfMemory) => reply_text(alloc, shape),
@@ -158,197 +179,89 @@ fn reply_again(alloc: Global, shape: &ReplyShape) -> Result<String, Fault> {
 #[test]
 fn refused_memory(rt: HostRuntime) -> Result<(), Fail> {
     let alloc = rt.alloc();
-    refused_wishes(&rt, alloc)?;
-    refused_names(&rt, alloc)?;
-    refused_handles(&rt, alloc)?;
+    for line in REQUESTS.lines() {
+        let (request, wanted) = line.split_once(" => ").ok_or("what is read of it")?;
+        let (action, body) = request.split_once(' ').ok_or("an action and a body")?;
+        let told = told_again(alloc, action, body)?;
+        assert_eq!(rt; told.as_str(), wanted, "{action}");
+    }
     refused_sends(&rt, alloc)?;
-    refused_attributes(&rt, alloc)?;
-    refused_batches(&rt, alloc)?;
-    refused_counts(&rt, alloc)?;
+    refused_queue_replies(&rt, alloc)?;
     refused_messages(&rt, alloc, &mut Ticks::new(&rt))?;
     refused_batch_replies(&rt, alloc)
 }
 
-/// Requests of settings.
-fn refused_wishes(rt: &impl Abort, alloc: Global) -> Result<(), Fail> {
-    let body = r#"{"QueueName":"jobs","Attributes":{"VisibilityTimeout":"5"}}"#;
-    match parse_again(alloc, "CreateQueue", body)? {
-        Request::CreateQueue { wish, .. } => {
-            assert_eq!(rt; settings(&wish), (0, 5, 345_600, 0, 262_144));
-        }
-        other => assert!(rt; false, "{other:?}"),
-    }
-    let body = r#"{"QueueUrl":"jobs","Attributes":{"DelaySeconds":"5"}}"#;
-    match parse_again(alloc, "SetQueueAttributes", body)? {
-        Request::SetQueueAttributes { wish, .. } => {
-            assert_eq!(rt; settings(&wish), (5, 30, 345_600, 0, 262_144));
-        }
-        other => assert!(rt; false, "{other:?}"),
-    }
-    let body = r#"{"QueueUrl":"jobs"}"#;
-    match parse_again(alloc, "PurgeQueue", body)? {
-        Request::PurgeQueue { queue } => assert_eq!(rt; queue.as_text(), "jobs"),
-        other => assert!(rt; false, "{other:?}"),
-    }
-    Ok(())
-}
+/// Requests: of each its action, its body, and what is read of it.
+const REQUESTS: &str =
+    r#"CreateQueue {"QueueName":"jobs","Attributes":{"VisibilityTimeout":"5"}} => jobs 0 5 345600 0 262144
+SetQueueAttributes {"QueueUrl":"jobs","Attributes":{"DelaySeconds":"5"}} => jobs 5 30 345600 0 262144
+PurgeQueue {"QueueUrl":"jobs"} => jobs
+DeleteQueue {"QueueUrl":"jobs"} => jobs
+GetQueueUrl {"QueueName":"jobs"} => jobs
+ListQueues {"QueueNamePrefix":"jo"} => "jo"
+GetQueueAttributes {"QueueUrl":"jobs","AttributeNames":["ApproximateNumberOfMessages"]} => jobs 10000000000
+ReceiveMessage {"QueueUrl":"jobs","MaxNumberOfMessages":2,"AttributeNames":["SenderId"],"MessageAttributeNames":["b","foo.*"]} => jobs 2 None None 10000 Patterns { texts: ["b", "foo.*"] }
+DeleteMessage {"QueueUrl":"jobs","ReceiptHandle":"000000000000000100000000000000020000000000000003"} => jobs 1.2.3
+ChangeMessageVisibility {"QueueUrl":"jobs","ReceiptHandle":"000000000000000100000000000000020000000000000003","VisibilityTimeout":4} => jobs 1.2.3 4
+SendMessage {"QueueUrl":"jobs","MessageBody":"hello","DelaySeconds":7} => jobs "hello" Some(7) []
+SendMessage {"QueueUrl":"jobs","MessageBody":"hello","MessageAttributes":{"b":{"DataType":"String","StringValue":"x"},"a":{"DataType":"Binary","BinaryValue":"AA=="}}} => jobs "hello" None [a Binary Binary([0]);b String Text("x");]
+SendMessageBatch {"QueueUrl":"jobs","Entries":[{"Id":"a","MessageBody":"hello","MessageAttributes":{"b":{"DataType":"String","StringValue":"x"},"a":{"DataType":"Binary","BinaryValue":"AA=="}}},{"Id":"b","MessageBody":"\u0001"}]} => jobs [a "hello" None [a Binary Binary([0]);b String Text("x");]] [b InvalidMessageContents]
+DeleteMessageBatch {"QueueUrl":"jobs","Entries":[{"Id":"a","ReceiptHandle":"z"},{"Id":"b","ReceiptHandle":"000000000000000100000000000000020000000000000003"}]} => jobs [a ReceiptHandleIsInvalid] [b 1.2.3]
+ChangeMessageVisibilityBatch {"QueueUrl":"jobs","Entries":[{"Id":"a","ReceiptHandle":"000000000000000100000000000000020000000000000003","VisibilityTimeout":4},{"Id":"b","ReceiptHandle":"z","VisibilityTimeout":4}]} => jobs [a 1.2.3 4] [b ReceiptHandleIsInvalid]
+"#;
 
-/// Requests with names of counts and of attributes.
-fn refused_names(rt: &impl Abort, alloc: Global) -> Result<(), Fail> {
-    let body = r#"{"QueueUrl":"jobs","AttributeNames":["ApproximateNumberOfMessages"]}"#;
-    match parse_again(alloc, "GetQueueAttributes", body)? {
-        Request::GetQueueAttributes { names, .. } => {
-            assert_eq!(rt; names, Some(counts(true, false, false)));
-        }
-        other => assert!(rt; false, "{other:?}"),
-    }
-    let body =
-        r#"{"QueueUrl":"jobs","MaxNumberOfMessages":2,"AttributeNames":["SenderId"],"MessageAttributeNames":["b","foo.*"]}"#;
-    match parse_again(alloc, "ReceiveMessage", body)? {
-        Request::ReceiveMessage {
-            maximum,
-            names,
-            attributes,
-            ..
-        } => {
-            assert_eq!(rt; maximum.messages(), 2);
-            assert_eq!(rt; names, asked([true, false, false, false, false]));
-            assert!(rt; attributes.asks("b") && attributes.asks("foobar") && !attributes.asks("c"));
-        }
-        other => assert!(rt; false, "{other:?}"),
-    }
-    Ok(())
-}
-
-/// The two requests with a handle.
-fn refused_handles(rt: &impl Abort, alloc: Global) -> Result<(), Fail> {
-    let body =
-        r#"{"QueueUrl":"jobs","ReceiptHandle":"000000000000000100000000000000020000000000000003","VisibilityTimeout":4}"#;
-    let wanted = Handle {
-        uid: 1,
-        number: 2,
-        receipt: 3,
-    };
-    match parse_again(alloc, "DeleteMessage", body)? {
-        Request::DeleteMessage { handle, .. } => assert_eq!(rt; handle, wanted),
-        other => assert!(rt; false, "{other:?}"),
-    }
-    match parse_again(alloc, "ChangeMessageVisibility", body)? {
-        Request::ChangeMessageVisibility {
-            handle,
-            timeout,
-            ..
-        } => {
-            assert_eq!(rt; handle, wanted);
-            assert_eq!(rt; timeout.seconds(), 4);
-        }
-        other => assert!(rt; false, "{other:?}"),
-    }
-    Ok(())
-}
-
-/// A send, and what it and a creation are answered.
+/// What two sends are answered, without attributes and with them, and a creation.
 fn refused_sends(rt: &impl Abort, alloc: Global) -> Result<(), Fail> {
-    let body = r#"{"QueueUrl":"jobs","MessageBody":"hello","DelaySeconds":7}"#;
-    match parse_again(alloc, "SendMessage", body)? {
-        Request::SendMessage {
-            queue,
-            content,
-            delay,
-        } => {
-            assert_eq!(rt; delay.map(|delay: Delay| delay.seconds()), Some(7));
-            let url = reply_again(alloc, &ReplyShape::QueueUrl(queue))?;
-            assert_eq!(rt;
-                url.as_str(),
-                r#"{"QueueUrl":"http://localhost:9324/000000000000/jobs"}"#
-            );
-            let id = MessageId { uid: 1, number: 0 };
-            let sent = reply_again(alloc, &ReplyShape::Sent { content, id })?;
-            assert_eq!(rt;
-                sent.as_str(),
-                r#"{"MD5OfMessageBody":"5d41402abc4b2a76b9719d911017c592","MessageId":"00000000-0000-0001-0000-000000000000"}"#
-            );
-        }
-        other => assert!(rt; false, "{other:?}"),
-    }
-    Ok(())
-}
-
-/// A send with attributes, and what it is answered.
-fn refused_attributes(rt: &impl Abort, alloc: Global) -> Result<(), Fail> {
-    let body =
-        r#"{"QueueUrl":"jobs","MessageBody":"hello","MessageAttributes":{"b":{"DataType":"String","StringValue":"x"},"a":{"DataType":"Binary","BinaryValue":"AA=="}}}"#;
-    match parse_again(alloc, "SendMessage", body)? {
-        Request::SendMessage { content, .. } => {
-            let id = MessageId { uid: 1, number: 0 };
-            let sent = reply_again(alloc, &ReplyShape::Sent { content, id })?;
-            assert_eq!(rt;
-                sent.as_str(),
-                r#"{"MD5OfMessageAttributes":"2cc23ebbcef47291d79349d5c0a33a94","MD5OfMessageBody":"5d41402abc4b2a76b9719d911017c592","MessageId":"00000000-0000-0001-0000-000000000000"}"#
-            );
-        }
-        other => assert!(rt; false, "{other:?}"),
-    }
-    Ok(())
-}
-
-/// Batches: the faults of their entries are those of ample memory.
-fn refused_batches(rt: &impl Abort, alloc: Global) -> Result<(), Fail> {
-    let contents = Some(Fault::InvalidMessageContents);
-    let handle = Some(Fault::ReceiptHandleIsInvalid);
-    let table = [
-        (
-            "SendMessageBatch",
-            r#"{"QueueUrl":"jobs","Entries":[{"Id":"a","MessageBody":"hello","MessageAttributes":{"b":{"DataType":"String","StringValue":"x"},"a":{"DataType":"Binary","BinaryValue":"AA=="}}},{"Id":"b","MessageBody":"\u0001"}]}"#,
-            [None, contents],
-        ),
-        (
-            "DeleteMessageBatch",
-            r#"{"QueueUrl":"jobs","Entries":[{"Id":"a","ReceiptHandle":"z"},{"Id":"b","ReceiptHandle":"000000000000000100000000000000020000000000000003"}]}"#,
-            [handle, None],
-        ),
-        (
-            "ChangeMessageVisibilityBatch",
-            r#"{"QueueUrl":"jobs","Entries":[{"Id":"a","ReceiptHandle":"000000000000000100000000000000020000000000000003","VisibilityTimeout":4},{"Id":"b","ReceiptHandle":"z"}]}"#,
-            [None, handle],
-        ),
-    ];
-    for (action, body, faults) in table {
-        match parse_again(alloc, action, body)? {
-            Request::Batch { entries, .. } => {
-                assert_eq!(rt; entries.as_slice().len(), 2, "{action}");
-                for (entry, fault) in entries.as_slice().iter().zip(faults.iter()) {
-                    assert_eq!(rt; entry_fault(entry), *fault, "{action}");
-                }
-            }
-            other => assert!(rt; false, "{other:?}"),
-        }
-    }
-    Ok(())
-}
-
-/// The fault of an entry, where it has one of its own.
-pub(crate) fn entry_fault(entry: &BatchEntry) -> Option<Fault> {
-    match &entry.command {
-        Ok(_) => None,
-        Err(fault) => Some(*fault),
-    }
-}
-
-/// Counts, and an empty reply.
-fn refused_counts(rt: &impl Abort, alloc: Global) -> Result<(), Fail> {
-    let shape = ReplyShape::Counts {
-        names: Some(counts(true, true, true)),
-        visible: 1,
-        delayed: 2,
-        in_flight: 3,
+    let content = match plain(alloc, "hello") {
+        Err(Fault::OutOfMemory) => plain(alloc, "hello")?,
+        content => content?,
     };
-    let text =
-        r#"{"Attributes":{"ApproximateNumberOfMessages":"1","ApproximateNumberOfMessagesDelayed":"2","ApproximateNumberOfMessagesNotVisible":"3"}}"#;
+    let id = MessageId { uid: 1, number: 0 };
+    let sent = reply_again(alloc, &ReplyShape::Sent { content, id })?;
+    assert_eq!(rt;
+        sent.as_str(),
+        r#"{"MD5OfMessageBody":"5d41402abc4b2a76b9719d911017c592","MessageId":"00000000-0000-0001-0000-000000000000"}"#
+    );
+    let content = match letter_pair(alloc, "hello") {
+        Err(Fault::OutOfMemory) => letter_pair(alloc, "hello")?,
+        content => content?,
+    };
+    let sent = reply_again(alloc, &ReplyShape::Sent { content, id })?;
+    assert_eq!(rt;
+        sent.as_str(),
+        r#"{"MD5OfMessageAttributes":"2cc23ebbcef47291d79349d5c0a33a94","MD5OfMessageBody":"5d41402abc4b2a76b9719d911017c592","MessageId":"00000000-0000-0001-0000-000000000000"}"#
+    );
+    let url = reply_again(alloc, &ReplyShape::QueueUrl(QueueName::read("jobs")?))?;
+    assert_eq!(rt;
+        url.as_str(),
+        r#"{"QueueUrl":"http://localhost:9324/000000000000/jobs"}"#
+    );
+    Ok(())
+}
+
+/// Attributes of a queue, URLs, and an empty reply.
+fn refused_queue_replies(rt: &impl Abort, alloc: Global) -> Result<(), Fail> {
+    let shape = ReplyShape::Attributes {
+        names: Some(every_name()),
+        queue: QueueName::read("jobs")?,
+        look: look(1, 2, 3)?,
+    };
+    assert_eq!(rt; reply_again(alloc, &shape)?.as_str(), EVERY_ATTRIBUTE);
+    let mut names = Vec::new(alloc);
+    let name = QueueName::read("jobs")?;
+    if names.push(name).is_err() {
+        names.push(name)?;
+    }
+    let shape = ReplyShape::QueueUrls(QueueNames::new(names));
+    let text = r#"{"QueueUrls":["http://localhost:9324/000000000000/jobs"]}"#;
     assert_eq!(rt; reply_again(alloc, &shape)?.as_str(), text);
     assert_eq!(rt; reply_again(alloc, &ReplyShape::Nothing)?.as_str(), "{}");
     Ok(())
 }
+
+/// All attributes of the queue jobs at the look of [`look`] with the counts 1, 2 and 3.
+pub(crate) const EVERY_ATTRIBUTE: &str =
+    r#"{"Attributes":{"ApproximateNumberOfMessages":"1","ApproximateNumberOfMessagesDelayed":"2","ApproximateNumberOfMessagesNotVisible":"3","CreatedTimestamp":"4","DelaySeconds":"1","LastModifiedTimestamp":"5","MaximumMessageSize":"1025","MessageRetentionPeriod":"61","QueueArn":"arn:aws:sqs:elasticmq:000000000000:jobs","ReceiveMessageWaitTimeSeconds":"3","VisibilityTimeout":"2"}}"#;
 
 /// What a receive is answered of a message with attributes.
 fn refused_messages(rt: &impl Abort, alloc: Global, ticks: &mut Ticks) -> Result<(), Fail> {
@@ -367,7 +280,7 @@ fn received(alloc: Global, ticks: &mut Ticks) -> Result<ReplyShape, Fault> {
     Ok(ReplyShape::Messages {
         uid: 1,
         names: asked([true, true, true, true, true]),
-        attributes: patterns(alloc, &["All"])?,
+        attributes: patterns(alloc, "All")?,
         offers: offered(alloc, vec![in alloc; letter_pair(alloc, "hello")?]?, ticks)?,
     })
 }
@@ -391,9 +304,9 @@ fn answered(alloc: Global) -> Result<ReplyShape, Fault> {
         id: MessageId { uid: 1, number: 0 },
     };
     let mut answers = BatchAnswers::new(alloc);
-    answers.push(answer("a", Ok(sent))?)?;
-    answers.push(answer("b", Err(Fault::JournalFull))?)?;
-    answers.push(answer("c", Ok(EntryReply::Done))?)?;
+    answers.push(alloc, answer("a", Ok(sent))?)?;
+    answers.push(alloc, answer("b", Err(Fault::JournalFull))?)?;
+    answers.push(alloc, answer("c", Ok(EntryReply::Done))?)?;
     Ok(ReplyShape::Batch(answers))
 }
 

@@ -3,7 +3,8 @@
 
 use super::*;
 use crate::tests::{
-    answer, asked, counts, letter_pair, patterns, plain, text_attribute, zero_attribute,
+    EVERY_ATTRIBUTE, answer, asked, counts, every_name, letter_pair, look, patterns, plain,
+    text_attribute, zero_attribute,
 };
 use journal::{Moment, Ticks};
 use message::{Content, Fault, MessageId, QueueName};
@@ -32,101 +33,60 @@ pub(crate) fn offered(
     queue.receive(alloc, received, 10, None, ticks)
 }
 
-/// The statuses and texts of the table of refusals in docs/PROFILE.md.
+/// The refusals, each with its status and text, in the order of the table in docs/PROFILE.md.
+const REFUSALS: &str =
+    r#"400 {"__type":"com.amazonaws.sqs#QueueDoesNotExist","message":"The specified queue does not exist."}
+400 {"__type":"com.amazonaws.sqs#QueueNameExists","message":"A queue of this name exists with other attributes."}
+400 {"__type":"com.amazonaws.sqs#InvalidAttributeName","message":"Unknown attribute name."}
+400 {"__type":"com.amazonaws.sqs#InvalidAttributeValue","message":"Attribute value not allowed."}
+400 {"__type":"com.amazonaws.sqs#InvalidParameterValue","message":"Parameter value not allowed."}
+400 {"__type":"com.amazonaws.sqs#InvalidMessageContents","message":"Characters not allowed in the message."}
+400 {"__type":"com.amazonaws.sqs#ReceiptHandleIsInvalid","message":"The receipt handle is not valid."}
+400 {"__type":"com.amazonaws.sqs#MessageNotInflight","message":"The message is not in flight."}
+400 {"__type":"com.amazonaws.sqs#OverLimit","message":"A limit is reached."}
+400 {"__type":"com.amazonaws.sqs#EmptyBatchRequest","message":"The batch has no entries."}
+400 {"__type":"com.amazonaws.sqs#TooManyEntriesInBatchRequest","message":"The batch has more than 10 entries."}
+400 {"__type":"com.amazonaws.sqs#BatchEntryIdsNotDistinct","message":"Two entries have the same id."}
+400 {"__type":"com.amazonaws.sqs#InvalidBatchEntryId","message":"An entry id is not allowed."}
+400 {"__type":"com.amazonaws.sqs#BatchRequestTooLong","message":"The batch is too long."}
+400 {"__type":"com.amazonaws.sqs#UnsupportedOperation","message":"The action is not supported."}
+400 {"__type":"com.amazonaws.sqs#SerializationException","message":"The request cannot be read."}
+500 {"__type":"com.amazonaws.sqs#JournalFull","message":"The journal of the queue is full."}
+500 {"__type":"com.amazonaws.sqs#OutOfMemory","message":"Out of memory."}
+500 {"__type":"com.amazonaws.sqs#Spent","message":"The desk is spent."}
+500 {"__type":"com.amazonaws.sqs#ActorGone","message":"The queue has stopped."}
+"#;
+
 #[test]
-fn refusals(rt: HostRuntime) {
-    let of_clients = [
-        (
-            Fault::QueueDoesNotExist,
-            r#"{"__type":"com.amazonaws.sqs#QueueDoesNotExist","message":"The specified queue does not exist."}"#,
-        ),
-        (
-            Fault::QueueNameExists,
-            r#"{"__type":"com.amazonaws.sqs#QueueNameExists","message":"A queue of this name exists with other attributes."}"#,
-        ),
-        (
-            Fault::InvalidAttributeName,
-            r#"{"__type":"com.amazonaws.sqs#InvalidAttributeName","message":"Unknown attribute name."}"#,
-        ),
-        (
-            Fault::InvalidAttributeValue,
-            r#"{"__type":"com.amazonaws.sqs#InvalidAttributeValue","message":"Attribute value not allowed."}"#,
-        ),
-        (
-            Fault::InvalidParameterValue,
-            r#"{"__type":"com.amazonaws.sqs#InvalidParameterValue","message":"Parameter value not allowed."}"#,
-        ),
-        (
-            Fault::InvalidMessageContents,
-            r#"{"__type":"com.amazonaws.sqs#InvalidMessageContents","message":"Characters not allowed in the message."}"#,
-        ),
-        (
-            Fault::ReceiptHandleIsInvalid,
-            r#"{"__type":"com.amazonaws.sqs#ReceiptHandleIsInvalid","message":"The receipt handle is not valid."}"#,
-        ),
-        (
-            Fault::MessageNotInflight,
-            r#"{"__type":"com.amazonaws.sqs#MessageNotInflight","message":"The message is not in flight."}"#,
-        ),
-        (
-            Fault::OverLimit,
-            r#"{"__type":"com.amazonaws.sqs#OverLimit","message":"A limit is reached."}"#,
-        ),
-        (
-            Fault::EmptyBatchRequest,
-            r#"{"__type":"com.amazonaws.sqs#EmptyBatchRequest","message":"The batch has no entries."}"#,
-        ),
-        (
-            Fault::TooManyEntriesInBatchRequest,
-            r#"{"__type":"com.amazonaws.sqs#TooManyEntriesInBatchRequest","message":"The batch has more than 10 entries."}"#,
-        ),
-        (
-            Fault::BatchEntryIdsNotDistinct,
-            r#"{"__type":"com.amazonaws.sqs#BatchEntryIdsNotDistinct","message":"Two entries have the same id."}"#,
-        ),
-        (
-            Fault::InvalidBatchEntryId,
-            r#"{"__type":"com.amazonaws.sqs#InvalidBatchEntryId","message":"An entry id is not allowed."}"#,
-        ),
-        (
-            Fault::BatchRequestTooLong,
-            r#"{"__type":"com.amazonaws.sqs#BatchRequestTooLong","message":"The batch is too long."}"#,
-        ),
-        (
-            Fault::UnsupportedOperation,
-            r#"{"__type":"com.amazonaws.sqs#UnsupportedOperation","message":"The action is not supported."}"#,
-        ),
-        (
-            Fault::SerializationException,
-            r#"{"__type":"com.amazonaws.sqs#SerializationException","message":"The request cannot be read."}"#,
-        ),
+fn refusals(rt: HostRuntime) -> Result<(), Fail> {
+    let faults = [
+        Fault::QueueDoesNotExist,
+        Fault::QueueNameExists,
+        Fault::InvalidAttributeName,
+        Fault::InvalidAttributeValue,
+        Fault::InvalidParameterValue,
+        Fault::InvalidMessageContents,
+        Fault::ReceiptHandleIsInvalid,
+        Fault::MessageNotInflight,
+        Fault::OverLimit,
+        Fault::EmptyBatchRequest,
+        Fault::TooManyEntriesInBatchRequest,
+        Fault::BatchEntryIdsNotDistinct,
+        Fault::InvalidBatchEntryId,
+        Fault::BatchRequestTooLong,
+        Fault::UnsupportedOperation,
+        Fault::SerializationException,
+        Fault::JournalFull,
+        Fault::OutOfMemory,
+        Fault::Spent,
+        Fault::ActorGone,
     ];
-    for (fault, text) in of_clients {
-        assert_eq!(rt; status(fault), 400, "{fault:?}");
-        assert_eq!(rt; fault_text(fault), text, "{fault:?}");
+    for (fault, line) in faults.iter().zip(REFUSALS.lines()) {
+        let told = format!(in rt.alloc(); "{} {}", status(*fault), fault_text(*fault))?;
+        assert_eq!(rt; told.as_str(), line);
     }
-    let of_servers = [
-        (
-            Fault::JournalFull,
-            r#"{"__type":"com.amazonaws.sqs#JournalFull","message":"The journal of the queue is full."}"#,
-        ),
-        (
-            Fault::OutOfMemory,
-            r#"{"__type":"com.amazonaws.sqs#OutOfMemory","message":"Out of memory."}"#,
-        ),
-        (
-            Fault::Spent,
-            r#"{"__type":"com.amazonaws.sqs#Spent","message":"The desk is spent."}"#,
-        ),
-        (
-            Fault::ActorGone,
-            r#"{"__type":"com.amazonaws.sqs#ActorGone","message":"The queue has stopped."}"#,
-        ),
-    ];
-    for (fault, text) in of_servers {
-        assert_eq!(rt; status(fault), 500, "{fault:?}");
-        assert_eq!(rt; fault_text(fault), text, "{fault:?}");
-    }
+    assert_eq!(rt; REFUSALS.lines().count(), faults.len());
+    Ok(())
 }
 
 /// The texts of replies, in the order of their keys.
@@ -145,31 +105,63 @@ fn replies(rt: HostRuntime) -> Result<(), Fail> {
         r#"{"MD5OfMessageBody":"5d41402abc4b2a76b9719d911017c592","MessageId":"00000000-0000-0001-0000-00000000001f"}"#;
     assert_eq!(rt; reply_text(alloc, &sent)?.as_str(), text);
 
-    let table = [
-        (None, "{}"),
-        (Some(counts(false, false, false)), r#"{"Attributes":{}}"#),
-        (
-            Some(counts(true, false, false)),
-            r#"{"Attributes":{"ApproximateNumberOfMessages":"7"}}"#,
-        ),
-        (
-            Some(counts(false, true, true)),
-            r#"{"Attributes":{"ApproximateNumberOfMessagesDelayed":"0","ApproximateNumberOfMessagesNotVisible":"18446744073709551615"}}"#,
-        ),
-        (
-            Some(counts(true, true, true)),
-            r#"{"Attributes":{"ApproximateNumberOfMessages":"7","ApproximateNumberOfMessagesDelayed":"0","ApproximateNumberOfMessagesNotVisible":"18446744073709551615"}}"#,
-        ),
-    ];
-    for (names, text) in table {
-        let shape = ReplyShape::Counts {
-            names,
-            visible: 7,
-            delayed: 0,
-            in_flight: u64::MAX,
-        };
-        assert_eq!(rt; reply_text(alloc, &shape)?.as_str(), text);
-    }
+    tells_counts(&rt, alloc, None, "{}")?;
+    let none = Some(counts(false, false, false));
+    tells_counts(&rt, alloc, none, r#"{"Attributes":{}}"#)?;
+    let visible = Some(counts(true, false, false));
+    let text = r#"{"Attributes":{"ApproximateNumberOfMessages":"7"}}"#;
+    tells_counts(&rt, alloc, visible, text)?;
+    let others = Some(counts(false, true, true));
+    let text =
+        r#"{"Attributes":{"ApproximateNumberOfMessagesDelayed":"0","ApproximateNumberOfMessagesNotVisible":"18446744073709551615"}}"#;
+    tells_counts(&rt, alloc, others, text)?;
+    let all = Some(counts(true, true, true));
+    let text =
+        r#"{"Attributes":{"ApproximateNumberOfMessages":"7","ApproximateNumberOfMessagesDelayed":"0","ApproximateNumberOfMessagesNotVisible":"18446744073709551615"}}"#;
+    tells_counts(&rt, alloc, all, text)
+}
+
+/// Asserts what a client is told of a queue of 7 visible messages, none delayed, and the most in flight
+/// that a count can say.
+fn tells_counts(
+    rt: &impl Abort,
+    alloc: Global,
+    names: Option<AttributeNames>,
+    text: &str,
+) -> Result<(), Fail> {
+    let shape = ReplyShape::Attributes {
+        names,
+        queue: QueueName::read("jobs")?,
+        look: look(7, 0, u64::MAX)?,
+    };
+    assert_eq!(rt; reply_text(alloc, &shape)?.as_str(), text);
+    Ok(())
+}
+
+/// Every attribute of a queue, and the times in whole seconds.
+#[test]
+fn attributes_of_queues(rt: HostRuntime) -> Result<(), Fail> {
+    let alloc = rt.alloc();
+    let shape = ReplyShape::Attributes {
+        names: Some(every_name()),
+        queue: QueueName::read("jobs")?,
+        look: look(1, 2, 3)?,
+    };
+    assert_eq!(rt; reply_text(alloc, &shape)?.as_str(), EVERY_ATTRIBUTE);
+    Ok(())
+}
+
+/// The URLs of queues, in the order in which they are handed in, and of none.
+#[test]
+fn urls_of_queues(rt: HostRuntime) -> Result<(), Fail> {
+    let alloc = rt.alloc();
+    let shape = ReplyShape::QueueUrls(QueueNames::new(Vec::new(alloc)));
+    assert_eq!(rt; reply_text(alloc, &shape)?.as_str(), r#"{"QueueUrls":[]}"#);
+    let names = vec![in alloc; QueueName::read("b")?, QueueName::read("A-1")?]?;
+    let shape = ReplyShape::QueueUrls(QueueNames::new(names));
+    let text =
+        r#"{"QueueUrls":["http://localhost:9324/000000000000/b","http://localhost:9324/000000000000/A-1"]}"#;
+    assert_eq!(rt; reply_text(alloc, &shape)?.as_str(), text);
     Ok(())
 }
 
@@ -212,7 +204,7 @@ fn of_three(alloc: Global) -> Result<Content, Fault> {
 fn received_of_three(
     alloc: Global,
     names: [bool; 5],
-    texts: &[&str],
+    texts: &str,
     ticks: &mut Ticks,
 ) -> Result<String, Fault> {
     let shape = ReplyShape::Messages {
@@ -224,6 +216,23 @@ fn received_of_three(
     reply_text(alloc, &shape)
 }
 
+/// Asserts which message attributes of three a client is told that asks for those of these names, one
+/// a line.
+fn tells_selected(
+    rt: &impl Abort,
+    alloc: Global,
+    texts: &str,
+    members: &str,
+    ticks: &mut Ticks,
+) -> Result<(), Fail> {
+    let text = received_of_three(alloc, [false, false, false, false, false], texts, ticks)?;
+    let wanted = format!(in alloc;
+        "{{\"Messages\":[{{\"Body\":\"hi\",\"MD5OfBody\":\"49f68a5c8493ec2c0bf489821c21fc3b\",{members}\"MessageId\":\"00000000-0000-0001-0000-000000000000\",\"ReceiptHandle\":\"000000000000000100000000000000000000000000000001\"}}]}}"
+    )?;
+    assert_eq!(rt; text.as_str(), wanted.as_str(), "{texts:?}");
+    Ok(())
+}
+
 /// The message attributes that are asked for and the digest of those alone, computed with Python's
 /// `hashlib`; neither member where none is asked for.
 #[test]
@@ -232,33 +241,40 @@ fn selected_attributes(rt: HostRuntime) -> Result<(), Fail> {
     let ticks = &mut Ticks::new(&rt);
     let all =
         r#""MD5OfMessageAttributes":"e5738f32732d242c735c336cdf8787dc","MessageAttributes":{"b.c":{"BinaryValue":"AA==","DataType":"Binary"},"foo":{"DataType":"String","StringValue":"1"},"foobar":{"DataType":"Number","StringValue":"2"}},"#;
+    tells_selected(&rt, alloc, "All", all, ticks)?;
+    tells_selected(&rt, alloc, ".*", all, ticks)?;
+    tells_selected(&rt, alloc, "foobar\nb.c\nfoo", all, ticks)?;
+    tells_selected(&rt, alloc, "no\nb.*\nfoo.*", all, ticks)?;
     let two =
         r#""MD5OfMessageAttributes":"d0afc9d17a4f08dbdb7294b619864830","MessageAttributes":{"foo":{"DataType":"String","StringValue":"1"},"foobar":{"DataType":"Number","StringValue":"2"}},"#;
+    tells_selected(&rt, alloc, "foo.*", two, ticks)?;
+    tells_selected(&rt, alloc, "foo.*\nfoobar", two, ticks)?;
     let foo =
         r#""MD5OfMessageAttributes":"3cab606b9fbddd7cbcfb9e1d3a60f028","MessageAttributes":{"foo":{"DataType":"String","StringValue":"1"}},"#;
+    tells_selected(&rt, alloc, "foo", foo, ticks)?;
+    tells_selected(&rt, alloc, "foo\nfoo\nall", foo, ticks)?;
     let raw =
         r#""MD5OfMessageAttributes":"bbc858671861b8a7346479ba05b812c7","MessageAttributes":{"b.c":{"BinaryValue":"AA==","DataType":"Binary"}},"#;
-    let table: [(&[&str], &str); 12] = [
-        (&["All"], all),
-        (&[".*"], all),
-        (&["foobar", "b.c", "foo"], all),
-        (&["no", "b.*", "foo.*"], all),
-        (&["foo.*"], two),
-        (&["foo.*", "foobar"], two),
-        (&["foo"], foo),
-        (&["foo", "foo", "all"], foo),
-        (&["b.c"], raw),
-        (&["b.*"], raw),
-        (&["fo", "Foo", "*", "bar.*", ""], ""),
-        (&[], ""),
-    ];
-    for (texts, members) in table {
-        let text = received_of_three(alloc, [false, false, false, false, false], texts, ticks)?;
-        let wanted = format!(in alloc;
-            "{{\"Messages\":[{{\"Body\":\"hi\",\"MD5OfBody\":\"49f68a5c8493ec2c0bf489821c21fc3b\",{members}\"MessageId\":\"00000000-0000-0001-0000-000000000000\",\"ReceiptHandle\":\"000000000000000100000000000000000000000000000001\"}}]}}"
-        )?;
-        assert_eq!(rt; text.as_str(), wanted.as_str(), "{texts:?}");
-    }
+    tells_selected(&rt, alloc, "b.c", raw, ticks)?;
+    tells_selected(&rt, alloc, "b.*", raw, ticks)?;
+    tells_selected(&rt, alloc, "fo\nFoo\n*\nbar.*\n\n", "", ticks)?;
+    tells_selected(&rt, alloc, "", "", ticks)
+}
+
+/// Asserts which attributes that the queue gives a message a client is told that asks for these: the
+/// sender, the moment sent, the count, the first receive and the source.
+fn tells_given(
+    rt: &impl Abort,
+    alloc: Global,
+    names: [bool; 5],
+    members: &str,
+    ticks: &mut Ticks,
+) -> Result<(), Fail> {
+    let text = received_of_three(alloc, names, "foo", ticks)?;
+    let wanted = format!(in alloc;
+        "{{\"Messages\":[{{{members}\"Body\":\"hi\",\"MD5OfBody\":\"49f68a5c8493ec2c0bf489821c21fc3b\",\"MD5OfMessageAttributes\":\"3cab606b9fbddd7cbcfb9e1d3a60f028\",\"MessageAttributes\":{{\"foo\":{{\"DataType\":\"String\",\"StringValue\":\"1\"}}}},\"MessageId\":\"00000000-0000-0001-0000-000000000000\",\"ReceiptHandle\":\"000000000000000100000000000000000000000000000001\"}}]}}"
+    )?;
+    assert_eq!(rt; text.as_str(), wanted.as_str(), "{names:?}");
     Ok(())
 }
 
@@ -268,36 +284,25 @@ fn selected_attributes(rt: HostRuntime) -> Result<(), Fail> {
 fn attributes_of_the_queue(rt: HostRuntime) -> Result<(), Fail> {
     let alloc = rt.alloc();
     let ticks = &mut Ticks::new(&rt);
-    let (t, f) = (true, false);
-    let table = [
-        (
-            [t, t, t, t, t],
-            r#""Attributes":{"ApproximateFirstReceiveTimestamp":"2000","ApproximateReceiveCount":"1","SenderId":"000000000000","SentTimestamp":"1000"},"#,
-        ),
-        (
-            [t, f, f, f, f],
-            r#""Attributes":{"SenderId":"000000000000"},"#,
-        ),
-        ([f, t, f, f, f], r#""Attributes":{"SentTimestamp":"1000"},"#),
-        (
-            [f, f, t, f, t],
-            r#""Attributes":{"ApproximateReceiveCount":"1"},"#,
-        ),
-        (
-            [f, t, f, t, f],
-            r#""Attributes":{"ApproximateFirstReceiveTimestamp":"2000","SentTimestamp":"1000"},"#,
-        ),
-        ([f, f, f, f, t], ""),
-        ([f, f, f, f, f], ""),
-    ];
-    for (names, members) in table {
-        let text = received_of_three(alloc, names, &["foo"], ticks)?;
-        let wanted = format!(in alloc;
-            "{{\"Messages\":[{{{members}\"Body\":\"hi\",\"MD5OfBody\":\"49f68a5c8493ec2c0bf489821c21fc3b\",\"MD5OfMessageAttributes\":\"3cab606b9fbddd7cbcfb9e1d3a60f028\",\"MessageAttributes\":{{\"foo\":{{\"DataType\":\"String\",\"StringValue\":\"1\"}}}},\"MessageId\":\"00000000-0000-0001-0000-000000000000\",\"ReceiptHandle\":\"000000000000000100000000000000000000000000000001\"}}]}}"
-        )?;
-        assert_eq!(rt; text.as_str(), wanted.as_str(), "{names:?}");
-    }
-    Ok(())
+    let all =
+        r#""Attributes":{"ApproximateFirstReceiveTimestamp":"2000","ApproximateReceiveCount":"1","SenderId":"000000000000","SentTimestamp":"1000"},"#;
+    tells_given(&rt, alloc, [true, true, true, true, true], all, ticks)?;
+    let sender = r#""Attributes":{"SenderId":"000000000000"},"#;
+    tells_given(
+        &rt,
+        alloc,
+        [true, false, false, false, false],
+        sender,
+        ticks,
+    )?;
+    let sent = r#""Attributes":{"SentTimestamp":"1000"},"#;
+    tells_given(&rt, alloc, [false, true, false, false, false], sent, ticks)?;
+    let count = r#""Attributes":{"ApproximateReceiveCount":"1"},"#;
+    tells_given(&rt, alloc, [false, false, true, false, true], count, ticks)?;
+    let two = r#""Attributes":{"ApproximateFirstReceiveTimestamp":"2000","SentTimestamp":"1000"},"#;
+    tells_given(&rt, alloc, [false, true, false, true, false], two, ticks)?;
+    tells_given(&rt, alloc, [false, false, false, false, true], "", ticks)?;
+    tells_given(&rt, alloc, [false, false, false, false, false], "", ticks)
 }
 
 /// Several messages stand in the order of the offers, each with the attributes that are asked for
@@ -309,7 +314,7 @@ fn several_messages(rt: HostRuntime) -> Result<(), Fail> {
     let shape = ReplyShape::Messages {
         uid: 255,
         names: asked([false, false, false, false, false]),
-        attributes: patterns(alloc, &["foo"])?,
+        attributes: patterns(alloc, "foo")?,
         offers: offered(
             alloc,
             vec![in alloc;
@@ -330,7 +335,7 @@ fn several_messages(rt: HostRuntime) -> Result<(), Fail> {
     let shape = ReplyShape::Messages {
         uid: 1,
         names: asked([true, true, true, true, true]),
-        attributes: patterns(alloc, &["All"])?,
+        attributes: patterns(alloc, "All")?,
         offers: offered(alloc, Vec::new(alloc), ticks)?,
     };
     assert_eq!(rt; reply_text(alloc, &shape)?.as_str(), "{}");
@@ -350,7 +355,7 @@ fn values_of_attributes(rt: HostRuntime) -> Result<(), Fail> {
     let shape = ReplyShape::Messages {
         uid: 1,
         names: asked([false, false, false, false, false]),
-        attributes: patterns(alloc, &["All"])?,
+        attributes: patterns(alloc, "All")?,
         offers: offered(alloc, vec![in alloc; content]?, ticks)?,
     };
     let text =
@@ -367,7 +372,7 @@ fn values_of_attributes(rt: HostRuntime) -> Result<(), Fail> {
 fn tells(rt: &impl Abort, alloc: Global, list: Vec<BatchAnswer>, text: &str) -> Result<(), Fail> {
     let mut answers = BatchAnswers::new(alloc);
     for answer in list {
-        answers.push(answer)?;
+        answers.push(alloc, answer)?;
     }
     let told = reply_text(alloc, &ReplyShape::Batch(answers))?;
     assert_eq!(rt; told.as_str(), text);

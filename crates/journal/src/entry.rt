@@ -48,6 +48,8 @@ pub enum Event<C> {
     Refused {
         fault: Fault,
     },
+    /// The queue was closed. No entry follows.
+    Closed,
 }
 
 /// An event and its time.

@@ -1,1 +1,3 @@
 pub mod DecimalLemmas
+pub mod ConfigLemmas
+pub mod Utf8Lemmas

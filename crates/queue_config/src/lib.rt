@@ -4,14 +4,18 @@
 //! - [`Wish`]: requested attributes. [`Wish::put`] judges one name and value; [`Settings::with`]
 //!   gives the settings with what was requested, and [`Settings::agrees`] says whether they already
 //!   have all of it.
+//! - [`is_ignored`]: the attributes that are accepted without effect.
 //! - [`Limits`]: how many entries a journal has and how many messages may be in flight.
-//! - [`Config`]: what a program is started with.
+//! - [`Config`]: what a program is started with, and [`config_from_text`] and [`config_from_bytes`]:
+//!   its reading from TOML, or the first [`ConfigFault`].
 //! - [`decimal_number`]: the number that a text of decimal digits is.
 //!
 //! Each contract is exact: which texts are taken, with which value, and which refusal comes otherwise.
 #![tactic(auto)]
 
 mod config;
+mod config_fault;
+mod config_text;
 mod decimal;
 mod limits;
 mod settings;
@@ -19,8 +23,10 @@ mod settings;
 mod tests;
 mod wish;
 
-pub use config::Config;
+pub use config::{Config, ConfiguredQueue, QUEUE_LIMIT};
+pub use config_fault::ConfigFault;
+pub use config_text::{config_from_bytes, config_from_text};
 pub use decimal::decimal_number;
 pub use limits::Limits;
 pub use settings::Settings;
-pub use wish::Wish;
+pub use wish::{Wish, is_ignored};

@@ -1,6 +1,5 @@
 //! Values at the borders of each range, as the Amazon SQS API Reference has it for
-//! `SetQueueAttributes`, and the forms of texts that docs/PROFILE.md lists. No call here takes
-//! memory.
+//! `SetQueueAttributes`, and the forms of texts that docs/PROFILE.md lists; configurations.
 
 use super::*;
 use message::Fault;
@@ -290,8 +289,7 @@ fn ignored_names(rt: HostRuntime) -> Result<(), Fail> {
 #[test]
 fn defaults(rt: HostRuntime) {
     assert_eq!(rt; numbers(Settings::default()), [0, 30, 345_600, 0, 262_144]);
-    let limits = Config::default().limits;
-    assert_eq!(rt; limits, Limits::default());
+    let limits = Limits::default();
     assert_eq!(rt; (limits.max_lines, limits.in_flight), (1_000_000, 120_000));
     for settings in [Settings::default(), some_settings()] {
         assert_eq!(rt; settings.with(&Wish::new(), 5), settings);
@@ -319,4 +317,239 @@ fn decimal_numbers(rt: HostRuntime) {
     assert_eq!(rt; decimal_number("9", 1), Some(9));
     assert_eq!(rt; decimal_number("10", 1), None);
     assert_eq!(rt; decimal_number("0", 0), None);
+}
+
+/// What a text is read as: the fault's name, or the limits and each queue with its five settings.
+fn reading(alloc: Global, text: &str) -> Result<String, Fail> {
+    let config = match config_from_text(alloc, text) {
+        Ok(config) => config,
+        Err(fault) => return Ok(String::from_str(alloc, fault.name())?),
+    };
+    let limits = config.limits;
+    let mut told = format!(in alloc; "{} {}", limits.max_lines, limits.in_flight)?;
+    for queue in &config.queues {
+        let [delay, timeout, retention, wait, size] = numbers(queue.settings);
+        let name = queue.name.as_text();
+        let more = format!(in alloc; "; {name} {delay} {timeout} {retention} {wait} {size}")?;
+        told.push_str(more.as_str())?;
+    }
+    Ok(told)
+}
+
+/// Texts, each with what it is read as. A text is the lines up to one that begins with `=>`. The
+/// ranges and the order of the faults are those of docs/PROFILE.md.
+const TEXTS: &str = r#"
+=> 1000000 120000
+queue = []
+=> 1000000 120000
+[limits]
+in_flight = 2
+
+[[queue]]
+name = "dead"
+
+[[queue]]
+name = "jobs"
+visibility_timeout = 1
+=> 1000000 2; dead 0 30 345600 0 262144; jobs 0 1 345600 0 262144
+limits.max_lines = 16777216
+queue = [{name = "a"}, {wait_seconds = 20, name = "b", delay_seconds = 900}]
+=> 16777216 120000; a 0 30 345600 0 262144; b 900 30 345600 20 262144
+[[queue]]
+name = "Q_-9"
+retention_seconds = 60
+visibility_timeout = 43200
+maximum_message_size = 1024
+=> 1000000 120000; Q_-9 0 43200 60 0 1024
+a =
+=> Syntax
+limits = 1
+limits = 2
+=> Syntax
+[limits]
+in_flight = 9223372036854775808
+=> Syntax
+x = 1
+=> UnknownKey
+limits = 1
+zzz = 1
+=> UnknownKey
+[[alarm]]
+=> UnknownKey
+limits = 1
+=> WrongKind
+[[limits]]
+=> WrongKind
+[queue]
+name = "a"
+=> WrongKind
+queue = 1
+=> WrongKind
+queue = [1]
+=> WrongKind
+[limits]
+in_flight = "2"
+=> WrongKind
+[limits]
+in_flight = 2.0
+=> WrongKind
+[limits]
+in_flight = 0
+=> OutOfRange
+[limits]
+in_flight = 120001
+=> OutOfRange
+[limits]
+max_lines = 0
+=> OutOfRange
+[limits]
+max_lines = 16777217
+=> OutOfRange
+[limits]
+max_lines = -1
+=> OutOfRange
+[limits]
+max_lines = 0
+more = 1
+=> OutOfRange
+[limits]
+max_lines = 0
+lines = 1
+=> UnknownKey
+[[queue]]
+=> WrongKind
+[[queue]]
+delay_seconds = 5
+=> WrongKind
+[[queue]]
+name = 5
+=> WrongKind
+[[queue]]
+name = "a b"
+=> OutOfRange
+[[queue]]
+name = ""
+=> OutOfRange
+[[queue]]
+delay_seconds = 901
+=> OutOfRange
+[[queue]]
+name = "a"
+visibility_timeout = 43201
+=> OutOfRange
+[[queue]]
+name = "a"
+retention_seconds = 59
+=> OutOfRange
+[[queue]]
+name = "a"
+wait_seconds = 21
+=> OutOfRange
+[[queue]]
+name = "a"
+maximum_message_size = 262145
+=> OutOfRange
+[[queue]]
+name = "a"
+dead_letter_queue = "a"
+=> UnknownKey
+[[queue]]
+name = "a"
+max_receive_count = 1
+=> UnknownKey
+[[queue]]
+name = "a"
+[[queue]]
+name = "A"
+[[queue]]
+name = "a"
+=> NameTwice
+[[queue]]
+name = "a"
+[[queue]]
+name = "a"
+[[queue]]
+nom = "a"
+=> UnknownKey
+[limits]
+in_flight = 0
+[[queue]]
+nom = "a"
+=> OutOfRange
+"#;
+
+/// Configurations as TOML, and what is first wrong with them.
+#[test]
+fn configurations(rt: HostRuntime) -> Result<(), Fail> {
+    let alloc = rt.alloc();
+    let mut text = String::new(alloc);
+    for line in TEXTS.lines() {
+        match line.strip_prefix("=> ") {
+            Some(wanted) => {
+                assert_eq!(rt; reading(alloc, text.as_str())?.as_str(), wanted, "{text}");
+                text.clear();
+            }
+            None => {
+                text.push_str(line)?;
+                text.push('\n')?;
+            }
+        }
+    }
+    Ok(())
+}
+
+/// The 1,001st queue is refused, before equal names are. Bytes that are no text are no TOML.
+#[test]
+fn many_queues_and_no_text(rt: HostRuntime) -> Result<(), Fail> {
+    let alloc = rt.alloc();
+    let mut text = String::new(alloc);
+    for number in 0..1000u32 {
+        text.push_str(format!(in alloc; "[[queue]]\nname = \"q{number}\"\n")?.as_str())?;
+    }
+    assert_eq!(rt; config_from_text(alloc, text.as_str())?.queues.len(), 1000);
+    text.push_str("[[queue]]\nname = \"q1\"\n")?;
+    assert_eq!(rt; reading(alloc, text.as_str())?.as_str(), "OutOfRange");
+    match config_from_bytes(alloc, b"# \xFF\n") {
+        Ok(_) => assert!(rt; false, "bytes that are no text"),
+        Err(fault) => assert_eq!(rt; fault, ConfigFault::Syntax),
+    }
+    let config = config_from_bytes(alloc, b"[limits]\nin_flight = 1\n")?;
+    assert_eq!(rt; config.limits.in_flight, 1);
+    assert_eq!(rt; Config::with_limits(alloc, config.limits).queues.len(), 0);
+    Ok(())
+}
+
+/// The numbers of the faults, in their order, and want of memory as among the refusals.
+#[test]
+fn config_faults(rt: HostRuntime) {
+    let faults = [
+        ConfigFault::Syntax,
+        ConfigFault::UnknownKey,
+        ConfigFault::WrongKind,
+        ConfigFault::OutOfRange,
+        ConfigFault::NameTwice,
+        ConfigFault::NoSuchTarget,
+    ];
+    for (place, fault) in faults.iter().enumerate() {
+        assert_eq!(rt; usize::from(fault.code()), place + 1, "{fault:?}");
+    }
+    assert_eq!(rt; ConfigFault::OutOfMemory.code(), Fault::OutOfMemory.code());
+    assert_eq!(rt; ConfigFault::NoSuchTarget.name(), "NoSuchTarget");
+    assert_eq!(rt; ConfigFault::OutOfMemory.name(), "OutOfMemory");
+}
+
+/// A reading whose allocation is refused is `OutOfMemory`, and gives its value when it is made again.
+/// The gate runs this with ample memory; `rt try --test --fail-alloc N -- refused_memory` refuses the
+/// Nth allocation.
+#[test]
+fn refused_memory(rt: HostRuntime) -> Result<(), Fail> {
+    let alloc = rt.alloc();
+    let text = "[limits]\nin_flight = 2\n[[queue]]\nname = \"a\"\n[[queue]]\nname = \"b\"\n";
+    let config = match config_from_text(alloc, text) {
+        Err(ConfigFault::OutOfMemory) => config_from_text(alloc, text)?,
+        read => read?,
+    };
+    assert_eq!(rt; config.limits.in_flight, 2);
+    assert_eq!(rt; config.queues.len(), 2);
+    Ok(())
 }

@@ -47,8 +47,9 @@ fn setting(value: &str, least: u32, most: u32) -> Result<u32, Fault>
     }
 }
 
-/// Whether the attribute is one whose value is not looked at.
-fn is_ignored(name: &str) -> bool
+/// Whether the attribute is one that is accepted without effect: `Policy`, `KmsMasterKeyId`,
+/// `KmsDataKeyReusePeriodSeconds`, `SqsManagedSseEnabled` or `RedriveAllowPolicy`.
+pub fn is_ignored(name: &str) -> bool
     ensures { result ≡ is_ignored_attribute name.now }
 {
     name == "Policy"

@@ -1,7 +1,8 @@
 -- A legal journal stays legal as the clock moves on and as an entry that a command adds is added.
-use Rattle.std.proofs.Common.{◌≡◌, ℕ, ◌≤◌, ◌<◌, max, true, false, cond, List, [], ◌∷◌, ◌++◌, length, Option, Some, None, Result, Ok, Err, refl, sym, subst, append_assoc, arith}
+use Rattle.std.proofs.Common.{◌≡◌, ℕ, ◌≤◌, ◌<◌, max, Bool, true, false, cond, List, [], ◌∷◌, ◌++◌, length, Option, Some, None, Result, Ok, Err, refl, sym, ap, ◌∙◌, subst, append_assoc, arith}
 use Rattle.std.specs.Prelude.{OnOk, OnErr, nat_lt, nat_le, unwrap_or}
 use Rattle.std.proofs.lemmas.List.{append-nil, length-append}
+use Rattle.std.proofs.lemmas.Bool.{false≢true, or_parts}
 use Rattle.std.proofs.lemmas.Bool.Decides.{nat_tests}
 use Rattle.message.specs.declared.fault.Fault.{Fault}
 use Rattle.message.specs.declared.fault.Fault.TheVariants.{InvalidParameterValue, OverLimit, ReceiptHandleIsInvalid}
@@ -10,14 +11,15 @@ use Rattle.queue_config.specs.Settings.{QueueSettings, RequestedAttributes, sett
 use Rattle.receipt_handle.specs.declared.handle.Handle.{Handle}
 use Rattle.journal.specs.declared.entry.Entry.{Entry}
 use Rattle.journal.specs.declared.entry.Event.{Event}
-use Rattle.journal.specs.declared.entry.Event.TheVariants.{Sent, Received, Changed, Deleted, DeletedAgain, Purged, Set, Refused}
+use Rattle.journal.specs.declared.entry.Event.TheVariants.{Sent, Received, Changed, Deleted, DeletedAgain, Purged, Set, Refused, Closed}
 use Rattle.journal.specs.Journal.{Lines, with_line}
+use Rattle.queue_core.specs.declared.command.Command.{Command}
 use Rattle.queue_core.specs.declared.command.Command.TheVariants.{Send, Receive, Change, Delete, Purge}
 use Rattle.queue_core.specs.declared.command.Command.TheVariants as commands
 use Rattle.queue_core.specs.declared.gauges.Gauges.{Gauges}
-use Rattle.queue_core.specs.Messages.{settings_of, created_time, modified_time}
+use Rattle.queue_core.specs.Messages.{settings_of, created_time, modified_time, closes, is_closed}
 use Rattle.queue_core.specs.States.{gauges_of}
-use Rattle.queue_core.specs.Queue.{QueueHistory, at_moment, is_full, in_flight_count, offered_candidates, numbers_of, change_refusal, is_valid_handle, holds_live, outcome_of, with_event, look_of}
+use Rattle.queue_core.specs.Queue.{QueueHistory, Outcome, at_moment, is_full, first_refusal, with_room, done, send_outcome, receive_outcome, change_outcome, delete_outcome, close_outcome, in_flight_count, offered_candidates, numbers_of, change_refusal, is_valid_handle, holds_live, outcome_of, with_event, look_of}
 use Rattle.queue_core.specs.Legal.{IsOrdered, IsCausedIn, AreCaused, BeginsAndFollows}
 use Rattle.queue_core.specs.Kept.{IsKept}
 
@@ -46,16 +48,66 @@ pub IsKept-later : (q : QueueHistory) (limit at : ℕ) → IsKept q limit → Is
 IsKept-later q limit at h = record {
   room = h.room;
   within = h.within;
+  place_left = h.place_left;
   legal = record { ordered = IsOrdered-later 0 q.lines q.clock (max q.clock at) (omega arith) h.legal.ordered; caused = h.legal.caused };
 }
 
 not_full : (q : QueueHistory) → is_full q ≡ false → length q.lines < q.limits.max_lines
 not_full q room = grind (arith, nat_tests)
 
-IsKept-with_event : (q : QueueHistory) (limit : ℕ) (event : Event ContentText) → is_full q ≡ false → IsKept q limit → IsCausedIn q event → IsKept (with_event q event) limit
-IsKept-with_event q limit event room h k = record {
+-- ---- what causes an event
+
+-- the queue is open, and its journal has room, or the event closes the queue
+record HasPlace (q : QueueHistory) (event : Event ContentText) : Type 0 where
+  unclosed : is_closed q.lines ≡ false
+  room : closes event ≡ false → is_full q ≡ false
+
+not_both : {X : Type 0} (o : Option X) (x : X) → o ≡ None → o ≡ Some x → ⊥
+not_both None x n h = absurd cc
+not_both (Some y) x n h = absurd cc
+
+by_first_refusal : (q : QueueHistory) (closed full : Bool) → is_closed q.lines ≡ closed → is_full q ≡ full → (outcome : Outcome) (event : Event ContentText)
+    → (with_room q outcome).event ≡ Some event → HasPlace q event
+by_first_refusal q true full c f outcome event h = absurd (not_both (with_room q outcome).event event (rw c refl) h)
+by_first_refusal q false true c f outcome event h = absurd (not_both (with_room q outcome).event event (rw (c, f) refl) h)
+by_first_refusal q false false c f outcome event h = record { unclosed = c; room = λ _. f }
+
+HasPlace-with_room : (q : QueueHistory) (outcome : Outcome) (event : Event ContentText) → (with_room q outcome).event ≡ Some event → HasPlace q event
+HasPlace-with_room q outcome event h = by_first_refusal q (is_closed q.lines) (is_full q) refl refl outcome event h
+
+HasPlace-close : (q : QueueHistory) (closed : Bool) → is_closed q.lines ≡ closed → (event : Event ContentText) → (close_outcome q).event ≡ Some event → HasPlace q event
+HasPlace-close q true c event h = absurd (not_both (close_outcome q).event event (rw c refl) h)
+HasPlace-close q false c event h =
+    record { unclosed = c; room = λ other. absurd (let e : (close_outcome q).event ≡ Some Closed = rw c refl in let d : Closed ≡ event = cc in false≢true (sym other ∙ ap closes (sym d))) }
+
+HasPlace-caused : (q : QueueHistory) (command : Command) (event : Event ContentText) → (outcome_of q command).event ≡ Some event → HasPlace q event
+HasPlace-caused q (Send content delay) event h = HasPlace-with_room q (send_outcome q content delay) event h
+HasPlace-caused q (Receive maximum timeout) event h = HasPlace-with_room q (receive_outcome q maximum timeout) event h
+HasPlace-caused q (Change handle timeout) event h = HasPlace-with_room q (change_outcome q handle timeout) event h
+HasPlace-caused q (Delete handle) event h = HasPlace-with_room q (delete_outcome q handle) event h
+HasPlace-caused q Purge event h = HasPlace-with_room q (done Purged) event h
+HasPlace-caused q (commands.Set wish target) event h = HasPlace-with_room q (done (Set (settings_with (settings_of q.lines) wish))) event h
+HasPlace-caused q commands.Close event h = HasPlace-close q (is_closed q.lines) refl event h
+HasPlace-caused q commands.Look event h = absurd cc
+
+-- ---- one entry more
+
+is_closed-push : (lines : List (Entry ContentText)) (e : Entry ContentText) → is_closed (lines ++ e ∷ []) ≡ false → closes e.event ≡ false
+is_closed-push [] e h = (or_parts (closes e.event) false h).0
+is_closed-push (x ∷ xs) e h = is_closed-push xs e (or_parts (closes x.event) (is_closed (xs ++ e ∷ [])) h).1
+
+-- the entry that closes the queue takes the last place, and every other leaves it
+place_left-push : (q : QueueHistory) (event : Event ContentText) → HasPlace q event → is_closed (q.lines ++ record { at = q.clock; event = event } ∷ []) ≡ false
+    → length (q.lines ++ record { at = q.clock; event = event } ∷ []) ≤ q.limits.max_lines
+place_left-push q event place unclosed =
+    let below = not_full q (place.room (is_closed-push q.lines (record { at = q.clock; event = event }) unclosed)) in
+    rw length-append (omega arith)
+
+IsKept-with_event : (q : QueueHistory) (limit : ℕ) (event : Event ContentText) → IsKept q limit → (k : IsCausedIn q event) → HasPlace q event → IsKept (with_event q event) limit
+IsKept-with_event q limit event h k place = record {
   room = h.room;
-  within = rw length-append (let below = not_full q room in omega arith);
+  within = rw length-append (let below = h.place_left place.unclosed in omega arith);
+  place_left = place_left-push q event place;
   legal = record {
     ordered = IsOrdered-push 0 q.lines q.clock event h.legal.ordered;
     caused = BeginsAndFollows-push q q.lines (record { at = q.clock; event = event }) h.legal.caused k;
@@ -64,14 +116,21 @@ IsKept-with_event q limit event room h k = record {
 
 -- after a push that may have been refused
 pub IsKept-pushed : {X : Type 0} (q : QueueHistory) (old new : Lines) (event : Event ContentText) (r : Result X Fault) → q.lines ≡ old.lines
-    → OnOk r (new ≡ with_line old (record { at = q.clock; event = event })) → OnErr r (new ≡ old) → is_full q ≡ false → IsKept q old.limit → IsCausedIn q event
+    → OnOk r (new ≡ with_line old (record { at = q.clock; event = event })) → OnErr r (new ≡ old) → IsKept q old.limit → IsCausedIn q event
     → IsKept (record q { lines = new.lines }) new.limit
-IsKept-pushed q old new event (Ok x) e ok err room h k =
-    rw (ok, ← e) (IsKept-with_event q old.limit event room h k)
-IsKept-pushed q old new event (Err fault) e ok err room h k = rw (err, ← e) h
+IsKept-pushed q old new event (Ok x) e ok err h k =
+    rw (ok, ← e) (IsKept-with_event q old.limit event h k (HasPlace-caused q k.0 event k.1))
+IsKept-pushed q old new event (Err fault) e ok err h k = rw (err, ← e) h
 
--- what each command adds to a journal with room
-module _ (q : QueueHistory) (room : is_full q ≡ false) where
+-- the journal has a place for an event that a command causes
+pub below_limit : (q : QueueHistory) (limit : ℕ) (event : Event ContentText) → IsKept q limit → IsCausedIn q event → length q.lines < limit
+below_limit q limit event h k =
+    let left = h.place_left (HasPlace-caused q k.0 event k.1).unclosed in
+    let room = h.room in
+    omega arith
+
+-- what each command adds to an open journal with room
+module _ (q : QueueHistory) (room : first_refusal q ≡ None) where
   pub event-too_large : (content : ContentText) (delay : Option ℕ) → nat_lt (settings_of q.lines).maximum_message_size (content_size content) ≡ true
       → (outcome_of q (Send content delay)).event ≡ Some (Refused InvalidParameterValue)
   event-too_large content delay large = rw (room, large) refl
@@ -106,8 +165,11 @@ module _ (q : QueueHistory) (room : is_full q ≡ false) where
   pub event-set : (wish : RequestedAttributes) (target : ℕ) → (outcome_of q (commands.Set wish target)).event ≡ Some (Set (settings_with (settings_of q.lines) wish))
   event-set wish target = rw room refl
 
+pub event-closed : (q : QueueHistory) → is_closed q.lines ≡ false → (outcome_of q commands.Close).event ≡ Some Closed
+event-closed q unclosed = rw unclosed refl
+
 -- the parts of a look
-pub look_of-parts : (q : QueueHistory) (gauges : Gauges) (settings : QueueSettings) (created modified lines clock : ℕ) → gauges ≡ gauges_of q.lines q.clock → settings ≡ settings_of q.lines
-    → created ≡ created_time q.lines → modified ≡ modified_time q.lines → lines ≡ length q.lines → clock ≡ q.clock
-    → record { gauges = gauges; settings = settings; created = created; modified = modified; lines = lines; clock = clock; closed = false } ≡ look_of q
-look_of-parts q gauges settings created modified lines clock a b c d e f = rw (a, b, c, d, e, f) refl
+pub look_of-parts : (q : QueueHistory) (gauges : Gauges) (settings : QueueSettings) (created modified lines clock : ℕ) (closed : Bool) → gauges ≡ gauges_of q.lines q.clock → settings ≡ settings_of q.lines
+    → created ≡ created_time q.lines → modified ≡ modified_time q.lines → lines ≡ length q.lines → clock ≡ q.clock → closed ≡ is_closed q.lines
+    → record { gauges = gauges; settings = settings; created = created; modified = modified; lines = lines; clock = clock; closed = closed } ≡ look_of q
+look_of-parts q gauges settings created modified lines clock closed a b c d e f g = rw (a, b, c, d, e, f, g) refl

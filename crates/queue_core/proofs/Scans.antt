@@ -7,7 +7,7 @@ use Rattle.std.specs.List.{list_any, find}
 use Rattle.queue_config.specs.Settings.{QueueSettings}
 use Rattle.journal.specs.declared.entry.Entry.{Entry}
 use Rattle.queue_core.specs.declared.facts.Message.{Message}
-use Rattle.queue_core.specs.Messages.{message_of, messages_from, settings_after, settings_from, created_time, opens, modified_from, gives_settings, RetentionPeriod, closes_period, periods_from, offers_number, last_receive_from, due_after, due_from, removes_message, is_removed_from}
+use Rattle.queue_core.specs.Messages.{message_of, messages_from, settings_after, settings_from, created_time, opens, modified_from, gives_settings, RetentionPeriod, closes_period, periods_from, offers_number, last_receive_from, due_after, due_from, removes_message, is_removed_from, closes, is_closed}
 
 pub drop_entry : {X : Type 0} (xs : List X) (i : ℕ) (x : X) → slice_get xs i ≡ Some x → drop i xs ≡ x ∷ drop (i + 1) xs
 drop_entry [] i x h = absurd cc
@@ -94,6 +94,12 @@ module _ {C : Type 0} (lines : List (Entry C)) (place : ℕ) (e : Entry C) (at :
 
   pub is_removed_from-later : (m : Message) → removes_message m place e.event ≡ false → is_removed_from m place (drop place lines) ≡ is_removed_from m (place + 1) (drop (place + 1) lines)
   is_removed_from-later m h = rw (drop_entry lines place e at, h) (simp add-one)
+
+  pub is_closed-here : closes e.event ≡ true → is_closed (drop place lines) ≡ true
+  is_closed-here h = rw (drop_entry lines place e at, h) refl
+
+  pub is_closed-later : closes e.event ≡ false → is_closed (drop place lines) ≡ is_closed (drop (place + 1) lines)
+  is_closed-later h = rw (drop_entry lines place e at, h) refl
 
   pub count_by-yes : (p : Entry C → Bool) → p e ≡ true → count_by p (drop place lines) ≡ 1 + count_by p (drop (place + 1) lines)
   count_by-yes p h = rw (drop_entry lines place e at) (sum_by-cons (λ x. cond (p x) 1 0) e (drop (place + 1) lines) ∙ ap (λ b. cond b 1 0 + count_by p (drop (place + 1) lines)) h)

@@ -1,15 +1,17 @@
 -- What a queue keeps about its journal.
-use Rattle.std.specs.Prelude.{◌≡◌, ℕ, ◌+◌, ◌≤◌, [], ◌∷◌, List, length}
+use Rattle.std.specs.Prelude.{◌≡◌, ℕ, ◌+◌, ◌≤◌, false, [], ◌∷◌, List, length}
 use Rattle.queue_config.specs.Settings.{QueueSettings}
 use Rattle.queue_config.specs.Limits.{QueueLimits}
 use Rattle.journal.specs.declared.entry.Event.TheVariants.{Opened}
+use Rattle.queue_core.specs.Messages.{is_closed}
 use Rattle.queue_core.specs.Queue.{QueueHistory}
 use Rattle.queue_core.specs.Legal.{IsLegal}
 
--- the journal is legal, and has one place more than a queue may fill, for the entry that closes the queue
+-- the journal is legal, and has one place more than a queue may fill, which only the entry that closes the queue takes
 pub record IsKept (q : QueueHistory) (limit : ℕ) : Type 0 where
   pub room : limit ≡ q.limits.max_lines + 1
   pub within : length q.lines ≤ q.limits.max_lines + 1
+  pub place_left : is_closed q.lines ≡ false → length q.lines ≤ q.limits.max_lines
   pub legal : IsLegal q
 
 -- a queue as it is opened

@@ -3,7 +3,7 @@ use Rattle.std.specs.Prelude.{ℕ}
 use Rattle.message.specs.Content.{ContentText, content_size}
 use Rattle.journal.specs.declared.entry.Entry.{Entry}
 use Rattle.journal.specs.declared.entry.Event.{Event}
-use Rattle.journal.specs.declared.entry.Event.TheVariants.{Opened, Sent, Received, Changed, Deleted, DeletedAgain, Purged, Set, Refused}
+use Rattle.journal.specs.declared.entry.Event.TheVariants.{Opened, Sent, Received, Changed, Deleted, DeletedAgain, Purged, Set, Refused, Closed}
 
 -- the same event, with the size in the place of a content
 abbrev pub mark_event : Event ContentText → Event ℕ
@@ -16,6 +16,7 @@ mark_event DeletedAgain = DeletedAgain
 mark_event Purged = Purged
 mark_event (Set settings) = Set settings
 mark_event (Refused fault) = Refused fault
+mark_event Closed = Closed
 
 -- the mark of a line: the same time, and the same event but for the content
 abbrev pub mark_of : Entry ContentText → Entry ℕ

@@ -6,7 +6,7 @@ use Rattle.message.specs.declared.id.MessageId.{MessageId}
 use Rattle.queue_config.specs.Settings.{QueueSettings, default_settings}
 use Rattle.journal.specs.declared.entry.Entry.{Entry}
 use Rattle.journal.specs.declared.entry.Event.{Event}
-use Rattle.journal.specs.declared.entry.Event.TheVariants.{Opened, Sent, Received, Changed, Deleted, DeletedAgain, Purged, Set, Refused}
+use Rattle.journal.specs.declared.entry.Event.TheVariants.{Opened, Sent, Received, Changed, Deleted, DeletedAgain, Purged, Set, Refused, Closed}
 use Rattle.queue_core.specs.declared.facts.Message.{Message}
 
 -- ---- numbering and birth
@@ -23,6 +23,7 @@ message_of place number at DeletedAgain = None
 message_of place number at Purged = None
 message_of place number at (Set settings) = None
 message_of place number at (Refused fault) = None
+message_of place number at Closed = None
 
 -- the messages that entries from a place on begin, numbered from a number on
 abbrev pub messages_from : {C : Type 0} → ℕ → ℕ → List (Entry C) → List Message
@@ -52,6 +53,7 @@ content_in DeletedAgain = None
 content_in Purged = None
 content_in (Set settings) = None
 content_in (Refused fault) = None
+content_in Closed = None
 
 -- a message's content: that of its entry
 abbrev pub content_of : {C : Type 0} → List (Entry C) → Message → Option C
@@ -70,6 +72,7 @@ settings_after s DeletedAgain = s
 settings_after s Purged = s
 settings_after s (Set settings) = settings
 settings_after s (Refused fault) = s
+settings_after s Closed = s
 
 abbrev pub settings_from : {C : Type 0} → QueueSettings → List (Entry C) → QueueSettings
 settings_from s [] = s
@@ -90,6 +93,7 @@ gives_settings DeletedAgain = false
 gives_settings Purged = false
 gives_settings (Set settings) = true
 gives_settings (Refused fault) = false
+gives_settings Closed = false
 
 abbrev pub opens : {C : Type 0} → Event C → Bool
 opens (Opened uid settings) = true
@@ -101,6 +105,7 @@ opens DeletedAgain = false
 opens Purged = false
 opens (Set settings) = false
 opens (Refused fault) = false
+opens Closed = false
 
 -- the time of the first entry that opens the queue
 abbrev pub created_time : {C : Type 0} → List (Entry C) → ℕ
@@ -134,6 +139,7 @@ closes_period DeletedAgain = false
 closes_period Purged = false
 closes_period (Set settings) = true
 closes_period (Refused fault) = false
+closes_period Closed = false
 
 -- the periods that end at entries from a place on, or at the clock; the settings in force before the entries are given
 abbrev pub periods_from : {C : Type 0} → ℕ → QueueSettings → ℕ → List (Entry C) → List RetentionPeriod
@@ -169,6 +175,7 @@ offers_number number DeletedAgain = false
 offers_number number Purged = false
 offers_number number (Set settings) = false
 offers_number number (Refused fault) = false
+offers_number number Closed = false
 
 -- how often a message was received
 abbrev pub receive_count : {C : Type 0} → List (Entry C) → ℕ → ℕ
@@ -199,6 +206,7 @@ due_after number due at DeletedAgain = due
 due_after number due at Purged = due
 due_after number due at (Set settings) = due
 due_after number due at (Refused fault) = due
+due_after number due at Closed = due
 
 abbrev pub due_from : {C : Type 0} → ℕ → ℕ → List (Entry C) → ℕ
 due_from number due [] = due
@@ -221,11 +229,30 @@ removes_message m place DeletedAgain = false
 removes_message m place Purged = nat_lt m.place place
 removes_message m place (Set settings) = false
 removes_message m place (Refused fault) = false
+removes_message m place Closed = true
 
 abbrev pub is_removed_from : {C : Type 0} → Message → ℕ → List (Entry C) → Bool
 is_removed_from m place [] = false
 is_removed_from m place (e ∷ es) = removes_message m place e.event || is_removed_from m (suc place) es
 
--- deleted, or there when the queue was purged
+-- deleted, or there when the queue was purged or closed
 abbrev pub is_removed : {C : Type 0} → List (Entry C) → Message → Bool
 is_removed lines m = is_removed_from m 0 lines
+
+-- ---- the end of a queue
+
+-- whether an event closes the queue
+abbrev pub closes : {C : Type 0} → Event C → Bool
+closes (Opened uid settings) = false
+closes (Sent delay content) = false
+closes (Received timeout offered leaving target) = false
+closes (Changed number timeout) = false
+closes (Deleted number) = false
+closes DeletedAgain = false
+closes Purged = false
+closes (Set settings) = false
+closes (Refused fault) = false
+closes Closed = true
+
+abbrev pub is_closed : {C : Type 0} → List (Entry C) → Bool
+is_closed lines = list_any (λ e. closes e.event) lines

@@ -1,8 +1,8 @@
 -- The queue of one thread: what each command adds to the journal, and what answers it.
-use Rattle.std.specs.Prelude.{ℕ, ◌+◌, ◌-◌, ◌*◌, ◌==◌, ◌&&◌, min, take, map, option_map, nat_lt, nat_le, max, Bool, false, if◌then◌else◌, List, [], ◌∷◌, ◌++◌, length, Option, Some, None, unwrap_or, Result, Ok, Err}
+use Rattle.std.specs.Prelude.{ℕ, ◌+◌, ◌-◌, ◌*◌, ◌==◌, ◌&&◌, min, take, map, option_map, nat_lt, nat_le, max, Bool, if◌then◌else◌, List, [], ◌∷◌, ◌++◌, length, Option, Some, None, unwrap_or, Result, Ok, Err}
 use Rattle.std.specs.List.{filter_map}
 use Rattle.message.specs.declared.fault.Fault.{Fault}
-use Rattle.message.specs.declared.fault.Fault.TheVariants.{InvalidParameterValue, ReceiptHandleIsInvalid, MessageNotInflight, OverLimit, JournalFull}
+use Rattle.message.specs.declared.fault.Fault.TheVariants.{QueueDoesNotExist, InvalidParameterValue, ReceiptHandleIsInvalid, MessageNotInflight, OverLimit, JournalFull}
 use Rattle.message.specs.Fault.{is_out_of_memory}
 use Rattle.message.specs.Content.{ContentText, content_size}
 use Rattle.queue_config.specs.Limits.{QueueLimits}
@@ -10,7 +10,7 @@ use Rattle.queue_config.specs.Settings.{settings_with}
 use Rattle.receipt_handle.specs.declared.handle.Handle.{Handle}
 use Rattle.journal.specs.declared.entry.Entry.{Entry}
 use Rattle.journal.specs.declared.entry.Event.{Event}
-use Rattle.journal.specs.declared.entry.Event.TheVariants.{Sent, Received, Changed, Deleted, DeletedAgain, Purged, Set, Refused}
+use Rattle.journal.specs.declared.entry.Event.TheVariants.{Sent, Received, Changed, Deleted, DeletedAgain, Purged, Set, Refused, Closed}
 use Rattle.queue_core.specs.declared.command.Command.{Command}
 use Rattle.queue_core.specs.declared.command.Command.TheVariants as commands
 use Rattle.queue_core.specs.declared.reply.Reply.{Reply}
@@ -19,7 +19,7 @@ use Rattle.queue_core.specs.declared.offers.Offer.{Offer}
 use Rattle.queue_core.specs.declared.facts.Candidate.{Candidate}
 use Rattle.queue_core.specs.declared.facts.MessageState.TheVariants.{InFlight}
 use Rattle.queue_core.specs.declared.reply.Look as look
-use Rattle.queue_core.specs.Messages.{message_count, message_id, content_of, settings_of, created_time, modified_time, receive_count, first_receive_time, last_receive_time}
+use Rattle.queue_core.specs.Messages.{is_closed, message_count, message_id, content_of, settings_of, created_time, modified_time, receive_count, first_receive_time, last_receive_time}
 use Rattle.queue_core.specs.States.{is_live, is_in_state, count_in_state, receive_order, is_numbered, gauges_of}
 
 -- a queue: its uid, its name, its limits, its clock in milliseconds, and its journal's lines
@@ -50,9 +50,22 @@ refusal fault = record { event = Some (Refused fault); reply = Err fault }
 abbrev pub is_full : QueueHistory → Bool
 is_full q = nat_le q.limits.max_lines (length q.lines)
 
--- a full journal refuses before anything else is asked
+-- what refuses a command before anything of it is asked: a closed queue, and else a full journal
+abbrev pub first_refusal : QueueHistory → Option Fault
+first_refusal q = if is_closed q.lines then Some QueueDoesNotExist else if is_full q then Some JournalFull else None
+
+abbrev pub unless_refused : Option Fault → Outcome → Outcome
+unless_refused None outcome = outcome
+unless_refused (Some fault) outcome = uncounted_refusal fault
+
 abbrev pub with_room : QueueHistory → Outcome → Outcome
-with_room q outcome = if is_full q then uncounted_refusal JournalFull else outcome
+with_room q outcome = unless_refused (first_refusal q) outcome
+
+-- a queue closes once, also where its journal is full
+abbrev pub close_outcome : QueueHistory → Outcome
+close_outcome q =
+    if is_closed q.lines then uncounted_refusal QueueDoesNotExist
+    else record { event = Some Closed; reply = Ok replies.Done }
 
 abbrev pub send_outcome : QueueHistory → ContentText → Option ℕ → Outcome
 send_outcome q content delay =
@@ -151,7 +164,7 @@ look_of q = record {
   modified = modified_time q.lines;
   lines = length q.lines;
   clock = q.clock;
-  closed = false;
+  closed = is_closed q.lines;
 }
 
 abbrev pub outcome_of : QueueHistory → Command → Outcome
@@ -161,6 +174,7 @@ outcome_of q (commands.Change handle timeout) = with_room q (change_outcome q ha
 outcome_of q (commands.Delete handle) = with_room q (delete_outcome q handle)
 outcome_of q commands.Purge = with_room q (done Purged)
 outcome_of q (commands.Set wish target) = with_room q (done (Set (settings_with (settings_of q.lines) wish)))
+outcome_of q commands.Close = close_outcome q
 outcome_of q commands.Look = record { event = None; reply = Ok (replies.Looked (look_of q)) }
 
 -- the outcome of a command that comes at a moment

@@ -168,6 +168,8 @@ pub enum Command {
         wish: Wish,
         target: u64,
     },
+    /// Closes the queue for good.
+    Close,
     /// Looks at the queue, and moves its clock.
     Look,
 }

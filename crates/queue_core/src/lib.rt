@@ -25,6 +25,8 @@ mod reply;
 mod state;
 #[cfg(test)]
 mod tests;
+#[cfg(test)]
+mod tests_of_closing;
 
 pub use command::{
     Command, Delay, LONGEST_DELAY, LONGEST_TIMEOUT, MOST_OFFERS, Maximum, Step, Timeout,

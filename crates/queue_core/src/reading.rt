@@ -2,7 +2,7 @@
 
 ghost use Rattle.std.specs.Prelude.{◌≡◌, ◌-◌, ◌/◌, ◌<◌, ◌≤◌, length, slice_get, Some, if◌then◌else◌, ◌&&◌, option_and_then};
 ghost use Rattle.std.specs.Option.{option_copied};
-ghost use Rattle.queue_core.specs.Messages.{message_of, content_in, message_count, settings_of, settings_after, created_time, modified_time, gives_settings, opens, closes_period, runs_out_in, is_expired, contains_number, offers_number, receive_count, first_receive_time, last_receive_time, due_after, due_time, removes_message, is_removed};
+ghost use Rattle.queue_core.specs.Messages.{message_of, content_in, message_count, settings_of, settings_after, created_time, modified_time, gives_settings, opens, closes_period, runs_out_in, is_expired, contains_number, offers_number, receive_count, first_receive_time, last_receive_time, due_after, due_time, removes_message, is_removed, closes, is_closed};
 ghost use Rattle.queue_core.specs.States.{is_live, waiting_state, state_of, same_state, is_in_state, count_in_state, oldest_age, gauges_of, message_numbered};
 
 use crate::facts::{Message, MessageState};
@@ -41,7 +41,8 @@ pub(crate) fn message_at(line: &Line, place: usize, number: u64) -> Option<Messa
         | Event::DeletedAgain
         | Event::Purged
         | Event::Set { .. }
-        | Event::Refused { .. } => None,
+        | Event::Refused { .. }
+        | Event::Closed => None,
     }
 }
 
@@ -71,7 +72,8 @@ fn settings_following(settings: Settings, event: &Event<Content>) -> Settings
         | Event::Deleted { .. }
         | Event::DeletedAgain
         | Event::Purged
-        | Event::Refused { .. } => settings,
+        | Event::Refused { .. }
+        | Event::Closed => settings,
     }
 }
 
@@ -196,7 +198,8 @@ fn is_offer_of(event: &Event<Content>, number: u64) -> bool
         | Event::DeletedAgain
         | Event::Purged
         | Event::Set { .. }
-        | Event::Refused { .. } => false,
+        | Event::Refused { .. }
+        | Event::Closed => false,
     }
 }
 
@@ -272,7 +275,8 @@ fn due_following(due: u64, line: &Line, number: u64) -> u64
         | Event::DeletedAgain
         | Event::Purged
         | Event::Set { .. }
-        | Event::Refused { .. } => due,
+        | Event::Refused { .. }
+        | Event::Closed => due,
     }
 }
 
@@ -294,6 +298,7 @@ fn is_removal_of(event: &Event<Content>, place: usize, message: &Message) -> boo
     match event {
         Event::Deleted { number } => *number == message.number,
         Event::Purged => message.place < place,
+        Event::Closed => true,
         Event::Opened { .. }
         | Event::Sent { .. }
         | Event::Received { .. }
@@ -304,7 +309,7 @@ fn is_removal_of(event: &Event<Content>, place: usize, message: &Message) -> boo
     }
 }
 
-/// Whether a message was deleted or purged.
+/// Whether a message was deleted, purged, or gone with its queue.
 fn was_removed(journal: &Journal, message: &Message) -> bool
     ensures { result ≡ is_removed journal.now.lines message.now }
 {
@@ -375,6 +380,25 @@ pub(crate) fn numbered(journal: &Journal, wanted: u64) -> Option<Message>
     None
 }
 
+/// Whether an event closes the queue.
+fn is_closing(event: &Event<Content>) -> bool
+    ensures { result ≡ closes event.now }
+{
+    matches!(event, Event::Closed)
+}
+
+/// Whether the queue was closed.
+pub(crate) fn has_closed(journal: &Journal) -> bool
+    ensures { result ≡ is_closed journal.now.lines }
+{
+    for place in 0..journal.len() {
+        if is_closing(&line_at(journal, place).event) {
+            return true;
+        }
+    }
+    false
+}
+
 /// The content that the line at a place brings.
 pub(crate) fn content_at(journal: &Journal, place: usize) -> Option<&Content>
     ensures { option_copied result
@@ -389,7 +413,8 @@ pub(crate) fn content_at(journal: &Journal, place: usize) -> Option<&Content>
         | Event::DeletedAgain
         | Event::Purged
         | Event::Set { .. }
-        | Event::Refused { .. } => None,
+        | Event::Refused { .. }
+        | Event::Closed => None,
     }
 }
 

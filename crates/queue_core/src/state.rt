@@ -21,7 +21,8 @@ use std::marker::Model;
 /// One queue. Contracts see its uid, its name, its limits, its clock and its journal's lines.
 ///
 /// Each command acts at the later of the moment that it is handed and the queue's clock, which it
-/// leaves there.
+/// leaves there. A closed queue answers each command but a look with `QueueDoesNotExist`, before
+/// anything else is judged, also before `JournalFull`; only its clock moves.
 #[derive(Debug, Drop)]
 pub struct QueueState {
     uid: u64,
@@ -45,9 +46,9 @@ impl Model for QueueState {
 impl QueueState {
     ghost use Rattle.journal.specs.declared.entry.Event.TheVariants.{Deleted, DeletedAgain};
     ghost use Rattle.queue_core.specs.declared.facts.MessageState.TheVariants.{InFlight};
-    ghost use Rattle.queue_core.specs.Messages.{message_count, content_of, settings_of, receive_count, first_receive_time};
+    ghost use Rattle.queue_core.specs.Messages.{is_closed, message_count, content_of, settings_of, receive_count, first_receive_time};
     ghost use Rattle.queue_core.specs.States.{is_live, is_in_state, is_numbered, gauges_of};
-    ghost use Rattle.queue_core.specs.Queue.{at_moment, is_full, in_flight_count, offered_candidates, offer_of, offers_of, is_valid_handle, is_latest_handle, holds_live, passes_twelve_hours, change_refusal, look_of, outcome_at, with_event, after_answer, as_reply};
+    ghost use Rattle.queue_core.specs.Queue.{at_moment, is_full, first_refusal, in_flight_count, offered_candidates, offer_of, offers_of, is_valid_handle, is_latest_handle, holds_live, passes_twelve_hours, change_refusal, look_of, outcome_at, with_event, after_answer, as_reply};
     ghost use Rattle.queue_core.specs.Legal.{IsLegal, IsCausedIn};
     ghost use Rattle.queue_core.specs.Kept.{opened_queue};
     ghost use Rattle.queue_core.specs.Run.{AreAnswers, after_all};
@@ -87,6 +88,26 @@ impl QueueState {
         ensures { result ≡ is_full self.now }
     {
         self.limits.max_lines as usize <= self.journal.len()
+    }
+
+    /// Whether the queue was closed.
+    fn is_closed(&self) -> bool
+        ensures { result ≡ is_closed self.now.lines }
+    {
+        reading::has_closed(&self.journal)
+    }
+
+    /// What refuses a command before anything of it is asked.
+    fn first_refusal(&self) -> Option<Fault>
+        ensures { result ≡ first_refusal self.now }
+    {
+        if self.is_closed() {
+            return Some(Fault::QueueDoesNotExist);
+        }
+        if self.has_no_room() {
+            return Some(Fault::JournalFull);
+        }
+        None
     }
 
     /// The uid that it was opened with.
@@ -292,8 +313,7 @@ impl QueueState {
 
     /// Adds an entry at the clock. `OutOfMemory` is the only refusal; the queue is then as it was.
     fn add(&mut self, alloc: Global, event: Event<Content>) -> Result<(), Fault>
-        requires room { is_full self.old ≡ false }
-        requires caused { IsCausedIn self.old event }
+        requires { IsCausedIn self.old event }
         ensures ok { OnOk result (self.new ≡ with_event self.old event) }
         ensures err { OnErr result (self.new ≡ self.old) }
         ensures errors { IfErr result (λ fault. fault ≡ Fault.OutOfMemory) }
@@ -318,8 +338,8 @@ impl QueueState {
         ensures state { self.new ≡ after_answer self.old at (Command.Send content delay) result }
     {
         self.move_to(at);
-        if self.has_no_room() {
-            return Err(Fault::JournalFull);
+        if let Some(fault) = self.first_refusal() {
+            return Err(fault);
         }
         if self.is_too_large(&content) {
             let fault = Fault::InvalidParameterValue;
@@ -354,8 +374,8 @@ impl QueueState {
         ensures state { self.new ≡ after_answer self.old at (Command.Receive maximum timeout) result }
     {
         self.move_to(at);
-        if self.has_no_room() {
-            return Err(Fault::JournalFull);
+        if let Some(fault) = self.first_refusal() {
+            return Err(fault);
         }
         if self.is_at_in_flight_limit() {
             let fault = Fault::OverLimit;
@@ -392,8 +412,8 @@ impl QueueState {
         ensures state { self.new ≡ after_answer self.old at (Command.Change handle timeout) result }
     {
         self.move_to(at);
-        if self.has_no_room() {
-            return Err(Fault::JournalFull);
+        if let Some(fault) = self.first_refusal() {
+            return Err(fault);
         }
         match self.refusal_of_change(&handle, timeout) {
             Some(fault) => {
@@ -439,8 +459,8 @@ impl QueueState {
         ensures state { self.new ≡ after_answer self.old at (Command.Delete handle) result }
     {
         self.move_to(at);
-        if self.has_no_room() {
-            return Err(Fault::JournalFull);
+        if let Some(fault) = self.first_refusal() {
+            return Err(fault);
         }
         if !self.is_valid(&handle) {
             let fault = Fault::ReceiptHandleIsInvalid;
@@ -471,8 +491,8 @@ impl QueueState {
         ensures state { self.new ≡ after_answer self.old at Command.Purge result }
     {
         self.move_to(at);
-        if self.has_no_room() {
-            return Err(Fault::JournalFull);
+        if let Some(fault) = self.first_refusal() {
+            return Err(fault);
         }
         self.add(alloc, Event::Purged)
     }
@@ -492,11 +512,25 @@ impl QueueState {
         ensures state { self.new ≡ after_answer self.old at (Command.Set wish.now target) result }
     {
         self.move_to(at);
-        if self.has_no_room() {
-            return Err(Fault::JournalFull);
+        if let Some(fault) = self.first_refusal() {
+            return Err(fault);
         }
         let settings = self.settings().with(wish, target);
         self.add(alloc, Event::Set { settings })
+    }
+
+    /// Closes the queue for good: no message is left, and from here on every call that can answer
+    /// `QueueDoesNotExist` does. This is an entry, for which a full journal has a place. A queue that
+    /// was closed answers `QueueDoesNotExist`; with `OutOfMemory` only the clock has moved.
+    pub fn close(&mut self, alloc: Global, at: Moment, _ticks: &mut Ticks) -> Result<(), Fault>
+        ensures answer { Meets (as_reply (λ _. Reply.Done) result) (outcome_at self.old at Command.Close).reply }
+        ensures state { self.new ≡ after_answer self.old at Command.Close result }
+    {
+        self.move_to(at);
+        if self.is_closed() {
+            return Err(Fault::QueueDoesNotExist);
+        }
+        self.add(alloc, Event::Closed)
     }
 
     /// Moves the clock to a moment, where that is later, and nothing else.
@@ -527,7 +561,7 @@ impl QueueState {
             modified: reading::modification(&self.journal),
             lines: self.journal.len() as u64,
             clock: self.clock,
-            closed: false,
+            closed: self.is_closed(),
         }
     }
 
@@ -577,6 +611,10 @@ impl QueueState {
             }
             Command::Set { wish, target } => {
                 self.set(alloc, at, wish, *target, ticks)?;
+                Ok(Reply::Done)
+            }
+            Command::Close => {
+                self.close(alloc, at, ticks)?;
                 Ok(Reply::Done)
             }
             Command::Look => Ok(Reply::Looked(self.look(at, ticks))),

@@ -10,43 +10,13 @@ use std::alloc::Global;
 use std::process::Abort;
 use std::test::Fail;
 
-/// A call, by what it is handed.
-#[derive(Clone, Copy, Debug)]
-enum Call {
-    /// A body, and a delay in seconds.
-    Send(&'static str, Option<u16>),
-    /// A body of so many letters.
-    SendLetters(usize),
-    /// How many messages at most, and a timeout in seconds.
-    Receive(u8, Option<u32>),
-    Change(Handle, u32),
-    Delete(Handle),
-    Purge,
-    /// The name and the value of an attribute.
-    Set(&'static str, &'static str),
-    Look,
-}
-
-/// An answer, by its numbers.
-#[derive(Clone, Copy, Debug)]
-enum Wanted {
-    /// The number of the message.
-    Sent(u64),
-    /// The number, the receipt and the body of each offer.
-    Offered(&'static [(u64, u64, &'static str)]),
-    /// How many messages are visible, delayed and in flight.
-    Counts(u64, u64, u64),
-    Done,
-    Refused(Fault),
-}
-
 /// The time of so many milliseconds.
-fn moment(milliseconds: u64) -> Result<Moment, Fail> {
+pub(crate) fn moment(milliseconds: u64) -> Result<Moment, Fail> {
     Ok(Moment::new(milliseconds).ok_or("a time in range")?)
 }
 
 /// The handle of a message of the queue that the tests ask.
-fn handle(number: u64, receipt: u64) -> Handle {
+pub(crate) fn handle(number: u64, receipt: u64) -> Handle {
     Handle {
         uid: 1,
         number,
@@ -55,12 +25,12 @@ fn handle(number: u64, receipt: u64) -> Handle {
 }
 
 /// The content of a body without attributes.
-fn content(alloc: Global, body: &str) -> Result<Content, Fault> {
+pub(crate) fn content(alloc: Global, body: &str) -> Result<Content, Fault> {
     Content::new(alloc, String::from_str(alloc, body)?, Vec::new(alloc))
 }
 
 /// A content of so many letters.
-fn letters(alloc: Global, count: usize) -> Result<Content, Fault> {
+fn letters(alloc: Global, count: u64) -> Result<Content, Fault> {
     let mut body = String::new(alloc);
     for _ in 0..count {
         body.push('a')?;
@@ -68,130 +38,169 @@ fn letters(alloc: Global, count: usize) -> Result<Content, Fault> {
     Content::new(alloc, body, Vec::new(alloc))
 }
 
-/// The delay of so many seconds, where there is one.
-fn delay(seconds: Option<u16>) -> Result<Option<Delay>, Fault> {
-    match seconds {
-        Some(seconds) => Ok(Some(Delay::new(seconds).ok_or(Fault::InvalidParameterValue)?)),
-        None => Ok(None),
-    }
-}
-
-/// The timeout of so many seconds.
-fn timeout(seconds: u32) -> Result<Timeout, Fault> {
-    Timeout::new(seconds).ok_or(Fault::InvalidParameterValue)
-}
-
-/// The timeout of so many seconds, where there is one.
-fn optional_timeout(seconds: Option<u32>) -> Result<Option<Timeout>, Fault> {
-    match seconds {
-        Some(seconds) => Ok(Some(timeout(seconds)?)),
-        None => Ok(None),
-    }
-}
-
 /// A request of one attribute.
-fn wish(alloc: Global, name: &str, value: &str) -> Result<Wish, Fault> {
+pub(crate) fn wish(alloc: Global, name: &str, value: &str) -> Result<Wish, Fault> {
     let mut wish = Wish::new();
     wish.put(alloc, name, value)?;
     Ok(wish)
 }
 
-/// The command that a call is.
-fn command(alloc: Global, call: Call) -> Result<Command, Fault> {
-    Ok(match call {
-        Call::Send(body, seconds) => Command::Send {
-            content: content(alloc, body)?,
-            delay: delay(seconds)?,
-        },
-        Call::SendLetters(count) => Command::Send {
-            content: letters(alloc, count)?,
-            delay: None,
-        },
-        Call::Receive(messages, seconds) => Command::Receive {
-            maximum: Maximum::new(messages).ok_or(Fault::InvalidParameterValue)?,
-            timeout: optional_timeout(seconds)?,
-        },
-        Call::Change(handle, seconds) => Command::Change {
-            handle,
-            timeout: timeout(seconds)?,
-        },
-        Call::Delete(handle) => Command::Delete { handle },
-        Call::Purge => Command::Purge,
-        Call::Set(name, value) => Command::Set {
-            wish: wish(alloc, name, value)?,
-            target: 0,
-        },
-        Call::Look => Command::Look,
+/// The number that a text is.
+fn number(text: &str) -> Result<u64, Fault> {
+    text.parse::<u64>()
+        .map_err(|_| Fault::InvalidParameterValue)
+}
+
+/// The first word of a text, and what stands behind it.
+fn first_word(text: &str) -> (&str, &str) {
+    text.split_once(' ').unwrap_or((text, ""))
+}
+
+/// The handle of a uid, a number and a receipt with points between them.
+fn read_handle(text: &str) -> Result<Handle, Fault> {
+    let (uid, rest) = text.split_once('.').ok_or(Fault::ReceiptHandleIsInvalid)?;
+    let (number_text, receipt) = rest.split_once('.').ok_or(Fault::ReceiptHandleIsInvalid)?;
+    Ok(Handle {
+        uid: number(uid)?,
+        number: number(number_text)?,
+        receipt: number(receipt)?,
     })
 }
 
-/// Whether the offers have these numbers, receipts and bodies, in order.
-fn are_offers(offers: &[Offer], wanted: &[(u64, u64, &str)]) -> bool {
-    if offers.len() != wanted.len() {
-        return false;
+/// The delay of so many seconds, where there is one.
+fn delay(text: &str) -> Result<Option<Delay>, Fault> {
+    if text.is_empty() {
+        return Ok(None);
     }
-    for (offer, (number, receipt, body)) in offers.iter().zip(wanted.iter()) {
-        if offer.number != *number || offer.receipt != *receipt || offer.content.body() != *body {
-            return false;
-        }
-    }
-    true
+    let seconds = u16::try_from(number(text)?).map_err(|_| Fault::InvalidParameterValue)?;
+    Ok(Some(Delay::new(seconds).ok_or(Fault::InvalidParameterValue)?))
 }
 
-/// Whether an answer is the wanted one.
-fn is_wanted(answer: &Result<Reply, Fault>, wanted: Wanted) -> bool {
-    match (answer, wanted) {
-        (Ok(Reply::Sent(posted)), Wanted::Sent(number)) => {
-            *posted
-                == Posted {
-                    number,
-                    id: MessageId { uid: 1, number },
-                }
-        }
-        (Ok(Reply::Received(offers)), Wanted::Offered(list)) => are_offers(offers.as_slice(), list),
-        (Ok(Reply::Looked(look)), Wanted::Counts(visible, delayed, in_flight)) => {
-            let gauges = look.gauges;
-            (gauges.visible, gauges.delayed, gauges.in_flight) == (visible, delayed, in_flight)
-        }
-        (Ok(Reply::Done), Wanted::Done) => true,
-        (Err(fault), Wanted::Refused(other)) => *fault == other,
-        _ => false,
+/// The timeout of so many seconds.
+fn timeout(text: &str) -> Result<Timeout, Fault> {
+    let seconds = u32::try_from(number(text)?).map_err(|_| Fault::InvalidParameterValue)?;
+    Timeout::new(seconds).ok_or(Fault::InvalidParameterValue)
+}
+
+/// The same, where there is one.
+fn optional_timeout(text: &str) -> Result<Option<Timeout>, Fault> {
+    if text.is_empty() {
+        return Ok(None);
+    }
+    Ok(Some(timeout(text)?))
+}
+
+/// So many messages at most.
+fn maximum(text: &str) -> Result<Maximum, Fault> {
+    let messages = u8::try_from(number(text)?).map_err(|_| Fault::InvalidParameterValue)?;
+    Maximum::new(messages).ok_or(Fault::InvalidParameterValue)
+}
+
+/// The command that a text says: `send` a body and perhaps a delay, `letters` and how many of them to
+/// send, `receive` a number of messages at most and perhaps a timeout, `change` a handle and its
+/// timeout, `delete` a handle, `purge`, `set` an attribute and its value, or `look`.
+fn command(alloc: Global, text: &str) -> Result<Command, Fault> {
+    let (verb, rest) = first_word(text);
+    let (first, second) = first_word(rest);
+    match verb {
+        "send" => Ok(Command::Send {
+            content: content(alloc, first)?,
+            delay: delay(second)?,
+        }),
+        "letters" => Ok(Command::Send {
+            content: letters(alloc, number(first)?)?,
+            delay: None,
+        }),
+        "receive" => Ok(Command::Receive {
+            maximum: maximum(first)?,
+            timeout: optional_timeout(second)?,
+        }),
+        "change" => Ok(Command::Change {
+            handle: read_handle(first)?,
+            timeout: timeout(second)?,
+        }),
+        "delete" => Ok(Command::Delete {
+            handle: read_handle(first)?,
+        }),
+        "purge" => Ok(Command::Purge),
+        "set" => Ok(Command::Set {
+            wish: wish(alloc, first, second)?,
+            target: 0,
+        }),
+        "look" => Ok(Command::Look),
+        _ => Err(Fault::UnsupportedOperation),
     }
 }
 
-/// A queue that was opened at 0 under the uid 1, with requested attributes.
-fn open(alloc: Global, attributes: &[(&str, &str)], limits: Limits) -> Result<QueueState, Fault> {
+/// Offers as a text: of each its number, its receipt and its body.
+fn told_offers(alloc: Global, offers: &[Offer]) -> Result<String, Fault> {
+    let mut text = String::from_str(alloc, "offered")?;
+    for offer in offers {
+        let one = format!(in alloc;
+            " {}.{} {}",
+            offer.number,
+            offer.receipt,
+            offer.content.body()
+        )?;
+        text.push_str(one.as_str())?;
+    }
+    Ok(text)
+}
+
+/// An answer as a text: the id of a message that was sent, offers, counts, `done`, or the refusal.
+fn told(alloc: Global, answer: &Result<Reply, Fault>) -> Result<String, Fault> {
+    match answer {
+        Ok(Reply::Sent(posted)) if posted.number == posted.id.number => {
+            Ok(format!(in alloc; "sent {}.{}", posted.id.uid, posted.number)?)
+        }
+        Ok(Reply::Received(offers)) => told_offers(alloc, offers.as_slice()),
+        Ok(Reply::Looked(look)) => Ok(format!(in alloc;
+            "{} visible, {} delayed, {} in flight",
+            look.gauges.visible, look.gauges.delayed, look.gauges.in_flight
+        )?),
+        Ok(Reply::Done) => Ok(String::from_str(alloc, "done")?),
+        Ok(other) => Ok(format!(in alloc; "{other:?}")?),
+        Err(fault) => Ok(format!(in alloc; "{fault:?}")?),
+    }
+}
+
+/// A queue that was opened at 0 under the uid 1, with a requested attribute or with none.
+pub(crate) fn open(
+    alloc: Global,
+    attribute: &str,
+    value: &str,
+    limits: Limits,
+) -> Result<QueueState, Fault> {
     let mut wish = Wish::new();
-    for (name, value) in attributes {
-        wish.put(alloc, name, value)?;
+    if !attribute.is_empty() {
+        wish.put(alloc, attribute, value)?;
     }
     let settings = Settings::default().with(&wish, 0);
     let name = QueueName::read("jobs")?;
     QueueState::open(alloc, 1, name, settings, limits, Moment::zero())
 }
 
-/// Asserts the answers of a queue that was opened at 0 to a list of calls, each at its moment.
+/// Asserts the answers to the calls of a text. A line without an arrow opens another queue, with an
+/// attribute or with none; each other is a moment, a call, and its answer behind the arrow.
 fn run(
     rt: &impl Abort,
     alloc: Global,
-    attributes: &[(&str, &str)],
     limits: Limits,
     ticks: &mut Ticks,
-    rows: &[(u64, Call, Wanted)],
+    text: &str,
 ) -> Result<(), Fail> {
-    let mut queue = open(alloc, attributes, limits)?;
-    let mut steps = Vec::new(alloc);
-    for (at, call, _wanted) in rows {
-        let command = command(alloc, *call)?;
-        steps.push(Step {
-            at: moment(*at)?,
-            command,
-        })?;
-    }
-    let answers = queue.run(alloc, steps.as_slice(), ticks)?;
-    assert_eq!(rt; answers.len(), rows.len());
-    for (answer, (at, call, wanted)) in answers.iter().zip(rows.iter()) {
-        assert!(rt; is_wanted(answer, *wanted), "{call:?} at {at}: {answer:?}");
+    let mut queue = open(alloc, "", "", limits)?;
+    for line in text.lines() {
+        let Some((asked, wanted)) = line.split_once(" => ") else {
+            let (_, attributes) = first_word(line);
+            let (attribute, value) = first_word(attributes);
+            queue = open(alloc, attribute, value, limits)?;
+            continue;
+        };
+        let (at, call) = first_word(asked);
+        let at = moment(number(at)?)?;
+        let answer = queue.perform(alloc, at, &command(alloc, call)?, ticks);
+        assert_eq!(rt; told(alloc, &answer)?.as_str(), wanted, "{asked}");
     }
     Ok(())
 }
@@ -199,422 +208,262 @@ fn run(
 /// A message is visible at once, and after a delay from the very moment at which it is due. The
 /// delay is the one given, 0 too, and else that of the settings at the send. A content of the
 /// queue's maximum size is taken, and one of a byte more refused.
+const SENDS: &str = "open
+1000 send hello => sent 1.0
+1500 look => 1 visible, 0 delayed, 0 in flight
+open
+1000 send a 10 => sent 1.0
+10999 look => 0 visible, 1 delayed, 0 in flight
+11000 look => 1 visible, 0 delayed, 0 in flight
+open DelaySeconds 5
+0 send a => sent 1.0
+0 send b 0 => sent 1.1
+0 send c 900 => sent 1.2
+0 set DelaySeconds 7 => done
+0 send d => sent 1.3
+4999 look => 1 visible, 3 delayed, 0 in flight
+5000 look => 2 visible, 2 delayed, 0 in flight
+6999 look => 2 visible, 2 delayed, 0 in flight
+7000 look => 3 visible, 1 delayed, 0 in flight
+899999 look => 3 visible, 1 delayed, 0 in flight
+900000 look => 4 visible, 0 delayed, 0 in flight
+open MaximumMessageSize 1024
+1 letters 1025 => InvalidParameterValue
+1 look => 0 visible, 0 delayed, 0 in flight
+1 letters 1024 => sent 1.0
+1 look => 1 visible, 0 delayed, 0 in flight
+";
+
 #[test]
 fn sends(rt: HostRuntime) -> Result<(), Fail> {
     let ticks = &mut Ticks::new(&rt);
-    let alloc = rt.alloc();
-    let limits = Limits::default();
-    let rows = [
-        (1000, Call::Send("hello", None), Wanted::Sent(0)),
-        (1500, Call::Look, Wanted::Counts(1, 0, 0)),
-    ];
-    run(&rt, alloc, &[], limits, ticks, &rows)?;
-    let rows = [
-        (1000, Call::Send("a", Some(10)), Wanted::Sent(0)),
-        (10_999, Call::Look, Wanted::Counts(0, 1, 0)),
-        (11_000, Call::Look, Wanted::Counts(1, 0, 0)),
-    ];
-    run(&rt, alloc, &[], limits, ticks, &rows)?;
-    let rows = [
-        (0, Call::Send("a", None), Wanted::Sent(0)),
-        (0, Call::Send("b", Some(0)), Wanted::Sent(1)),
-        (0, Call::Send("c", Some(900)), Wanted::Sent(2)),
-        (0, Call::Set("DelaySeconds", "7"), Wanted::Done),
-        (0, Call::Send("d", None), Wanted::Sent(3)),
-        (4999, Call::Look, Wanted::Counts(1, 3, 0)),
-        (5000, Call::Look, Wanted::Counts(2, 2, 0)),
-        (6999, Call::Look, Wanted::Counts(2, 2, 0)),
-        (7000, Call::Look, Wanted::Counts(3, 1, 0)),
-        (899_999, Call::Look, Wanted::Counts(3, 1, 0)),
-        (900_000, Call::Look, Wanted::Counts(4, 0, 0)),
-    ];
-    run(&rt, alloc, &[("DelaySeconds", "5")], limits, ticks, &rows)?;
-    let rows = [
-        (
-            1,
-            Call::SendLetters(1025),
-            Wanted::Refused(Fault::InvalidParameterValue),
-        ),
-        (1, Call::Look, Wanted::Counts(0, 0, 0)),
-        (1, Call::SendLetters(1024), Wanted::Sent(0)),
-        (1, Call::Look, Wanted::Counts(1, 0, 0)),
-    ];
-    let attributes = [("MaximumMessageSize", "1024")];
-    run(&rt, alloc, &attributes, limits, ticks, &rows)
+    run(&rt, rt.alloc(), Limits::default(), ticks, SENDS)
 }
 
 /// A message has expired from the very moment at which its retention is over. When the retention
 /// is changed, the old one counts at that moment too, and so does the new one; what has expired
 /// stays so. Messages that are sent later are not judged by a retention that was over before.
+const RETENTION: &str = "open MessageRetentionPeriod 120
+0 send a => sent 1.0
+90000 set MessageRetentionPeriod 60 => done
+91000 set MessageRetentionPeriod 120 => done
+91000 look => 0 visible, 0 delayed, 0 in flight
+91000 send b => sent 1.1
+210999 look => 1 visible, 0 delayed, 0 in flight
+211000 look => 0 visible, 0 delayed, 0 in flight
+open MessageRetentionPeriod 60
+0 send a => sent 1.0
+59999 look => 1 visible, 0 delayed, 0 in flight
+60000 look => 0 visible, 0 delayed, 0 in flight
+open MessageRetentionPeriod 60
+0 send a => sent 1.0
+60000 set MessageRetentionPeriod 120 => done
+60000 look => 0 visible, 0 delayed, 0 in flight
+open MessageRetentionPeriod 60
+0 send a => sent 1.0
+59999 set MessageRetentionPeriod 120 => done
+60000 look => 1 visible, 0 delayed, 0 in flight
+119999 look => 1 visible, 0 delayed, 0 in flight
+120000 look => 0 visible, 0 delayed, 0 in flight
+open MessageRetentionPeriod 80
+0 send a => sent 1.0
+70000 set MessageRetentionPeriod 70 => done
+70000 look => 0 visible, 0 delayed, 0 in flight
+";
+
 #[test]
 fn retention(rt: HostRuntime) -> Result<(), Fail> {
     let ticks = &mut Ticks::new(&rt);
-    let alloc = rt.alloc();
-    let limits = Limits::default();
-    let rows = [
-        (0, Call::Send("a", None), Wanted::Sent(0)),
-        (
-            90_000,
-            Call::Set("MessageRetentionPeriod", "60"),
-            Wanted::Done,
-        ),
-        (
-            91_000,
-            Call::Set("MessageRetentionPeriod", "120"),
-            Wanted::Done,
-        ),
-        (91_000, Call::Look, Wanted::Counts(0, 0, 0)),
-        (91_000, Call::Send("b", None), Wanted::Sent(1)),
-        (210_999, Call::Look, Wanted::Counts(1, 0, 0)),
-        (211_000, Call::Look, Wanted::Counts(0, 0, 0)),
-    ];
-    let attributes = [("MessageRetentionPeriod", "120")];
-    run(&rt, alloc, &attributes, limits, ticks, &rows)?;
-    let attributes = [("MessageRetentionPeriod", "60")];
-    let rows = [
-        (0, Call::Send("a", None), Wanted::Sent(0)),
-        (59_999, Call::Look, Wanted::Counts(1, 0, 0)),
-        (60_000, Call::Look, Wanted::Counts(0, 0, 0)),
-    ];
-    run(&rt, alloc, &attributes, limits, ticks, &rows)?;
-    let rows = [
-        (0, Call::Send("a", None), Wanted::Sent(0)),
-        (
-            60_000,
-            Call::Set("MessageRetentionPeriod", "120"),
-            Wanted::Done,
-        ),
-        (60_000, Call::Look, Wanted::Counts(0, 0, 0)),
-    ];
-    run(&rt, alloc, &attributes, limits, ticks, &rows)?;
-    let rows = [
-        (0, Call::Send("a", None), Wanted::Sent(0)),
-        (
-            59_999,
-            Call::Set("MessageRetentionPeriod", "120"),
-            Wanted::Done,
-        ),
-        (60_000, Call::Look, Wanted::Counts(1, 0, 0)),
-        (119_999, Call::Look, Wanted::Counts(1, 0, 0)),
-        (120_000, Call::Look, Wanted::Counts(0, 0, 0)),
-    ];
-    run(&rt, alloc, &attributes, limits, ticks, &rows)?;
-    let rows = [
-        (0, Call::Send("a", None), Wanted::Sent(0)),
-        (
-            70_000,
-            Call::Set("MessageRetentionPeriod", "70"),
-            Wanted::Done,
-        ),
-        (70_000, Call::Look, Wanted::Counts(0, 0, 0)),
-    ];
-    let attributes = [("MessageRetentionPeriod", "80")];
-    run(&rt, alloc, &attributes, limits, ticks, &rows)
+    run(&rt, rt.alloc(), Limits::default(), ticks, RETENTION)
 }
 
 /// A purge removes what is visible, delayed and in flight, and later sends are numbered on.
+const PURGES: &str = "open
+0 purge => done
+1000 send a => sent 1.0
+1000 send b => sent 1.1
+1000 send c 1 => sent 1.2
+1000 receive 1 => offered 0.1 a
+1000 look => 1 visible, 1 delayed, 1 in flight
+1000 purge => done
+1000 send d => sent 1.3
+1000 look => 1 visible, 0 delayed, 0 in flight
+99000 look => 1 visible, 0 delayed, 0 in flight
+99000 delete 1.0.1 => done
+99000 receive 10 => offered 3.1 d
+";
+
 #[test]
 fn purges(rt: HostRuntime) -> Result<(), Fail> {
     let ticks = &mut Ticks::new(&rt);
-    let rows = [
-        (0, Call::Purge, Wanted::Done),
-        (1000, Call::Send("a", None), Wanted::Sent(0)),
-        (1000, Call::Send("b", None), Wanted::Sent(1)),
-        (1000, Call::Send("c", Some(1)), Wanted::Sent(2)),
-        (
-            1000,
-            Call::Receive(1, None),
-            Wanted::Offered(&[(0, 1, "a")]),
-        ),
-        (1000, Call::Look, Wanted::Counts(1, 1, 1)),
-        (1000, Call::Purge, Wanted::Done),
-        (1000, Call::Send("d", None), Wanted::Sent(3)),
-        (1000, Call::Look, Wanted::Counts(1, 0, 0)),
-        (99_000, Call::Look, Wanted::Counts(1, 0, 0)),
-        (99_000, Call::Delete(handle(0, 1)), Wanted::Done),
-        (
-            99_000,
-            Call::Receive(10, None),
-            Wanted::Offered(&[(3, 1, "d")]),
-        ),
-    ];
-    run(&rt, rt.alloc(), &[], Limits::default(), ticks, &rows)
+    run(&rt, rt.alloc(), Limits::default(), ticks, PURGES)
 }
 
 /// A received message is in flight until its timeout ends, and visible from that very moment on.
 /// Messages are offered in the order in which they are due, and those due at the same moment in
-/// the order of their numbers. At the in-flight limit a receive is refused.
+/// the order of their numbers.
+const RECEIVES: &str = "open
+1000 send hello => sent 1.0
+2000 receive 1 => offered 0.1 hello
+31999 look => 0 visible, 0 delayed, 1 in flight
+31999 receive 1 => offered
+32000 look => 1 visible, 0 delayed, 0 in flight
+32000 receive 1 0 => offered 0.2 hello
+32000 look => 1 visible, 0 delayed, 0 in flight
+open
+1000 send a => sent 1.0
+2000 send b => sent 1.1
+3000 receive 1 => offered 0.1 a
+4000 change 1.0.1 0 => done
+4500 change 1.0.1 0 => MessageNotInflight
+5000 receive 2 => offered 1.1 b 0.2 a
+open
+1000 send a 2 => sent 1.0
+3000 send b => sent 1.1
+3000 send c => sent 1.2
+3000 receive 2 => offered 0.1 a 1.1 b
+3000 receive 2 => offered 2.1 c
+";
+
+/// With two messages in flight as the most, a receive is refused that finds two of them, whether or
+/// not another is visible.
+const IN_FLIGHT: &str = "open
+1000 send a => sent 1.0
+1000 send b => sent 1.1
+1000 send c => sent 1.2
+3000 receive 10 => offered 0.1 a 1.1 b
+3001 receive 10 => OverLimit
+3001 delete 1.2.1 => ReceiptHandleIsInvalid
+3001 delete 1.0.1 => done
+3001 receive 10 => offered 2.1 c
+3001 receive 10 => OverLimit
+";
+
 #[test]
 fn receives(rt: HostRuntime) -> Result<(), Fail> {
     let ticks = &mut Ticks::new(&rt);
-    let alloc = rt.alloc();
-    let limits = Limits::default();
-    let rows = [
-        (1000, Call::Send("hello", None), Wanted::Sent(0)),
-        (
-            2000,
-            Call::Receive(1, None),
-            Wanted::Offered(&[(0, 1, "hello")]),
-        ),
-        (31_999, Call::Look, Wanted::Counts(0, 0, 1)),
-        (31_999, Call::Receive(1, None), Wanted::Offered(&[])),
-        (32_000, Call::Look, Wanted::Counts(1, 0, 0)),
-        (
-            32_000,
-            Call::Receive(1, Some(0)),
-            Wanted::Offered(&[(0, 2, "hello")]),
-        ),
-        (32_000, Call::Look, Wanted::Counts(1, 0, 0)),
-    ];
-    run(&rt, alloc, &[], limits, ticks, &rows)?;
-    let rows = [
-        (1000, Call::Send("a", None), Wanted::Sent(0)),
-        (2000, Call::Send("b", None), Wanted::Sent(1)),
-        (
-            3000,
-            Call::Receive(1, None),
-            Wanted::Offered(&[(0, 1, "a")]),
-        ),
-        (4000, Call::Change(handle(0, 1), 0), Wanted::Done),
-        (
-            4500,
-            Call::Change(handle(0, 1), 0),
-            Wanted::Refused(Fault::MessageNotInflight),
-        ),
-        (
-            5000,
-            Call::Receive(2, None),
-            Wanted::Offered(&[(1, 1, "b"), (0, 2, "a")]),
-        ),
-    ];
-    run(&rt, alloc, &[], limits, ticks, &rows)?;
-    let rows = [
-        (1000, Call::Send("a", Some(2)), Wanted::Sent(0)),
-        (3000, Call::Send("b", None), Wanted::Sent(1)),
-        (3000, Call::Send("c", None), Wanted::Sent(2)),
-        (
-            3000,
-            Call::Receive(2, None),
-            Wanted::Offered(&[(0, 1, "a"), (1, 1, "b")]),
-        ),
-        (
-            3000,
-            Call::Receive(2, None),
-            Wanted::Offered(&[(2, 1, "c")]),
-        ),
-    ];
-    run(&rt, alloc, &[], limits, ticks, &rows)?;
+    run(&rt, rt.alloc(), Limits::default(), ticks, RECEIVES)?;
     let limits = Limits {
-        max_lines: 1_000_000,
         in_flight: 2,
+        ..Limits::default()
     };
-    let rows = [
-        (1000, Call::Send("a", None), Wanted::Sent(0)),
-        (1000, Call::Send("b", None), Wanted::Sent(1)),
-        (1000, Call::Send("c", None), Wanted::Sent(2)),
-        (
-            3000,
-            Call::Receive(10, None),
-            Wanted::Offered(&[(0, 1, "a"), (1, 1, "b")]),
-        ),
-        (
-            3001,
-            Call::Receive(10, None),
-            Wanted::Refused(Fault::OverLimit),
-        ),
-        (
-            3001,
-            Call::Delete(handle(2, 1)),
-            Wanted::Refused(Fault::ReceiptHandleIsInvalid),
-        ),
-        (3001, Call::Delete(handle(0, 1)), Wanted::Done),
-        (
-            3001,
-            Call::Receive(10, None),
-            Wanted::Offered(&[(2, 1, "c")]),
-        ),
-        (
-            3001,
-            Call::Receive(10, None),
-            Wanted::Refused(Fault::OverLimit),
-        ),
-    ];
-    run(&rt, alloc, &[], limits, ticks, &rows)
+    run(&rt, rt.alloc(), limits, ticks, IN_FLIGHT)
 }
 
 /// A timeout may end at twelve hours after the last receive, and not later. A handle that was
 /// never given comes before a message that is not in flight, and that before the timeout. A
 /// refused change moves no deadline.
+const CHANGES: &str = "open
+1000 send a => sent 1.0
+3000 receive 1 30 => offered 0.1 a
+3000 change 1.0.1 43200 => done
+3001 change 1.0.1 43200 => InvalidParameterValue
+3002 change 1.0.1 43199 => done
+43202001 look => 0 visible, 0 delayed, 1 in flight
+43202002 look => 1 visible, 0 delayed, 0 in flight
+open
+1000 send hello => sent 1.0
+2000 receive 1 => offered 0.1 hello
+2500 change 1.0.2 60 => ReceiptHandleIsInvalid
+31999 look => 0 visible, 0 delayed, 1 in flight
+32000 look => 1 visible, 0 delayed, 0 in flight
+32000 delete 1.0.1 => done
+32000 look => 0 visible, 0 delayed, 0 in flight
+open
+1000 send a => sent 1.0
+1000 send b 900 => sent 1.1
+1000 receive 1 1 => offered 0.1 a
+2000 receive 1 9 => offered 0.2 a
+2001 change 2.0.1 43200 => ReceiptHandleIsInvalid
+2001 change 1.0.0 43200 => ReceiptHandleIsInvalid
+2001 change 1.0.3 43200 => ReceiptHandleIsInvalid
+2001 change 1.1.1 43200 => ReceiptHandleIsInvalid
+2001 change 1.2.1 43200 => ReceiptHandleIsInvalid
+2001 change 1.0.1 43200 => MessageNotInflight
+2001 change 1.0.2 43200 => InvalidParameterValue
+10999 look => 0 visible, 1 delayed, 1 in flight
+11000 look => 1 visible, 1 delayed, 0 in flight
+11000 change 1.0.2 43200 => MessageNotInflight
+";
+
 #[test]
 fn changes(rt: HostRuntime) -> Result<(), Fail> {
     let ticks = &mut Ticks::new(&rt);
-    let alloc = rt.alloc();
-    let limits = Limits::default();
-    let invalid = Wanted::Refused(Fault::ReceiptHandleIsInvalid);
-    let not_in_flight = Wanted::Refused(Fault::MessageNotInflight);
-    let too_long = Wanted::Refused(Fault::InvalidParameterValue);
-    let rows = [
-        (1000, Call::Send("a", None), Wanted::Sent(0)),
-        (
-            3000,
-            Call::Receive(1, Some(30)),
-            Wanted::Offered(&[(0, 1, "a")]),
-        ),
-        (3000, Call::Change(handle(0, 1), 43_200), Wanted::Done),
-        (3001, Call::Change(handle(0, 1), 43_200), too_long),
-        (3002, Call::Change(handle(0, 1), 43_199), Wanted::Done),
-        (43_202_001, Call::Look, Wanted::Counts(0, 0, 1)),
-        (43_202_002, Call::Look, Wanted::Counts(1, 0, 0)),
-    ];
-    run(&rt, alloc, &[], limits, ticks, &rows)?;
-    let rows = [
-        (1000, Call::Send("hello", None), Wanted::Sent(0)),
-        (
-            2000,
-            Call::Receive(1, None),
-            Wanted::Offered(&[(0, 1, "hello")]),
-        ),
-        (2500, Call::Change(handle(0, 2), 60), invalid),
-        (31_999, Call::Look, Wanted::Counts(0, 0, 1)),
-        (32_000, Call::Look, Wanted::Counts(1, 0, 0)),
-        (32_000, Call::Delete(handle(0, 1)), Wanted::Done),
-        (32_000, Call::Look, Wanted::Counts(0, 0, 0)),
-    ];
-    run(&rt, alloc, &[], limits, ticks, &rows)?;
-    let other = Handle {
-        uid: 2,
-        number: 0,
-        receipt: 1,
-    };
-    let rows = [
-        (1000, Call::Send("a", None), Wanted::Sent(0)),
-        (1000, Call::Send("b", Some(900)), Wanted::Sent(1)),
-        (
-            1000,
-            Call::Receive(1, Some(1)),
-            Wanted::Offered(&[(0, 1, "a")]),
-        ),
-        (
-            2000,
-            Call::Receive(1, Some(9)),
-            Wanted::Offered(&[(0, 2, "a")]),
-        ),
-        (2001, Call::Change(other, 43_200), invalid),
-        (2001, Call::Change(handle(0, 0), 43_200), invalid),
-        (2001, Call::Change(handle(0, 3), 43_200), invalid),
-        (2001, Call::Change(handle(1, 1), 43_200), invalid),
-        (2001, Call::Change(handle(2, 1), 43_200), invalid),
-        (2001, Call::Change(handle(0, 1), 43_200), not_in_flight),
-        (2001, Call::Change(handle(0, 2), 43_200), too_long),
-        (10_999, Call::Look, Wanted::Counts(0, 1, 1)),
-        (11_000, Call::Look, Wanted::Counts(1, 1, 0)),
-        (11_000, Call::Change(handle(0, 2), 43_200), not_in_flight),
-    ];
-    run(&rt, alloc, &[], limits, ticks, &rows)
+    run(&rt, rt.alloc(), Limits::default(), ticks, CHANGES)
 }
 
 /// The latest handle deletes, also after its timeout has ended. Each other handle that was given
 /// is answered alike and deletes nothing, and one that was not is refused.
+const DELETES: &str = "open VisibilityTimeout 1
+1000 send hello => sent 1.0
+2000 receive 1 => offered 0.1 hello
+3000 receive 1 => offered 0.2 hello
+3100 delete 1.0.1 => done
+3100 look => 0 visible, 0 delayed, 1 in flight
+3200 delete 1.0.2 => done
+3200 look => 0 visible, 0 delayed, 0 in flight
+3300 delete 1.0.2 => done
+3300 change 1.0.2 0 => MessageNotInflight
+3300 delete 1.1.1 => ReceiptHandleIsInvalid
+9000 look => 0 visible, 0 delayed, 0 in flight
+open MessageRetentionPeriod 60
+0 send a => sent 1.0
+0 receive 1 => offered 0.1 a
+60000 delete 1.0.1 => done
+60000 look => 0 visible, 0 delayed, 0 in flight
+";
+
 #[test]
 fn deletes(rt: HostRuntime) -> Result<(), Fail> {
     let ticks = &mut Ticks::new(&rt);
-    let alloc = rt.alloc();
-    let limits = Limits::default();
-    let attributes = [("VisibilityTimeout", "1")];
-    let rows = [
-        (1000, Call::Send("hello", None), Wanted::Sent(0)),
-        (
-            2000,
-            Call::Receive(1, None),
-            Wanted::Offered(&[(0, 1, "hello")]),
-        ),
-        (
-            3000,
-            Call::Receive(1, None),
-            Wanted::Offered(&[(0, 2, "hello")]),
-        ),
-        (3100, Call::Delete(handle(0, 1)), Wanted::Done),
-        (3100, Call::Look, Wanted::Counts(0, 0, 1)),
-        (3200, Call::Delete(handle(0, 2)), Wanted::Done),
-        (3200, Call::Look, Wanted::Counts(0, 0, 0)),
-        (3300, Call::Delete(handle(0, 2)), Wanted::Done),
-        (
-            3300,
-            Call::Change(handle(0, 2), 0),
-            Wanted::Refused(Fault::MessageNotInflight),
-        ),
-        (
-            3300,
-            Call::Delete(handle(1, 1)),
-            Wanted::Refused(Fault::ReceiptHandleIsInvalid),
-        ),
-        (9000, Call::Look, Wanted::Counts(0, 0, 0)),
-    ];
-    run(&rt, alloc, &attributes, limits, ticks, &rows)?;
-    let attributes = [("MessageRetentionPeriod", "60")];
-    let rows = [
-        (0, Call::Send("a", None), Wanted::Sent(0)),
-        (0, Call::Receive(1, None), Wanted::Offered(&[(0, 1, "a")])),
-        (60_000, Call::Delete(handle(0, 1)), Wanted::Done),
-        (60_000, Call::Look, Wanted::Counts(0, 0, 0)),
-    ];
-    run(&rt, alloc, &attributes, limits, ticks, &rows)
+    run(&rt, rt.alloc(), Limits::default(), ticks, DELETES)
 }
 
-/// The last place of a journal is used. A full journal refuses each command before all else, adds
-/// nothing, and is looked at as ever.
+/// The last of four places of a journal is used. A full journal refuses each command before all else,
+/// adds nothing, and is looked at as ever.
+const FULL_JOURNALS: &str = "open
+1000 send a => sent 1.0
+1000 send b => sent 1.1
+1000 send c => sent 1.2
+1000 send d => JournalFull
+1000 look => 3 visible, 0 delayed, 0 in flight
+open
+1000 send a => sent 1.0
+1000 receive 1 => offered 0.1 a
+1000 receive 1 => OverLimit
+1000 receive 1 => JournalFull
+1000 change 1.0.1 0 => JournalFull
+1000 delete 1.0.1 => JournalFull
+1000 look => 0 visible, 0 delayed, 1 in flight
+";
+
+/// The same where the opening takes the only place.
+const JOURNALS_OF_ONE: &str = "open MaximumMessageSize 1024
+0 send a => JournalFull
+0 letters 1025 => JournalFull
+0 receive 1 => JournalFull
+0 change 1.0.0 0 => JournalFull
+0 delete 1.0.0 => JournalFull
+0 purge => JournalFull
+0 set DelaySeconds 1 => JournalFull
+0 look => 0 visible, 0 delayed, 0 in flight
+";
+
 #[test]
 fn full_journals(rt: HostRuntime) -> Result<(), Fail> {
     let ticks = &mut Ticks::new(&rt);
     let alloc = rt.alloc();
-    let full = Wanted::Refused(Fault::JournalFull);
     let limits = Limits {
         max_lines: 4,
         in_flight: 1,
     };
-    let rows = [
-        (1000, Call::Send("a", None), Wanted::Sent(0)),
-        (1000, Call::Send("b", None), Wanted::Sent(1)),
-        (1000, Call::Send("c", None), Wanted::Sent(2)),
-        (1000, Call::Send("d", None), full),
-        (1000, Call::Look, Wanted::Counts(3, 0, 0)),
-    ];
-    run(&rt, alloc, &[], limits, ticks, &rows)?;
-    let rows = [
-        (1000, Call::Send("a", None), Wanted::Sent(0)),
-        (
-            1000,
-            Call::Receive(1, None),
-            Wanted::Offered(&[(0, 1, "a")]),
-        ),
-        (
-            1000,
-            Call::Receive(1, None),
-            Wanted::Refused(Fault::OverLimit),
-        ),
-        (1000, Call::Receive(1, None), full),
-        (1000, Call::Change(handle(0, 1), 0), full),
-        (1000, Call::Delete(handle(0, 1)), full),
-        (1000, Call::Look, Wanted::Counts(0, 0, 1)),
-    ];
-    run(&rt, alloc, &[], limits, ticks, &rows)?;
+    run(&rt, alloc, limits, ticks, FULL_JOURNALS)?;
     let limits = Limits {
         max_lines: 1,
         in_flight: 1,
     };
-    let rows = [
-        (0, Call::Send("a", None), full),
-        (0, Call::SendLetters(1025), full),
-        (0, Call::Receive(1, None), full),
-        (0, Call::Change(handle(0, 0), 0), full),
-        (0, Call::Delete(handle(0, 0)), full),
-        (0, Call::Purge, full),
-        (0, Call::Set("DelaySeconds", "1"), full),
-        (0, Call::Look, Wanted::Counts(0, 0, 0)),
-    ];
-    let attributes = [("MaximumMessageSize", "1024")];
-    run(&rt, alloc, &attributes, limits, ticks, &rows)?;
-    let mut queue = open(alloc, &[], limits)?;
+    run(&rt, alloc, limits, ticks, JOURNALS_OF_ONE)?;
+    let mut queue = open(alloc, "", "", limits)?;
     let answer = queue.purge(alloc, moment(5)?, ticks);
     assert_eq!(rt; answer, Err(Fault::JournalFull));
     let look = queue.look(Moment::zero(), ticks);
@@ -628,7 +477,7 @@ fn full_journals(rt: HostRuntime) -> Result<(), Fail> {
 fn looks(rt: HostRuntime) -> Result<(), Fail> {
     let ticks = &mut Ticks::new(&rt);
     let alloc = rt.alloc();
-    let mut queue = open(alloc, &[], Limits::default())?;
+    let mut queue = open(alloc, "", "", Limits::default())?;
     for (at, body) in [(1000, "a"), (2000, "b")] {
         queue.send(alloc, moment(at)?, content(alloc, body)?, None, ticks)?;
     }
@@ -671,7 +520,7 @@ fn looks(rt: HostRuntime) -> Result<(), Fail> {
 fn offers(rt: HostRuntime) -> Result<(), Fail> {
     let ticks = &mut Ticks::new(&rt);
     let alloc = rt.alloc();
-    let mut queue = open(alloc, &[], Limits::default())?;
+    let mut queue = open(alloc, "", "", Limits::default())?;
     queue.advance(moment(9000)?, ticks);
     queue.advance(moment(100)?, ticks);
     queue.send(alloc, moment(8000)?, content(alloc, "a")?, None, ticks)?;
@@ -714,100 +563,101 @@ fn ranges(rt: HostRuntime) {
     );
 }
 
-/// Asks once more where memory was refused, after asserting that the clock alone has moved.
+/// Asks once more where memory was refused, after asserting that the clock alone has moved, and
+/// asserts the answer.
 fn ask_again(
     rt: &impl Abort,
     alloc: Global,
     ticks: &mut Ticks,
     queue: &mut QueueState,
     at: Moment,
-    call: Call,
-) -> Result<Result<Reply, Fault>, Fail> {
-    let command = command_again(alloc, call)?;
+    line: &str,
+) -> Result<(), Fail> {
+    let (call, wanted) = line.split_once(" => ").ok_or("a call and its answer")?;
+    let command = match command(alloc, call) {
+        Err(Fault::OutOfMemory) => command(alloc, call)?,
+        command => command?,
+    };
     let before = queue.look(Moment::zero(), ticks);
-    let answer = queue.perform(alloc, at, &command, ticks);
-    if !matches!(answer, Err(Fault::OutOfMemory)) {
-        return Ok(answer);
-    }
-    let after = queue.look(Moment::zero(), ticks);
-    assert_eq!(rt;
-        after,
-        Look {
+    let mut answer = queue.perform(alloc, at, &command, ticks);
+    if matches!(answer, Err(Fault::OutOfMemory)) {
+        let after = queue.look(Moment::zero(), ticks);
+        let moved = Look {
             clock: at,
             ..before
-        },
-        "{call:?}"
-    );
-    Ok(queue.perform(alloc, at, &command, ticks))
+        };
+        assert_eq!(rt; after, moved, "{call}");
+        answer = queue.perform(alloc, at, &command, ticks);
+    }
+    let told = match told(alloc, &answer) {
+        Err(Fault::OutOfMemory) => told(alloc, &answer)?,
+        text => text?,
+    };
+    assert_eq!(rt; told.as_str(), wanted, "{call}");
+    Ok(())
 }
 
 /// A queue that was opened at 0, opened once more where memory was refused.
 fn open_again(
     alloc: Global,
-    attributes: &[(&str, &str)],
+    attribute: &str,
+    value: &str,
     limits: Limits,
 ) -> Result<QueueState, Fault> {
-    match open(alloc, attributes, limits) {
-        Err(Fault::OutOfMemory) => open(alloc, attributes, limits),
+    match open(alloc, attribute, value, limits) {
+        Err(Fault::OutOfMemory) => open(alloc, attribute, value, limits),
         answer => answer,
     }
 }
 
-/// The command that a call is, made once more where memory was refused.
-fn command_again(alloc: Global, call: Call) -> Result<Command, Fault> {
-    match command(alloc, call) {
-        Err(Fault::OutOfMemory) => command(alloc, call),
-        answer => answer,
-    }
-}
+/// Calls whose allocation may be refused.
+const LAST_CALLS: &str = "send c => sent 1.2
+letters 1025 => InvalidParameterValue
+receive 2 => offered 1.1 b
+change 1.0.1 9 => done
+change 1.0.2 9 => ReceiptHandleIsInvalid
+delete 1.0.1 => done
+delete 1.0.2 => ReceiptHandleIsInvalid
+purge => done
+set DelaySeconds 1 => done
+";
 
 /// Calls whose allocation is refused answer `OutOfMemory`, move the clock and nothing else, and
 /// give their answers when asked again. Each is asked of a queue of four entries, whose journal
 /// then grows. The gate runs this with ample memory, where the first calls answer;
-/// `rt try --test --fail-alloc N -- refused_memory` refuses the Nth allocation, N from 1 to 96.
+/// `rt try --test --fail-alloc N -- refused_memory` refuses the Nth allocation.
 #[test]
 fn refused_memory(rt: HostRuntime) -> Result<(), Fail> {
     let ticks = &mut Ticks::new(&rt);
     let alloc = rt.alloc();
     let limits = Limits::default();
-    let first = [
-        (1000, Call::Send("a", None), Wanted::Sent(0)),
-        (1000, Call::Send("b", None), Wanted::Sent(1)),
-        (
-            1001,
-            Call::Receive(1, None),
-            Wanted::Offered(&[(0, 1, "a")]),
-        ),
-    ];
-    let last = [
-        (Call::Send("c", None), Wanted::Sent(2)),
-        (
-            Call::SendLetters(1025),
-            Wanted::Refused(Fault::InvalidParameterValue),
-        ),
-        (Call::Receive(2, None), Wanted::Offered(&[(1, 1, "b")])),
-        (Call::Change(handle(0, 1), 9), Wanted::Done),
-        (
-            Call::Change(handle(0, 2), 9),
-            Wanted::Refused(Fault::ReceiptHandleIsInvalid),
-        ),
-        (Call::Delete(handle(0, 1)), Wanted::Done),
-        (
-            Call::Delete(handle(0, 2)),
-            Wanted::Refused(Fault::ReceiptHandleIsInvalid),
-        ),
-        (Call::Purge, Wanted::Done),
-        (Call::Set("DelaySeconds", "1"), Wanted::Done),
-    ];
-    let attributes = [("MaximumMessageSize", "1024")];
-    for (call, wanted) in last {
-        let mut queue = open_again(alloc, &attributes, limits)?;
-        for (at, call, wanted) in first {
-            let answer = ask_again(&rt, alloc, ticks, &mut queue, moment(at)?, call)?;
-            assert!(rt; is_wanted(&answer, wanted), "{call:?} at {at}: {answer:?}");
-        }
-        let answer = ask_again(&rt, alloc, ticks, &mut queue, moment(1002)?, call)?;
-        assert!(rt; is_wanted(&answer, wanted), "{call:?}: {answer:?}");
+    for line in LAST_CALLS.lines() {
+        let queue = &mut open_again(alloc, "MaximumMessageSize", "1024", limits)?;
+        ask_again(
+            &rt,
+            alloc,
+            ticks,
+            queue,
+            moment(1000)?,
+            "send a => sent 1.0",
+        )?;
+        ask_again(
+            &rt,
+            alloc,
+            ticks,
+            queue,
+            moment(1000)?,
+            "send b => sent 1.1",
+        )?;
+        ask_again(
+            &rt,
+            alloc,
+            ticks,
+            queue,
+            moment(1001)?,
+            "receive 1 => offered 0.1 a",
+        )?;
+        ask_again(&rt, alloc, ticks, queue, moment(1002)?, line)?;
     }
     Ok(())
 }
@@ -818,7 +668,7 @@ fn refused_memory(rt: HostRuntime) -> Result<(), Fail> {
 fn refused_memory_for_answers(rt: HostRuntime) -> Result<(), Fail> {
     let ticks = &mut Ticks::new(&rt);
     let alloc = rt.alloc();
-    let mut queue = open_again(alloc, &[], Limits::default())?;
+    let mut queue = open_again(alloc, "", "", Limits::default())?;
     let steps = [
         Step {
             at: moment(5)?,
@@ -838,8 +688,8 @@ fn refused_memory_for_answers(rt: HostRuntime) -> Result<(), Fail> {
         answer => answer?,
     };
     assert_eq!(rt; answers.len(), 2);
-    assert!(rt; is_wanted(&answers[0], Wanted::Done));
-    assert!(rt; is_wanted(&answers[1], Wanted::Counts(0, 0, 0)));
+    assert!(rt; matches!(&answers[0], Ok(Reply::Done)));
+    assert!(rt; matches!(&answers[1], Ok(Reply::Looked(_))));
     let look = queue.look(Moment::zero(), ticks);
     assert_eq!(rt; (look.clock, look.lines), (moment(7)?, 2));
     Ok(())

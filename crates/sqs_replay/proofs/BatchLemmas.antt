@@ -8,7 +8,7 @@ use Rattle.aws_json.specs.Steps.{result_map}
 use Rattle.aws_json.specs.declared.batch.BatchAnswer.{BatchAnswer}
 use Rattle.aws_json.specs.declared.batch.BatchEntry.{BatchEntry}
 use Rattle.aws_json.specs.declared.batch.EntryReply.{EntryReply}
-use Rattle.sqs_replay.specs.World.{World}
+use Rattle.redrive.specs.World.{World}
 use Rattle.sqs_replay.specs.Served.{entry_reply, entry_answer, entry_world, batch_answers, batch_world}
 
 -- what a share of the content is told is what the content itself is

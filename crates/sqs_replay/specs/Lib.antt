@@ -4,8 +4,6 @@ pub mod Cutting
 pub mod Answers
 pub mod Progress
 pub mod Device
-pub mod World
-pub mod WorldRun
 pub mod InputLine
 pub mod Served
 pub mod Replay

@@ -6,7 +6,7 @@ use Rattle.message.specs.declared.fault.Fault.{Fault}
 use Rattle.message.specs.declared.fault.Fault.TheVariants.{SerializationException}
 use Rattle.sqs_replay.specs.declared.lines.TheConstants.{LINE_LIMIT}
 use Rattle.sqs_replay.specs.declared.answer.Timed.{Timed}
-use Rattle.sqs_replay.specs.World.{World}
+use Rattle.redrive.specs.World.{World}
 use Rattle.sqs_replay.specs.Served.{asked_of, answer_text, line_answer, line_world, text_of_line, world_of_line}
 
 asked_of-long : (line : List ℕ) → LINE_LIMIT < length line → asked_of line ≡ Err SerializationException

@@ -1,10 +1,10 @@
 -- What a whole replay writes.
 use Rattle.std.specs.Prelude.{ℕ, List}
-use Rattle.queue_config.specs.Limits.{QueueLimits}
+use Rattle.queue_config.specs.Config.{Configuration}
 use Rattle.sqs_replay.specs.Answers.{replay_text}
-use Rattle.sqs_replay.specs.World.{new_world}
+use Rattle.redrive.specs.World.{new_world}
 use Rattle.sqs_replay.specs.Served.{text_of_line, world_of_line}
 
--- the answers to the lines of an input, one after another, beginning without queues
-abbrev pub replay_output : QueueLimits → List ℕ → List ℕ
-replay_output limits input = replay_text text_of_line world_of_line (new_world limits) input
+-- the answers to the lines of an input, one after another, beginning with the configured queues, which open at the time 0
+abbrev pub replay_output : Configuration → List ℕ → List ℕ
+replay_output config input = replay_text text_of_line world_of_line (new_world config 0) input

@@ -20,18 +20,18 @@ use Rattle.aws_json.specs.declared.batch.BatchAnswer.{BatchAnswer}
 use Rattle.aws_json.specs.declared.batch.BatchEntry.{BatchEntry}
 use Rattle.aws_json.specs.declared.batch.EntryReply.{EntryReply}
 use Rattle.aws_json.specs.declared.batch.EntryReply.TheVariants as entries
-use Rattle.aws_json.specs.declared.request.CountNames.{CountNames}
+use Rattle.aws_json.specs.declared.request.AttributeNames.{AttributeNames}
 use Rattle.aws_json.specs.declared.request.ReceiveNames.{ReceiveNames}
 use Rattle.aws_json.specs.declared.request.Request.{Request}
 use Rattle.aws_json.specs.declared.request.Request.TheVariants as requests
 use Rattle.aws_json.specs.declared.reply.ReplyShape.{ReplyShape}
-use Rattle.aws_json.specs.declared.reply.ReplyShape.TheVariants.{QueueUrl, Sent, Counts, Messages, Batch, Nothing}
+use Rattle.aws_json.specs.declared.reply.ReplyShape.TheVariants.{QueueUrl, QueueUrls, Sent, Attributes, Messages, Batch, Nothing}
 use Rattle.sqs_replay.specs.declared.lines.TheConstants.{LINE_LIMIT}
 use Rattle.sqs_replay.specs.declared.answer.Asked.{Asked}
 use Rattle.sqs_replay.specs.declared.answer.Asked.TheVariants.{Client, Tick}
 use Rattle.sqs_replay.specs.declared.answer.Timed.{Timed}
 use Rattle.sqs_replay.specs.InputLine.{input_line_of}
-use Rattle.sqs_replay.specs.World.{World, found_uid, create_answer, world_after_create, step_answer, world_after_step, world_at_moment}
+use Rattle.redrive.specs.World.{World, found_uid, create_answer, world_after_create, step_answer, world_after_step, delete_answer, without_queue, names_in_world, world_at_moment}
 
 -- ---- what a line asks
 
@@ -64,11 +64,11 @@ sent_shape content (replies.Received offers) = Nothing
 sent_shape content (replies.Looked look) = Nothing
 sent_shape content replies.Done = Nothing
 
-abbrev pub counts_shape : Option CountNames → Reply → ReplyShape
-counts_shape names (replies.Sent posted) = Nothing
-counts_shape names (replies.Received offers) = Nothing
-counts_shape names (replies.Looked look) = Counts names look.gauges.visible look.gauges.delayed look.gauges.in_flight
-counts_shape names replies.Done = Nothing
+abbrev pub attributes_shape : Option AttributeNames → List ℕ → Reply → ReplyShape
+attributes_shape names queue (replies.Sent posted) = Nothing
+attributes_shape names queue (replies.Received offers) = Nothing
+attributes_shape names queue (replies.Looked look) = Attributes names queue look
+attributes_shape names queue replies.Done = Nothing
 
 abbrev pub messages_shape : ReceiveNames → List (List ℕ) → ℕ → Reply → ReplyShape
 messages_shape names patterns uid (replies.Sent posted) = Nothing
@@ -92,6 +92,7 @@ entry_reply (commands.Change handle timeout) reply = entries.Done
 entry_reply (commands.Delete handle) reply = entries.Done
 entry_reply commands.Purge reply = entries.Done
 entry_reply (commands.Set wish target) reply = entries.Done
+entry_reply commands.Close reply = entries.Done
 entry_reply commands.Look reply = entries.Done
 
 -- an entry with a fault of its own reaches no queue
@@ -117,9 +118,12 @@ batch_world w uid at (e ∷ es) = batch_world (entry_world w uid at e.command) u
 abbrev pub request_answer : World → ℕ → Request → Result ReplyShape Fault
 request_answer w at (requests.CreateQueue name wish) = result_map (λ uid. QueueUrl name) (create_answer w name wish)
 request_answer w at (requests.SendMessage queue content delay) = result_map (sent_shape content) (command_answer w at queue (commands.Send content delay))
-request_answer w at (requests.GetQueueAttributes queue names) = result_map (counts_shape names) (command_answer w at queue commands.Look)
+request_answer w at (requests.GetQueueAttributes queue names) = result_map (attributes_shape names queue) (command_answer w at queue commands.Look)
 request_answer w at (requests.SetQueueAttributes queue wish) = result_map done_shape (command_answer w at queue (commands.Set wish 0))
 request_answer w at (requests.PurgeQueue queue) = result_map done_shape (command_answer w at queue commands.Purge)
+request_answer w at (requests.DeleteQueue queue) = named_uid w queue >>= λ uid. result_map (λ deleted. Nothing) (delete_answer w uid)
+request_answer w at (requests.GetQueueUrl name) = result_map (λ uid. QueueUrl name) (named_uid w name)
+request_answer w at (requests.ListQueues prefix) = Ok (QueueUrls (names_in_world w prefix))
 request_answer w at (requests.ReceiveMessage queue maximum timeout wait names patterns) =
     named_uid w queue >>= λ uid. result_map (messages_shape names patterns uid) (step_answer w uid at (commands.Receive maximum timeout))
 request_answer w at (requests.DeleteMessage queue handle) = result_map done_shape (command_answer w at queue (commands.Delete handle))
@@ -132,6 +136,9 @@ request_world w at (requests.SendMessage queue content delay) = command_world w 
 request_world w at (requests.GetQueueAttributes queue names) = command_world w at queue commands.Look
 request_world w at (requests.SetQueueAttributes queue wish) = command_world w at queue (commands.Set wish 0)
 request_world w at (requests.PurgeQueue queue) = command_world w at queue commands.Purge
+request_world w at (requests.DeleteQueue queue) = option_map_or (λ uid. without_queue w uid) (found_uid w queue) w
+request_world w at (requests.GetQueueUrl name) = w
+request_world w at (requests.ListQueues prefix) = w
 request_world w at (requests.ReceiveMessage queue maximum timeout wait names patterns) = command_world w at queue (commands.Receive maximum timeout)
 request_world w at (requests.DeleteMessage queue handle) = command_world w at queue (commands.Delete handle)
 request_world w at (requests.ChangeMessageVisibility queue handle timeout) = command_world w at queue (commands.Change handle timeout)

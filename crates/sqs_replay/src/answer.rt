@@ -1,25 +1,26 @@
 //! What a line of the input asks, and its answer.
 
-ghost use Rattle.std.specs.Prelude.{◌≡◌, ◌<◌, ℕ, ◌++◌, length, codes, decimal, Option, IfOk, IfErr, OnOk, false};
+ghost use Rattle.std.specs.Prelude.{◌≡◌, ◌<◌, ℕ, ◌++◌, length, codes, decimal, Option, IfOk, IfErr, OnOk, Ok, false};
 ghost use Rattle.message.specs.Fault.{Meets, is_out_of_memory};
 ghost use Rattle.aws_json.specs.Steps.{◌>>=◌ as ◌then◌, result_map};
-ghost use Rattle.sqs_replay.specs.World.{step_answer};
-ghost use Rattle.sqs_replay.specs.Served.{done_shape, asked_by, asked_of, named_uid, command_answer, command_world, sent_shape, counts_shape, messages_shape, request_answer, request_world, asked_answer, asked_world, line_answer, line_world, answer_text, text_of_line, world_of_line, Leaves};
+ghost use Rattle.redrive.specs.World.{step_answer, names_in_world};
+ghost use Rattle.aws_json.specs.declared.reply.ReplyShape.TheVariants.{QueueUrl, QueueUrls};
+ghost use Rattle.sqs_replay.specs.Served.{done_shape, asked_by, asked_of, named_uid, command_answer, command_world, sent_shape, attributes_shape, messages_shape, request_answer, request_world, asked_answer, asked_world, line_answer, line_world, answer_text, text_of_line, world_of_line, Leaves};
 
 use crate::ReplayFault;
 use crate::batch::answer_batch;
-use crate::house::House;
 use crate::input_line::{InputLine, read_line};
 use crate::lines::{LINE_LIMIT, Lines};
 use aws_json::{
-    CountNames, Patterns, ReceiveNames, ReplyShape, Request, fault_text, parse, read_object,
-    reply_text, status,
+    AttributeNames, Patterns, Prefix, QueueNames, ReceiveNames, ReplyShape, Request, fault_text,
+    parse, read_object, reply_text, status,
 };
 use journal::{Moment, Ticks};
 use message::{Content, Fault, QueueName};
 use queue_config::Wish;
 use queue_core::{Command, Delay, Reply, Timeout};
 use receipt_handle::Handle;
+use redrive::House;
 use std::alloc::Global;
 
 /// What a line asks.
@@ -138,34 +139,65 @@ fn send(
 }
 
 /// What a look's reply is to a client.
-fn counts_shape(names: Option<CountNames>, reply: &Reply) -> ReplyShape
-    ensures { result ≡ counts_shape names reply.now }
+fn attributes_shape(names: Option<AttributeNames>, queue: &QueueName, reply: &Reply) -> ReplyShape
+    ensures { result ≡ attributes_shape names queue.now reply.now }
 {
     match reply {
-        Reply::Looked(look) => ReplyShape::Counts {
+        Reply::Looked(look) => ReplyShape::Attributes {
             names,
-            visible: look.gauges.visible,
-            delayed: look.gauges.delayed,
-            in_flight: look.gauges.in_flight,
+            queue: *queue,
+            look: *look,
         },
         Reply::Sent(_) | Reply::Received(_) | Reply::Done => ReplyShape::Nothing,
     }
 }
 
-/// Answers the counts of a queue, which is looked at even where no name was asked.
-fn counts(
+/// Answers the attributes of a queue, which is looked at even where no name was asked.
+fn attributes(
     alloc: Global,
     house: &mut House,
     at: Moment,
     queue: &QueueName,
-    names: Option<CountNames>,
+    names: Option<AttributeNames>,
     ticks: &mut Ticks,
 ) -> Result<ReplyShape, Fault>
     ensures answer { Meets result (request_answer house.old at (Request.GetQueueAttributes queue.now names)) }
     ensures state { Leaves result house.new (request_world house.old at (Request.GetQueueAttributes queue.now names)) }
 {
     let reply = ask(alloc, house, at, queue, Command::Look, ticks)?;
-    Ok(counts_shape(names, &reply))
+    Ok(attributes_shape(names, queue, &reply))
+}
+
+/// Deletes a queue.
+fn delete_queue(
+    alloc: Global,
+    house: &mut House,
+    at: Moment,
+    queue: &QueueName,
+    ticks: &mut Ticks,
+) -> Result<ReplyShape, Fault>
+    ensures answer { Meets result (request_answer house.old at (Request.DeleteQueue queue.now)) }
+    ensures state { Leaves result house.new (request_world house.old at (Request.DeleteQueue queue.now)) }
+{
+    let uid = uid_named(house, queue)?;
+    house.delete_queue(alloc, uid, at, ticks)?;
+    Ok(ReplyShape::Nothing)
+}
+
+/// Answers the URL of a queue that is there. No clock moves.
+fn url(house: &House, name: &QueueName) -> Result<ReplyShape, Fault>
+    ensures { result ≡ result_map (λ uid. QueueUrl name.now) (named_uid house.now name.now) }
+{
+    uid_named(house, name)?;
+    Ok(ReplyShape::QueueUrl(*name))
+}
+
+/// Answers the URLs of the queues whose names begin with a prefix. No clock moves.
+fn urls(alloc: Global, house: &House, prefix: &Prefix) -> Result<ReplyShape, Fault>
+    ensures { Meets result (Ok (QueueUrls (names_in_world house.now prefix.now))) }
+{
+    let names = house.list(alloc, prefix.as_text())?;
+    Ok(ReplyShape::QueueUrls(QueueNames::new(names)))
 }
 
 /// What a receive's reply tells of a message.
@@ -276,8 +308,11 @@ fn serve(
             delay,
         } => send(alloc, house, at, &queue, content, delay, ticks),
         Request::GetQueueAttributes { queue, names } => {
-            counts(alloc, house, at, &queue, names, ticks)
+            attributes(alloc, house, at, &queue, names, ticks)
         }
+        Request::DeleteQueue { queue } => delete_queue(alloc, house, at, &queue, ticks),
+        Request::GetQueueUrl { name } => url(house, &name),
+        Request::ListQueues { prefix } => urls(alloc, house, &prefix),
         Request::SetQueueAttributes { queue, wish } => set(alloc, house, at, &queue, wish, ticks),
         Request::PurgeQueue { queue } => finish(alloc, house, at, &queue, Command::Purge, ticks),
         Request::ReceiveMessage {

@@ -5,11 +5,11 @@ ghost use Rattle.message.specs.Fault.{Meets};
 ghost use Rattle.aws_json.specs.declared.request.Request.TheVariants.{Batch};
 ghost use Rattle.sqs_replay.specs.Served.{Leaves, entry_reply, entry_answer, entry_world, batch_answers, batch_world, request_answer, request_world};
 
-use crate::house::House;
 use aws_json::{BatchAnswer, BatchAnswers, BatchEntry, Entries, EntryReply, ReplyShape};
 use journal::{Moment, Ticks};
 use message::{Content, Fault, QueueName};
 use queue_core::{Command, Delay, Reply};
+use redrive::House;
 use std::alloc::Global;
 
 /// What a send's reply is to an entry.
@@ -107,7 +107,7 @@ fn answer_entries(
     let mut answers = BatchAnswers::new(alloc);
     for entry in entries.into_vec() {
         let answer = answer_entry(alloc, house, at, uid, entry, ticks)?;
-        answers.push(answer)?;
+        answers.push(alloc, answer)?;
     }
     Ok(answers)
 }

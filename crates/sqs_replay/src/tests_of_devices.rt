@@ -6,7 +6,7 @@ ghost use Rattle.sqs_replay.specs.Toy.{toy_text, toy_count, toy_text-beyond, toy
 
 use crate::{Device, Inlet, LINE_LIMIT, Lines, Outlet, ReplayFault, replay, run_lines};
 use journal::Ticks;
-use queue_config::Config;
+use queue_config::{Config, Limits};
 use std::alloc::Global;
 use std::io;
 use std::process::Abort;
@@ -301,7 +301,7 @@ fn reads_of_first_path<R: Abort + Clock>(rt: &R, alloc: Global, size: usize) -> 
         let mut ticks = Ticks::new(rt);
         let result = replay(
             alloc,
-            Config::default(),
+            Config::with_limits(alloc, Limits::default()),
             &mut inlet,
             &mut outlet,
             &mut ticks,
@@ -335,7 +335,7 @@ fn writes_of_first_path<R: Abort + Clock>(rt: &R, alloc: Global, size: usize) ->
         let mut ticks = Ticks::new(rt);
         let result = replay(
             alloc,
-            Config::default(),
+            Config::with_limits(alloc, Limits::default()),
             &mut inlet,
             &mut outlet,
             &mut ticks,
@@ -380,7 +380,7 @@ fn a_writer_that_takes_nothing(rt: HostRuntime) {
     let mut ticks = Ticks::new(&rt);
     let result = replay(
         rt.alloc(),
-        Config::default(),
+        Config::with_limits(rt.alloc(), Limits::default()),
         &mut Device::new(FIRST_PATH.as_bytes()),
         &mut outlet,
         &mut ticks,

@@ -4,18 +4,19 @@ ghost use Rattle.std.specs.Prelude.{◌≡◌, ℕ, List, OnOk, OnErr, IfSome};
 ghost use Rattle.std.specs.Io.KnownBytes.{Appends, IsAtEnd};
 ghost use Rattle.sqs_replay.specs.Failures.{AppendsPart};
 ghost use Rattle.sqs_replay.specs.Progress.{AnswersAll, AnswersPart, InletHasCause, OutletHasCause};
-ghost use Rattle.sqs_replay.specs.World.{World, new_world};
+ghost use Rattle.redrive.specs.World.{World, new_world};
 ghost use Rattle.sqs_replay.specs.Served.{text_of_line, world_of_line};
 ghost use Rattle.sqs_replay.specs.Replay.{replay_output};
 
-use crate::house::House;
 use crate::run::run_lines;
 use crate::{Inlet, Outlet, ReplayFault};
 use journal::{Moment, Ticks};
 use queue_config::Config;
+use redrive::House;
 use std::alloc::Global;
 
 /// Reads lines of requests, each with its moment, and writes the answers to them and nothing else.
+/// The configured queues are there from the start, opened at the moment 0.
 ///
 /// At `Ok` what is written is the answers to all that was read. At a fault it is a part of the
 /// answers to the whole lines read, from the front (and of the last piece, where the input had
@@ -31,18 +32,18 @@ pub fn replay<I: Inlet, O: Outlet>(
 ) -> Result<(), ReplayFault>
     // All that the inlet had left was read and answered.
     ensures text { OnOk result (IfSome (I.left inlet.old) (λ input.
-        Appends (O.taken outlet.old) (O.taken outlet.new) (replay_output config.limits input))) }
+        Appends (O.taken outlet.old) (O.taken outlet.new) (replay_output config input))) }
     ensures all_read { OnOk result (IsAtEnd (I.left inlet.new)) }
 
     // However it ends, what was appended is a front of the whole text.
     ensures front { IfSome (I.left inlet.old) (λ input.
-        AppendsPart (O.taken outlet.old) (O.taken outlet.new) (replay_output config.limits input)) }
+        AppendsPart (O.taken outlet.old) (O.taken outlet.new) (replay_output config input)) }
 
     // What was read and written, whether or not the inlet's bytes were known before.
     ensures ok { OnOk result ((input : List ℕ) × (end : World)
-        × AnswersAll text_of_line world_of_line (new_world config.limits) end
+        × AnswersAll text_of_line world_of_line (new_world config 0) end
         (I.left inlet.old) (I.left inlet.new) (O.taken outlet.old) (O.taken outlet.new) input) }
-    ensures err { OnErr result ((read : List ℕ) × AnswersPart text_of_line world_of_line (new_world config.limits)
+    ensures err { OnErr result ((read : List ℕ) × AnswersPart text_of_line world_of_line (new_world config 0)
         (I.left inlet.old) (I.left inlet.new) (O.taken outlet.old) (O.taken outlet.new) read) }
 
     // A fault of a device has its cause.

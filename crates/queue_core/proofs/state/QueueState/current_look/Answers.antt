@@ -6,8 +6,8 @@ use Rattle.queue_core.proofs.state.QueueState.current_look.Goals as goal
 
 pub returns : goal.returns
 returns c =
-    look_of-parts c.args.self.now c.gauges.result c.settings.result c.creation.result c.modification.result c.len.result c.self.inside.clock c.gauges.ensures.counts c.settings.ensures
+    look_of-parts c.args.self.now c.gauges.result c.settings.result c.creation.result c.modification.result c.len.result c.self.inside.clock c.is_closed.result c.gauges.ensures.counts c.settings.ensures
     (c.creation.ensures ∙ ap (λ (q : QueueHistory). created_time q.lines) c.self.view_is)
     (c.modification.ensures ∙ ap (λ (q : QueueHistory). modified_time q.lines) c.self.view_is)
     (c.len.ensures ∙ ap (λ (q : QueueHistory). length q.lines) c.self.view_is)
-    (ap (λ (q : QueueHistory). q.clock) c.self.view_is)
+    (ap (λ (q : QueueHistory). q.clock) c.self.view_is) c.is_closed.ensures

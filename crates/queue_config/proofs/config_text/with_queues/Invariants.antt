@@ -1,0 +1,7 @@
+use Rattle.std.proofs.Common.{◌≡◌, [], drop}
+use Rattle.toml.specs.View.{items_view}
+use Rattle.queue_config.specs.ConfigText.{with_queues}
+use Rattle.queue_config.proofs.config_text.with_queues.Given as goal
+
+abbrev pub invariant-loop-table : goal.invariant-loop-table
+invariant-loop-table l = with_queues l.queues.items (items_view (drop l.table-index l.tables)) ≡ with_queues [] (items_view l.tables)

@@ -1,0 +1,257 @@
+//! A configuration as TOML (TOML 1.1). Which tables and keys there are, and which fault comes first,
+//! is this project's own choice.
+
+ghost use Rattle.std.specs.Prelude.{◌≡◌, ◌≤◌, [], false, Err, option_map, IfOk};
+ghost use Rattle.std.specs.Str.{is_utf8};
+ghost use Rattle.toml.specs.Data.{get_member};
+ghost use Rattle.toml.specs.View.{view, items_view, table_view};
+ghost use Rattle.queue_config.specs.ConfigFault.{IsReadAs};
+ghost use Rattle.queue_config.specs.Limits.{default_limits};
+ghost use Rattle.queue_config.specs.ConfigText.{number_between, name_in, with_limit, with_limits, limits_in, with_key, with_keys, no_keys, queue_of_table, queue_in, with_queues, queues_in, is_top_key, have_top_keys, has_name, have_equal_names, configuration_of_table, configuration_of, configuration_of_bytes, items_of};
+
+use crate::config::{Config, ConfiguredQueue, QUEUE_LIMIT};
+use crate::config_fault::ConfigFault;
+use crate::limits::Limits;
+use crate::settings::Settings;
+use message::QueueName;
+use std::alloc::Global;
+use toml::{Table, Value};
+
+/// What a queue's table says so far.
+#[derive(Clone, Copy, Debug)]
+pub(crate) struct QueueTable {
+    pub(crate) name: Option<QueueName>,
+    pub(crate) settings: Settings,
+}
+
+/// The value at a key.
+fn value_at<'a>(table: &'a Table, key: &str) -> Option<&'a Value>
+    ensures { option_map (λ v. view v.now) result ≡ get_member key.now (table_view table.now) }
+{
+    table.get(key)
+}
+
+/// The whole number that a value is, between two bounds.
+fn number_between(value: &Value, least: u32, most: u32) -> Result<u32, ConfigFault>
+    ensures value { result ≡ number_between least most (view value.now) }
+    ensures least { IfOk result (λ n. least ≤ n) }
+    ensures most { IfOk result (λ n. n ≤ most) }
+{
+    match value.as_integer() {
+        Some(number) if i64::from(least) <= number && number <= i64::from(most) => {
+            Ok(number as u32)
+        }
+        Some(_) => Err(ConfigFault::OutOfRange),
+        None => Err(ConfigFault::WrongKind),
+    }
+}
+
+/// The name of a queue that a value is.
+fn name_in(value: &Value) -> Result<QueueName, ConfigFault>
+    ensures { result ≡ name_in (view value.now) }
+{
+    let text = value.as_str().ok_or(ConfigFault::WrongKind)?;
+    match QueueName::read(text) {
+        Ok(name) => Ok(name),
+        Err(_) => Err(ConfigFault::OutOfRange),
+    }
+}
+
+/// The limits after one more key of their table.
+fn with_limit(limits: Limits, key: &str, value: &Value) -> Result<Limits, ConfigFault>
+    ensures { result ≡ with_limit limits key.now (view value.now) }
+{
+    match key {
+        "in_flight" => Ok(Limits {
+            in_flight: number_between(value, 1, 120_000)?,
+            ..limits
+        }),
+        "max_lines" => Ok(Limits {
+            max_lines: number_between(value, 1, 16_777_216)?,
+            ..limits
+        }),
+        _ => Err(ConfigFault::UnknownKey),
+    }
+}
+
+/// The limits of a table, key by key.
+fn with_limits(table: &Table) -> Result<Limits, ConfigFault>
+    ensures { result ≡ with_limits default_limits (table_view table.now) }
+{
+    let mut limits = Limits::default();
+    for (key, value) in table {
+        limits = with_limit(limits, key.as_str(), value)?;
+    }
+    Ok(limits)
+}
+
+/// The limits, which need not be there.
+fn limits_in(value: Option<&Value>) -> Result<Limits, ConfigFault>
+    ensures { result ≡ limits_in (option_map (λ v. view v.now) value.entry) }
+{
+    match value {
+        Some(value) => with_limits(value.as_table().ok_or(ConfigFault::WrongKind)?),
+        None => Ok(Limits::default()),
+    }
+}
+
+/// What a queue's table says after one more key of it.
+fn with_key(queue: QueueTable, key: &str, value: &Value) -> Result<QueueTable, ConfigFault>
+    ensures { result ≡ with_key queue key.now (view value.now) }
+{
+    let mut queue = queue;
+    match key {
+        "delay_seconds" => queue.settings.delay_seconds = number_between(value, 0, 900)? as u16,
+        "maximum_message_size" => {
+            queue.settings.maximum_message_size = number_between(value, 1024, 262_144)?;
+        }
+        "name" => queue.name = Some(name_in(value)?),
+        "retention_seconds" => {
+            queue.settings.retention_seconds = number_between(value, 60, 1_209_600)?;
+        }
+        "visibility_timeout" => {
+            queue.settings.visibility_timeout = number_between(value, 0, 43_200)?;
+        }
+        "wait_seconds" => queue.settings.wait_seconds = number_between(value, 0, 20)? as u16,
+        _ => return Err(ConfigFault::UnknownKey),
+    }
+    Ok(queue)
+}
+
+/// What a queue's table says, key by key.
+fn with_keys(table: &Table) -> Result<QueueTable, ConfigFault>
+    ensures { result ≡ with_keys no_keys (table_view table.now) }
+{
+    let mut queue = QueueTable {
+        name: None,
+        settings: Settings::default(),
+    };
+    for (key, value) in table {
+        queue = with_key(queue, key.as_str(), value)?;
+    }
+    Ok(queue)
+}
+
+/// The queue of a table. Its name has to be there.
+fn queue_in(value: &Value) -> Result<ConfiguredQueue, ConfigFault>
+    ensures { result ≡ queue_in (view value.now) }
+{
+    let table = value.as_table().ok_or(ConfigFault::WrongKind)?;
+    let queue = with_keys(table)?;
+    let name = queue.name.ok_or(ConfigFault::WrongKind)?;
+    let settings = queue.settings;
+    Ok(ConfiguredQueue { name, settings })
+}
+
+/// The queues of tables, one after another.
+fn with_queues(alloc: Global, tables: &[Value]) -> Result<Vec<ConfiguredQueue>, ConfigFault>
+    ensures { IsReadAs (items_of result) (with_queues [] (items_view tables.now)) }
+{
+    let mut queues = Vec::new(alloc);
+    for table in tables {
+        queues.push(queue_in(table)?)?;
+    }
+    Ok(queues)
+}
+
+/// The queues, which need not be there.
+fn queues_in(alloc: Global, value: Option<&Value>) -> Result<Vec<ConfiguredQueue>, ConfigFault>
+    ensures { IsReadAs (items_of result) (queues_in (option_map (λ v. view v.now) value.entry)) }
+{
+    match value {
+        Some(value) => {
+            let tables = value.as_array().ok_or(ConfigFault::WrongKind)?;
+            with_queues(alloc, tables.as_slice())
+        }
+        None => Ok(Vec::new(alloc)),
+    }
+}
+
+/// Whether a configuration knows the key.
+fn is_top_key(key: &str) -> bool
+    ensures { result ≡ is_top_key key.now }
+{
+    key == "limits" || key == "queue"
+}
+
+/// Whether a configuration knows each key of a table.
+fn have_top_keys(table: &Table) -> bool
+    ensures { result ≡ have_top_keys (table_view table.now) }
+{
+    for (key, _) in table {
+        if !is_top_key(key.as_str()) {
+            return false;
+        }
+    }
+    true
+}
+
+/// Whether one of the queues has the name.
+fn has_name(name: &QueueName, queues: &[ConfiguredQueue]) -> bool
+    ensures { result ≡ has_name name.now queues.now }
+{
+    for queue in queues {
+        if name.as_text() == queue.name.as_text() {
+            return true;
+        }
+    }
+    false
+}
+
+/// Whether two of the queues have one name.
+fn have_equal_names(queues: &[ConfiguredQueue]) -> bool
+    ensures { result ≡ have_equal_names queues.now }
+{
+    for (place, queue) in queues.iter().enumerate() {
+        if has_name(&queue.name, &queues[place + 1..]) {
+            return true;
+        }
+    }
+    false
+}
+
+/// The configuration of the whole tree.
+fn configuration_of_table(alloc: Global, table: &Table) -> Result<Config, ConfigFault>
+    ensures { IsReadAs result (configuration_of_table (table_view table.now)) }
+{
+    if !have_top_keys(table) {
+        return Err(ConfigFault::UnknownKey);
+    }
+    let limits = limits_in(value_at(table, "limits"))?;
+    let queues = queues_in(alloc, value_at(table, "queue"))?;
+    if QUEUE_LIMIT < queues.len() {
+        return Err(ConfigFault::OutOfRange);
+    }
+    if have_equal_names(queues.as_slice()) {
+        return Err(ConfigFault::NameTwice);
+    }
+    Ok(Config { limits, queues })
+}
+
+/// Reads a configuration, or tells the first fault: a text that is no TOML; then an unknown key at
+/// the top; then `limits`, which has to be a table, and its keys; then `queue`, which has to be an
+/// array, and each of its tables in their order; then more than 1,000 queues; then two queues of one
+/// name. Of a table the keys are judged in the order of their bytes, each as unknown, of another kind,
+/// or out of range; and then what is missing. An empty text has
+/// the default limits and no queue. `OutOfMemory` may come at any point.
+pub fn config_from_text(alloc: Global, text: &str) -> Result<Config, ConfigFault>
+    ensures { IsReadAs result (configuration_of text.now) }
+{
+    let table = match toml::table_from_str(alloc, text) {
+        Ok(table) => table,
+        Err(error) if error.is_memory() => return Err(ConfigFault::OutOfMemory),
+        Err(_) => return Err(ConfigFault::Syntax),
+    };
+    configuration_of_table(alloc, &table)
+}
+
+/// The same for the bytes of a file. Bytes that are no UTF-8 are no TOML, so that they are `Syntax`.
+pub fn config_from_bytes(alloc: Global, bytes: &[u8]) -> Result<Config, ConfigFault>
+    ensures config { IsReadAs result (configuration_of_bytes bytes.now) }
+    ensures no_text { is_utf8 bytes.now ≡ false → result ≡ Err ConfigFault.Syntax }
+{
+    match str::from_utf8(bytes) {
+        Ok(text) => config_from_text(alloc, text),
+        Err(_) => Err(ConfigFault::Syntax),
+    }
+}

@@ -1,0 +1,138 @@
+-- What is true of every name directory stays true as queues are added, changed and taken out.
+use Rattle.std.proofs.Common.{◌≡◌, ℕ, zero, suc, ◌+◌, ◌<◌, ◌≤◌, ◌^◌, Bool, true, false, not, ◌||◌, cond, List, [], ◌∷◌, ◌++◌, length, get_or, set, take, map, Option, Some, None, refl, sym, ap, subst, ◌∙◌, arith}
+use Rattle.std.specs.Prelude.{nat_eq, nat_le, filter, fold, remove, is_some}
+use Rattle.std.specs.List.{find, position, IsDistinct}
+use Rattle.std.specs.Option.{option_map}
+use Rattle.std.specs.Str.{bytes_eq}
+use Rattle.std.proofs.lemmas.Bool.{or_parts}
+use Rattle.std.proofs.lemmas.Bool.Decides.{nat_tests}
+use Rattle.std.proofs.lemmas.List.{take_more}
+use Rattle.std.proofs.lemmas.List.Elements.{All-nil, All-filter, All-push, All-map, All-weaker}
+use Rattle.std.proofs.lemmas.List.Quantifiers.{position-Some}
+use Rattle.redrive.specs.Listing.{put_name, in_order}
+use Rattle.redrive.specs.Catalog.{Directory, is_directory_full, empty_directory, name_of, uid_of_name, has_uid, without_uid, retargeted, with_target, IsDirectory}
+use Rattle.redrive.specs.declared.catalog.Registered.{Registered}
+use Rattle.redrive.proofs.KeyedLemmas.{IsDistinct-push, IsDistinct-filter, map-key, find-unused, filter-absent, find-position, find-no_position, map-absent, map-present, remove-present}
+
+abbrev uid_of : Registered → ℕ
+uid_of q = q.uid
+
+pub IsDirectory-empty : IsDirectory empty_directory
+unfolding IsDistinct
+IsDirectory-empty = record { names = tt; uids = tt; used = All-nil _; first = All-nil _; begun = omega arith; last = omega arith }
+
+no_uid : (o : Option Registered) → option_map (λ (q : Registered). q.uid) o ≡ None → o ≡ None
+no_uid None h = refl
+no_uid (Some q) h = absurd cc
+
+uid_left : (n uid : ℕ) → (nat_le 1000 n || nat_le (2 ^ 62) uid) ≡ false → uid < 2 ^ 62
+uid_left n uid h = let late = (or_parts (nat_le 1000 n) (nat_le (2 ^ 62) uid) h).1 in grind (arith, nat_tests)
+
+pub IsDirectory-added : (d : Directory) (name : List ℕ) (target : ℕ) (queues : List Registered) → IsDirectory d → uid_of_name d name ≡ None → is_directory_full d ≡ false
+    → queues ≡ d.queues ++ record { name = name; uid = d.next_uid; target = target } ∷ [] → IsDirectory (record { next_uid = d.next_uid + 1; queues = queues })
+IsDirectory-added d name target queues h none full is =
+    let q : Registered = record { name = name; uid = d.next_uid; target = target } in
+    let begun = h.begun in
+    let below = uid_left (length d.queues) d.next_uid full in
+    rw is (record {
+      names = IsDistinct-push bytes_eq name_of d.queues q h.names (no_uid (find (λ x. bytes_eq x.name name) d.queues) none);
+      uids = IsDistinct-push nat_eq uid_of d.queues q h.uids (find-unused uid_of d.next_uid d.queues h.used);
+      used = All-push (λ x. x.uid < d.next_uid + 1) d.queues q (All-weaker (λ x. x.uid < d.next_uid) (λ x. x.uid < d.next_uid + 1) (λ x l. omega arith) d.queues h.used) (omega arith);
+      first = All-push (λ x. 1 ≤ x.uid) d.queues q h.first (omega arith);
+      begun = omega arith;
+      last = omega arith;
+    })
+
+-- ---- a queue taken out, or changed
+
+-- some queue, read only past the end of a list
+some_queue : Registered
+some_queue = record { name = []; uid = 0; target = 0 }
+
+pub has-present : (d : Directory) (uid place : ℕ) → position (λ q. nat_eq q.uid uid) d.queues ≡ Some place → has_uid d uid ≡ true
+has-present d uid place h = ap is_some (find-position uid_of uid d.queues place some_queue h)
+
+pub has-absent : (d : Directory) (uid : ℕ) → position (λ q. nat_eq q.uid uid) d.queues ≡ None → has_uid d uid ≡ false
+has-absent d uid h = ap is_some (find-no_position uid_of uid d.queues h)
+
+pub without-absent : (d : Directory) (uid : ℕ) → position (λ q. nat_eq q.uid uid) d.queues ≡ None → without_uid d uid ≡ d
+without-absent d uid h = ap (λ (queues : List Registered). record d { queues = queues }) (filter-absent uid_of uid d.queues (find-no_position uid_of uid d.queues h))
+
+set-same : (qs : List Registered) (place : ℕ) (d : Registered) → place < length qs → set qs place (get_or qs place d) ≡ qs
+set-same [] place d l = absurd (omega arith)
+set-same (q ∷ qs) zero d l = refl
+set-same (q ∷ qs) (suc place) d l = ap (λ (rest : List Registered). q ∷ rest) (set-same qs place d (omega arith))
+
+pub without-present : (d : Directory) (uid place : ℕ) (queues : List Registered) → IsDirectory d → position (λ q. nat_eq q.uid uid) d.queues ≡ Some place → queues ≡ remove d.queues place
+    → record d { queues = queues } ≡ without_uid d uid
+without-present d uid place queues r h is =
+    let p = position-Some (λ (q : Registered). nat_eq q.uid uid) d.queues place some_queue h in
+    ap (λ (queues : List Registered). record d { queues = queues })
+    (is ∙ ap (λ (all : List Registered). remove all place) (sym (set-same d.queues place some_queue p.0))
+    ∙ remove-present uid_of uid d.queues place some_queue (get_or d.queues place some_queue) r.uids p.0 p.1)
+
+pub IsDirectory-without : (d : Directory) (uid : ℕ) → IsDirectory d → IsDirectory (without_uid d uid)
+IsDirectory-without d uid h =
+    let stays : Registered → Bool = λ q. not (nat_eq q.uid uid) in
+    record {
+      names = IsDistinct-filter bytes_eq name_of stays d.queues h.names;
+      uids = IsDistinct-filter nat_eq uid_of stays d.queues h.uids;
+      used = All-filter stays (λ q. q.uid < d.next_uid) d.queues h.used;
+      first = All-filter stays (λ q. 1 ≤ q.uid) d.queues h.first;
+      begun = h.begun;
+      last = h.last;
+    }
+
+pub with_target-absent : (d : Directory) (uid target : ℕ) → position (λ q. nat_eq q.uid uid) d.queues ≡ None → with_target d uid target ≡ d
+with_target-absent d uid target h =
+    ap (λ (queues : List Registered). record d { queues = queues }) (map-absent uid_of uid (λ q. record q { target = target }) d.queues (find-no_position uid_of uid d.queues h))
+
+pub with_target-present : (d : Directory) (uid target place : ℕ) (old : Registered) → IsDirectory d → position (λ q. nat_eq q.uid uid) d.queues ≡ Some place → old ≡ get_or d.queues place old
+    → record d { queues = set d.queues place (record old { target = target }) } ≡ with_target d uid target
+with_target-present d uid target place old r h e =
+    let p = position-Some (λ (q : Registered). nat_eq q.uid uid) d.queues place old h in
+    ap (λ (queues : List Registered). record d { queues = queues })
+    (ap (λ (q : Registered). set d.queues place (record q { target = target })) e
+    ∙ map-present uid_of uid (λ q. record q { target = target }) d.queues place old r.uids p.0 p.1)
+
+retargeted-keeps : {K : Type 0} (key : Registered → K) (b : Bool) (q next : Registered) → key next ≡ key q → key (cond b next q) ≡ key q
+retargeted-keeps key true q next h = h
+retargeted-keeps key false q next h = refl
+
+pub IsDirectory-with_target : (d : Directory) (uid target : ℕ) → IsDirectory d → IsDirectory (with_target d uid target)
+IsDirectory-with_target d uid target h =
+    let next : Registered → Registered = λ q. retargeted uid target q in
+    let same_uid : (q : Registered) → (next q).uid ≡ q.uid = λ q. retargeted-keeps uid_of (nat_eq q.uid uid) q (record q { target = target }) refl in
+    let same_name : (q : Registered) → (next q).name ≡ q.name = λ q. retargeted-keeps name_of (nat_eq q.uid uid) q (record q { target = target }) refl in
+    record {
+      names = subst (λ names. IsDistinct bytes_eq names) (sym (map-key bytes_eq name_of next same_name d.queues)) h.names;
+      uids = subst (λ uids. IsDistinct nat_eq uids) (sym (map-key nat_eq uid_of next same_uid d.queues)) h.uids;
+      used = All-map (λ q. q.uid < d.next_uid) next d.queues (All-weaker (λ q. q.uid < d.next_uid) (λ q. (next q).uid < d.next_uid) (λ q l. rw (same_uid q) l) d.queues h.used);
+      first = All-map (λ q. 1 ≤ q.uid) next d.queues (All-weaker (λ q. 1 ≤ q.uid) (λ q. 1 ≤ (next q).uid) (λ q l. rw (same_uid q) l) d.queues h.first);
+      begun = h.begun;
+      last = h.last;
+    }
+
+-- ---- sources, one after another
+
+fold-if : (b : Bool) (order : List (List ℕ)) (q : Registered) → fold put_name order (map name_of (cond b (q ∷ []) [])) ≡ cond b (put_name order q.name) order
+fold-if true order q = refl
+fold-if false order q = refl
+
+fold-or : (b : Bool) (order : List (List ℕ)) (q : Registered) (qs : List Registered) → fold put_name order (map name_of (cond b (q ∷ qs) qs)) ≡ fold put_name (cond b (put_name order q.name) order) (map name_of qs)
+fold-or true order q qs = refl
+fold-or false order q qs = refl
+
+module _ (p : Registered → Bool) where
+  names-push : (order : List (List ℕ)) (qs : List Registered) (q : Registered)
+      → fold put_name order (map name_of (filter p (qs ++ q ∷ []))) ≡ cond (p q) (put_name (fold put_name order (map name_of (filter p qs))) q.name) (fold put_name order (map name_of (filter p qs)))
+  names-push order [] q = fold-if (p q) order q
+  names-push order (x ∷ qs) q =
+      fold-or (p x) order x (filter p (qs ++ q ∷ []))
+      ∙ names-push (cond (p x) (put_name order x.name) order) qs q
+      ∙ ap (λ (all : List (List ℕ)). cond (p q) (put_name all q.name) all) (sym (fold-or (p x) order x (filter p qs)))
+
+  pub names-more : (qs : List Registered) (i : ℕ) (q : Registered) → i < length qs → q ≡ get_or qs i q
+      → in_order (map name_of (filter p (take (i + 1) qs))) ≡ cond (p q) (put_name (in_order (map name_of (filter p (take i qs)))) q.name) (in_order (map name_of (filter p (take i qs))))
+  names-more qs i q l is =
+      ap (λ (some : List Registered). in_order (map name_of (filter p some))) (take_more qs i q l ∙ ap (λ x. take i qs ++ x ∷ []) (sym is)) ∙ names-push [] (take i qs) q

@@ -1,0 +1,128 @@
+-- Lists whose elements have distinct keys: one element more, fewer, or changed.
+use Rattle.std.proofs.Common.{◌≡◌, ℕ, zero, suc, ◌<◌, Bool, true, false, not, cond, List, [], ◌∷◌, ◌++◌, length, get_or, set, map, Option, Some, None, refl, sym, ap, subst, ◌∙◌, arith, eqb-true}
+use Rattle.std.specs.Prelude.{nat_eq, nat_lt, filter, remove, slice_get}
+use Rattle.std.specs.List.{find, position, position_or_len, IsDistinct, All, AllByRecursion}
+use Rattle.std.proofs.lemmas.Bool.{ne_eqb, eqb-false, ltb-false}
+use Rattle.std.proofs.lemmas.List.Elements.{All-head, All-tail}
+use Rattle.std.proofs.lemmas.List.Folds.{find_at}
+use Rattle.std.proofs.lemmas.List.Quantifiers.{position-Some}
+use Rattle.std.proofs.lemmas.Option.{slice_get-get_or, slice_get_past}
+
+pub none-cond : {X : Type 0} (b : Bool) (x : X) (o : Option X) → cond b (Some x) o ≡ None → (b ≡ false) × (o ≡ None)
+none-cond true x o h = absurd cc
+none-cond false x o h = (refl, h)
+
+some-cond : (b : Bool) (i place : ℕ) → cond b (Some i) None ≡ Some place → i ≡ place
+some-cond true i place h = cc
+some-cond false i place h = absurd cc
+
+module _ {X K : Type 0} (e : K → K → Bool) (key : X → K) where
+  differ-push : (k : K) (xs : List X) (x : X) → AllByRecursion (λ y. e k y ≡ false) (map key xs) → e k (key x) ≡ false → AllByRecursion (λ y. e k y ≡ false) (map key (xs ++ x ∷ []))
+  differ-push k [] x h new = (new, tt)
+  differ-push k (y ∷ ys) x h new = (h.0, differ-push k ys x h.1 new)
+
+  pub IsDistinct-push : (xs : List X) (x : X) → IsDistinct e (map key xs) → find (λ y. e (key y) (key x)) xs ≡ None → IsDistinct e (map key (xs ++ x ∷ []))
+  unfolding IsDistinct
+  IsDistinct-push [] x h none = (tt, tt)
+  IsDistinct-push (y ∷ ys) x h none =
+      let p = none-cond (e (key y) (key x)) y (find (λ y. e (key y) (key x)) ys) none in
+      (differ-push (key y) ys x h.0 p.0, IsDistinct-push ys x h.1 p.1)
+
+  differ-if : (k : K) (b : Bool) (x : X) (xs : List X) → e k (key x) ≡ false → AllByRecursion (λ y. e k y ≡ false) (map key xs) → AllByRecursion (λ y. e k y ≡ false) (map key (cond b (x ∷ xs) xs))
+  differ-if k true x xs h rest = (h, rest)
+  differ-if k false x xs h rest = rest
+
+  differ-filter : (k : K) (p : X → Bool) (xs : List X) → AllByRecursion (λ y. e k y ≡ false) (map key xs) → AllByRecursion (λ y. e k y ≡ false) (map key (filter p xs))
+  differ-filter k p [] h = tt
+  differ-filter k p (x ∷ xs) h = differ-if k (p x) x (filter p xs) h.0 (differ-filter k p xs h.1)
+
+  distinct-if : (b : Bool) (x : X) (xs : List X) → AllByRecursion (λ y. e (key x) y ≡ false) (map key xs) → IsDistinct e (map key xs) → IsDistinct e (map key (cond b (x ∷ xs) xs))
+  unfolding IsDistinct
+  distinct-if true x xs h rest = (h, rest)
+  distinct-if false x xs h rest = rest
+
+  pub IsDistinct-filter : (p : X → Bool) (xs : List X) → IsDistinct e (map key xs) → IsDistinct e (map key (filter p xs))
+  unfolding IsDistinct
+  IsDistinct-filter p [] h = tt
+  IsDistinct-filter p (x ∷ xs) h = distinct-if (p x) x (filter p xs) (differ-filter (key x) p xs h.0) (IsDistinct-filter p xs h.1)
+
+  pub map-key : (f : X → X) → ((x : X) → key (f x) ≡ key x) → (xs : List X) → map key (map f xs) ≡ map key xs
+  map-key f h [] = refl
+  map-key f h (x ∷ xs) = rw (h x, map-key f h xs) refl
+
+-- ---- elements with a number
+
+module _ {X : Type 0} (uid_of : X → ℕ) (uid : ℕ) where
+  pub find-unused : (xs : List X) → All (λ x. uid_of x < uid) xs → find (λ x. nat_eq (uid_of x) uid) xs ≡ None
+  find-unused [] h = refl
+  find-unused (x ∷ xs) h =
+      let below : uid_of x < uid = All-head (λ x. uid_of x < uid) x xs h in
+      rw (ne_eqb (uid_of x) uid (λ e. omega arith)) (find-unused xs (All-tail (λ x. uid_of x < uid) x xs h))
+
+  -- taking out what is not there
+  pub filter-absent : (xs : List X) → find (λ x. nat_eq (uid_of x) uid) xs ≡ None → filter (λ x. not (nat_eq (uid_of x) uid)) xs ≡ xs
+  filter-absent [] none = refl
+  filter-absent (x ∷ xs) none =
+      let p = none-cond (nat_eq (uid_of x) uid) x (find (λ x. nat_eq (uid_of x) uid) xs) none in
+      rw (p.0, filter-absent xs p.1) refl
+
+  filter-other : (k : ℕ) (xs : List X) → k ≡ uid → AllByRecursion (λ y. nat_eq k y ≡ false) (map uid_of xs) → filter (λ x. not (nat_eq (uid_of x) uid)) xs ≡ xs
+  filter-other k [] e h = refl
+  filter-other k (x ∷ xs) e h =
+      let other : nat_eq (uid_of x) uid ≡ false = ne_eqb (uid_of x) uid (λ same. eqb-false k (uid_of x) h.0 (e ∙ sym same)) in
+      rw (other, filter-other k xs e h.1) refl
+
+  differ-at : (k : ℕ) (xs : List X) (place : ℕ) (d : X) → AllByRecursion (λ y. nat_eq k y ≡ false) (map uid_of xs) → place < length xs → nat_eq k (uid_of (get_or xs place d)) ≡ false
+  differ-at k [] place d h l = absurd (omega arith)
+  differ-at k (x ∷ xs) zero d h l = h.0
+  differ-at k (x ∷ xs) (suc place) d h l = differ-at k xs place d h.1 (omega arith)
+
+  -- the element of the number taken out, whatever stood there last
+  pub remove-present : (xs : List X) (place : ℕ) (d new : X) → IsDistinct nat_eq (map uid_of xs) → place < length xs → nat_eq (uid_of (get_or xs place d)) uid ≡ true
+      → remove (set xs place new) place ≡ filter (λ x. not (nat_eq (uid_of x) uid)) xs
+  unfolding IsDistinct
+  remove-present [] place d new h l is = absurd (omega arith)
+  remove-present (x ∷ xs) zero d new h l is = rw (is, filter-other (uid_of x) xs (eqb-true (uid_of x) uid is) h.0) refl
+  remove-present (x ∷ xs) (suc place) d new h l is =
+      let same : uid_of (get_or xs place d) ≡ uid = eqb-true (uid_of (get_or xs place d)) uid is in
+      let other : nat_eq (uid_of x) uid ≡ false = subst (λ u. nat_eq (uid_of x) u ≡ false) same (differ-at (uid_of x) xs place d h.0 (omega arith)) in
+      rw (other, remove-present xs place d new h.1 (omega arith) is) refl
+
+  -- ---- where the element of the number stands
+
+  pub find-position : (xs : List X) (place : ℕ) (d : X) → position (λ x. nat_eq (uid_of x) uid) xs ≡ Some place → find (λ x. nat_eq (uid_of x) uid) xs ≡ Some (get_or xs place d)
+  find-position xs place d h =
+      let here = position-Some (λ x. nat_eq (uid_of x) uid) xs place d h in
+      let first = position_or_len (λ x. nat_eq (uid_of x) uid) xs in
+      find_at (λ x. nat_eq (uid_of x) uid) xs ∙ ap (λ (i : ℕ). slice_get xs i) (some-cond (nat_lt first (length xs)) first place h) ∙ slice_get-get_or xs place d here.0
+
+  pub find-no_position : (xs : List X) → position (λ x. nat_eq (uid_of x) uid) xs ≡ None → find (λ x. nat_eq (uid_of x) uid) xs ≡ None
+  find-no_position xs h =
+      let first = position_or_len (λ x. nat_eq (uid_of x) uid) xs in
+      let past : nat_lt first (length xs) ≡ false = (none-cond (nat_lt first (length xs)) first None h).0 in
+      find_at (λ x. nat_eq (uid_of x) uid) xs ∙ slice_get_past xs first (ltb-false first (length xs) past)
+
+-- ---- the element of a number changed, where it stands
+
+module _ {X : Type 0} (uid_of : X → ℕ) (uid : ℕ) (f : X → X) where
+  pub map-absent : (xs : List X) → find (λ x. nat_eq (uid_of x) uid) xs ≡ None → map (λ x. cond (nat_eq (uid_of x) uid) (f x) x) xs ≡ xs
+  map-absent [] none = refl
+  map-absent (x ∷ xs) none =
+      let p = none-cond (nat_eq (uid_of x) uid) x (find (λ x. nat_eq (uid_of x) uid) xs) none in
+      rw (p.0, map-absent xs p.1) refl
+
+  map-other : (k : ℕ) (xs : List X) → k ≡ uid → AllByRecursion (λ y. nat_eq k y ≡ false) (map uid_of xs) → map (λ x. cond (nat_eq (uid_of x) uid) (f x) x) xs ≡ xs
+  map-other k [] e h = refl
+  map-other k (x ∷ xs) e h =
+      let other : nat_eq (uid_of x) uid ≡ false = ne_eqb (uid_of x) uid (λ same. eqb-false k (uid_of x) h.0 (e ∙ sym same)) in
+      rw (other, map-other k xs e h.1) refl
+
+  pub map-present : (xs : List X) (place : ℕ) (d : X) → IsDistinct nat_eq (map uid_of xs) → place < length xs → nat_eq (uid_of (get_or xs place d)) uid ≡ true
+      → set xs place (f (get_or xs place d)) ≡ map (λ x. cond (nat_eq (uid_of x) uid) (f x) x) xs
+  unfolding IsDistinct
+  map-present [] place d h l is = absurd (omega arith)
+  map-present (x ∷ xs) zero d h l is = rw (is, map-other (uid_of x) xs (eqb-true (uid_of x) uid is) h.0) refl
+  map-present (x ∷ xs) (suc place) d h l is =
+      let same : uid_of (get_or xs place d) ≡ uid = eqb-true (uid_of (get_or xs place d)) uid is in
+      let other : nat_eq (uid_of x) uid ≡ false = subst (λ u. nat_eq (uid_of x) u ≡ false) same (differ-at uid_of uid (uid_of x) xs place d h.0 (omega arith)) in
+      rw (other, map-present xs place d h.1 (omega arith) is) refl

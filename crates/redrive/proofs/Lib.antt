@@ -1,0 +1,9 @@
+pub mod KeyedLemmas
+pub mod ClosingLemmas
+pub mod ListingLemmas
+pub mod OpeningLemmas
+pub mod OrderLemmas
+pub mod RegistryLemmas
+pub mod CatalogLemmas
+pub mod WorldRunLemmas
+pub mod AloneLemmas

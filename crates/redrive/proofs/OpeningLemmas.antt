@@ -1,0 +1,86 @@
+-- The configured queues opened one after another.
+use Rattle.std.proofs.Common.{◌≡◌, ℕ, ◌+◌, ◌<◌, ◌≤◌, ◌^◌, Bool, false, ◌||◌, List, [], ◌∷◌, ◌++◌, length, get_or, take, drop, map, None, refl, sym, ap, subst, ◌∙◌, arith, append_assoc}
+use Rattle.std.specs.Prelude.{nat_le, fold}
+use Rattle.std.specs.List.{find, IsDistinct, AllByRecursion}
+use Rattle.std.specs.Str.{bytes_eq}
+use Rattle.std.proofs.lemmas.Bool.Decides.{nat_tests}
+use Rattle.std.proofs.lemmas.List.{append-nil, length-append, length-take-le, drop_more, take-append-drop}
+use Rattle.queue_config.specs.Config.{AreConfigured}
+use Rattle.queue_config.specs.Limits.{QueueLimits}
+use Rattle.queue_config.specs.declared.config.ConfiguredQueue.{ConfiguredQueue}
+use Rattle.queue_core.specs.Queue.{QueueHistory}
+use Rattle.redrive.specs.World.{World, empty_world, new_world, next_queue, with_queue, queue_named, has_no_place}
+use Rattle.redrive.proofs.ListingLemmas.{map-push}
+
+-- ---- names that are apart
+
+module _ {X K : Type 0} (e : K → K → Bool) (key : X → K) where
+  at_end : (P : K → Type 0) (ks : List K) (k : K) (rest : List K) → AllByRecursion P (ks ++ k ∷ rest) → P k
+  at_end P [] k rest h = h.0
+  at_end P (x ∷ ks) k rest h = at_end P ks k rest h.1
+
+  apart : (ks : List K) (k : K) (rest : List K) → IsDistinct e (ks ++ k ∷ rest) → AllByRecursion (λ y. e y k ≡ false) ks
+  unfolding IsDistinct
+  apart [] k rest h = tt
+  apart (x ∷ ks) k rest h = (at_end (λ y. e x y ≡ false) ks k rest h.0, apart ks k rest h.1)
+
+  find-apart : (xs : List X) (k : K) → AllByRecursion (λ y. e y k ≡ false) (map key xs) → find (λ x. e (key x) k) xs ≡ None
+  find-apart [] k h = refl
+  find-apart (x ∷ xs) k h = rw (h.0) (find-apart xs k h.1)
+
+map-both : {X K : Type 0} (key : X → K) (xs : List X) (x : X) (ys : List X) → map key (xs ++ x ∷ ys) ≡ map key xs ++ key x ∷ map key ys
+map-both key [] x ys = refl
+map-both key (y ∷ xs) x ys = ap (λ (ks : List _). key y ∷ ks) (map-both key xs x ys)
+
+-- ---- the world of some queues
+
+module _ (at : ℕ) where
+  opened : World → List ConfiguredQueue → World
+  opened w qs = fold (λ w q. with_queue w (next_queue w at q.name q.settings)) w qs
+
+  names-opened : (w : World) (qs : List ConfiguredQueue) → map (λ q. q.name) (opened w qs).queues ≡ map (λ q. q.name) w.queues ++ map (λ q. q.name) qs
+  unfolding opened
+  names-opened w [] = sym (append-nil (map (λ (q : QueueHistory). q.name) w.queues))
+  names-opened w (q ∷ qs) =
+      names-opened (with_queue w (next_queue w at q.name q.settings)) qs
+      ∙ ap (λ (names : List (List ℕ)). names ++ map (λ (q : ConfiguredQueue). q.name) qs) (map-push (λ (q : QueueHistory). q.name) w.queues (next_queue w at q.name q.settings))
+      ∙ append_assoc (map (λ (q : QueueHistory). q.name) w.queues) (q.name ∷ []) (map (λ (q : ConfiguredQueue). q.name) qs)
+
+  length-opened : (w : World) (qs : List ConfiguredQueue) → length (opened w qs).queues ≡ length w.queues + length qs
+  unfolding opened
+  length-opened w [] = omega arith
+  length-opened w (q ∷ qs) =
+      omega (arith, length-opened (with_queue w (next_queue w at q.name q.settings)) qs, length-append w.queues (next_queue w at q.name q.settings ∷ []))
+
+  next-opened : (w : World) (qs : List ConfiguredQueue) → (opened w qs).next_uid ≡ w.next_uid + length qs
+  unfolding opened
+  next-opened w [] = omega arith
+  next-opened w (q ∷ qs) = omega (arith, next-opened (with_queue w (next_queue w at q.name q.settings)) qs)
+
+-- the name of the next queue is new
+pub next_name-new : (house : World) (limits : QueueLimits) (at : ℕ) (qs : List ConfiguredQueue) (i : ℕ) (q : ConfiguredQueue)
+    → house ≡ new_world (record { limits = limits; queues = take i qs }) at → i < length qs → q ≡ get_or qs i q → AreConfigured qs → queue_named house q.name ≡ None
+unfolding opened
+next_name-new house limits at qs i q is l here h =
+    let split : qs ≡ take i qs ++ q ∷ drop (i + 1) qs = sym (take-append-drop i qs) ∙ ap (λ (rest : List ConfiguredQueue). take i qs ++ rest) (drop_more qs i q l ∙ ap (λ x. x ∷ drop (i + 1) qs) (sym here)) in
+    let names : map (λ (q : ConfiguredQueue). q.name) qs ≡ map (λ (q : ConfiguredQueue). q.name) (take i qs) ++ q.name ∷ map (λ (q : ConfiguredQueue). q.name) (drop (i + 1) qs) =
+    ap (map (λ (q : ConfiguredQueue). q.name)) split ∙ map-both (λ (q : ConfiguredQueue). q.name) (take i qs) q (drop (i + 1) qs) in
+    let differ : AllByRecursion (λ y. bytes_eq y q.name ≡ false) (map (λ (q : ConfiguredQueue). q.name) (take i qs)) =
+    apart bytes_eq (λ (q : ConfiguredQueue). q.name) (map (λ (q : ConfiguredQueue). q.name) (take i qs)) q.name (map (λ (q : ConfiguredQueue). q.name) (drop (i + 1) qs)) (subst (λ (ns : List (List ℕ)). IsDistinct bytes_eq ns) names h.names) in
+    let there : map (λ (q : QueueHistory). q.name) house.queues ≡ map (λ (q : ConfiguredQueue). q.name) (take i qs) =
+    ap (λ (w : World). map (λ (q : QueueHistory). q.name) w.queues) is ∙ names-opened at (empty_world limits) (take i qs) in
+    find-apart bytes_eq (λ (q : QueueHistory). q.name) house.queues q.name (subst (λ (ns : List (List ℕ)). AllByRecursion (λ y. bytes_eq y q.name ≡ false) ns) (sym there) differ)
+
+few : (n m : ℕ) → n < 1000 → m ≤ 1000 → (nat_le 1000 n || nat_le (2 ^ 62) m) ≡ false
+few n m h k = grind (arith, nat_tests)
+
+-- and there is a place for it
+pub next_name-place : (house : World) (limits : QueueLimits) (at : ℕ) (qs : List ConfiguredQueue) (i : ℕ)
+    → house ≡ new_world (record { limits = limits; queues = take i qs }) at → i < length qs → AreConfigured qs → has_no_place house ≡ false
+unfolding opened
+next_name-place house limits at qs i is l h =
+    let count = h.count in
+    let some : length (take i qs) ≡ i = length-take-le i qs (omega arith) in
+    let here : length house.queues ≡ 0 + length (take i qs) = ap (λ (w : World). length w.queues) is ∙ length-opened at (empty_world limits) (take i qs) in
+    let next : house.next_uid ≡ 1 + length (take i qs) = ap (λ (w : World). w.next_uid) is ∙ next-opened at (empty_world limits) (take i qs) in
+    few (length house.queues) house.next_uid (omega arith) (omega arith)

@@ -1,0 +1,271 @@
+-- What is true of every registry stays true as queues are added and changed.
+use Rattle.std.proofs.Common.{◌≡◌, ◌≢◌, ℕ, ◌+◌, ◌<◌, ◌≤◌, ◌^◌, Bool, true, false, not, ◌||◌, cond, List, [], ◌∷◌, ◌++◌, length, get_or, set, take, drop, map, Option, Some, None, Result, Ok, Err, refl, sym, ap, subst, ◌∙◌, arith, Decides, append_assoc}
+use Rattle.std.specs.Prelude.{remove, nat_eq, nat_le, OnOk, OnErr, IfOk}
+use Rattle.std.specs.List.{find, position, IsDistinct}
+use Rattle.std.specs.Option.{option_map, option_or}
+use Rattle.std.specs.Str.{bytes_eq}
+use Rattle.std.proofs.lemmas.Bool.Decides.{nat_tests}
+use Rattle.std.proofs.lemmas.Bool.{or_parts}
+use Rattle.std.proofs.lemmas.List.{append-nil, length-map, length-take-le, take_all, take_at, drop_all, drop_more, get_or_at, set_at, map_more}
+use Rattle.std.proofs.lemmas.List.Elements.{All-nil, All-get_or, All-filter, All-push, All-map, All-weaker}
+use Rattle.std.proofs.lemmas.List.Folds.{find-append}
+use Rattle.std.proofs.lemmas.List.Quantifiers.{position-Some}
+use Rattle.std.proofs.lemmas.Slice.Eq.{bytes_eq-Decides}
+use Rattle.message.specs.declared.fault.Fault.{Fault}
+use Rattle.message.specs.declared.fault.Fault.TheVariants.{QueueDoesNotExist, UnsupportedOperation}
+use Rattle.message.specs.Fault.{Meets, is_out_of_memory}
+use Rattle.message.specs.Content.{ContentText}
+use Rattle.queue_config.specs.Limits.{QueueLimits, default_limits}
+use Rattle.queue_config.specs.Settings.{QueueSettings, default_settings}
+use Rattle.journal.specs.declared.entry.Event.{Event}
+use Rattle.queue_core.specs.declared.command.Command.{Command}
+use Rattle.queue_core.specs.declared.reply.Reply.{Reply}
+use Rattle.queue_core.specs.Messages.{is_closed}
+use Rattle.queue_core.specs.Queue.{QueueHistory, at_moment, outcome_at, with_optional_event, after_answer}
+use Rattle.queue_core.specs.Kept.{opened_queue}
+use Rattle.redrive.specs.World.{World, has_no_place, empty_world, queue_named, queue_of_uid, found_uid, with_queue, next_queue, without_queue, delete_answer, closes_queue, step_answer, with_queue_changed, world_after_step, world_at_moment, IsRegistry}
+use Rattle.redrive.proofs.KeyedLemmas.{IsDistinct-push, IsDistinct-filter, map-key, find-unused, filter-absent, find-position, find-no_position, map-absent, map-present, remove-present}
+use Rattle.redrive.proofs.ClosingLemmas.{unclosed-after_answer}
+
+pub IsRegistry-empty : (limits : QueueLimits) → IsRegistry (empty_world limits)
+unfolding IsDistinct
+IsRegistry-empty limits = record { names = tt; uids = tt; used = All-nil _; first = All-nil _; begun = omega arith; last = omega arith; limits = All-nil _; unclosed = All-nil _ }
+
+-- ---- one queue more
+
+pub IsRegistry-with_queue : (w : World) (q : QueueHistory) → IsRegistry w → queue_named w q.name ≡ None → q.uid ≡ w.next_uid → q.limits ≡ w.limits
+    → is_closed q.lines ≡ false → w.next_uid < 2 ^ 62 → IsRegistry (with_queue w q)
+IsRegistry-with_queue w q h none uid limits unclosed below = record {
+  names = IsDistinct-push bytes_eq (λ (x : QueueHistory). x.name) w.queues q h.names none;
+  uids = IsDistinct-push nat_eq (λ (x : QueueHistory). x.uid) w.queues q h.uids (rw uid (find-unused (λ (x : QueueHistory). x.uid) w.next_uid w.queues h.used));
+  used = All-push (λ x. x.uid < w.next_uid + 1) w.queues q (All-weaker (λ x. x.uid < w.next_uid) (λ x. x.uid < w.next_uid + 1) (λ x l. omega arith) w.queues h.used) (omega arith);
+  first = All-push (λ x. 1 ≤ x.uid) w.queues q h.first (let begun = h.begun in omega arith);
+  begun = omega arith;
+  last = omega arith;
+  limits = All-push (λ x. x.limits ≡ w.limits) w.queues q h.limits limits;
+  unclosed = All-push (λ x. is_closed x.lines ≡ false) w.queues q h.unclosed unclosed;
+}
+
+uid_left : (n uid : ℕ) → (nat_le 1000 n || nat_le (2 ^ 62) uid) ≡ false → uid < 2 ^ 62
+uid_left n uid h = let late = (or_parts (nat_le 1000 n) (nat_le (2 ^ 62) uid) h).1 in grind (arith, nat_tests)
+
+pub IsRegistry-opened : (w : World) (at : ℕ) (name : List ℕ) (settings : QueueSettings) (q : QueueHistory) (queues : List QueueHistory) → IsRegistry w → queue_named w name ≡ None
+    → has_no_place w ≡ false → q ≡ opened_queue w.next_uid name settings w.limits at → queues ≡ w.queues ++ q ∷ [] → IsRegistry (record w { next_uid = w.next_uid + 1; queues = queues })
+IsRegistry-opened w at name settings q queues h none place is added =
+    rw (added, is) (IsRegistry-with_queue w (opened_queue w.next_uid name settings w.limits at) h none refl refl refl (uid_left (length w.queues) w.next_uid place))
+
+-- ---- queues changed, each under its uid, name and limits
+
+module _ (f : QueueHistory → QueueHistory) where
+  pub IsRegistry-map : (w : World) → ((q : QueueHistory) → (f q).uid ≡ q.uid) → ((q : QueueHistory) → (f q).name ≡ q.name) → ((q : QueueHistory) → (f q).limits ≡ q.limits)
+      → ((q : QueueHistory) → is_closed q.lines ≡ false → is_closed (f q).lines ≡ false) → IsRegistry w → IsRegistry (record w { queues = map f w.queues })
+  IsRegistry-map w uid name limits unclosed h = record {
+    names = subst (λ names. IsDistinct bytes_eq names) (sym (map-key bytes_eq (λ (q : QueueHistory). q.name) f name w.queues)) h.names;
+    uids = subst (λ uids. IsDistinct nat_eq uids) (sym (map-key nat_eq (λ (q : QueueHistory). q.uid) f uid w.queues)) h.uids;
+    used = All-map (λ q. q.uid < w.next_uid) f w.queues (All-weaker (λ q. q.uid < w.next_uid) (λ q. (f q).uid < w.next_uid) (λ q l. rw (uid q) l) w.queues h.used);
+    first = All-map (λ q. 1 ≤ q.uid) f w.queues (All-weaker (λ q. 1 ≤ q.uid) (λ q. 1 ≤ (f q).uid) (λ q l. rw (uid q) l) w.queues h.first);
+    begun = h.begun;
+    last = h.last;
+    unclosed = All-map (λ q. is_closed q.lines ≡ false) f w.queues (All-weaker (λ q. is_closed q.lines ≡ false) (λ q. is_closed (f q).lines ≡ false) unclosed w.queues h.unclosed);
+    limits = All-map (λ q. q.limits ≡ w.limits) f w.queues (All-weaker (λ q. q.limits ≡ w.limits) (λ q. (f q).limits ≡ w.limits) (λ q e. limits q ∙ e) w.queues h.limits);
+  }
+
+-- a command keeps its queue's uid, name and limits
+left-uid : (b : Bool) (q : QueueHistory) (event : Option (Event ContentText)) → (cond b q (with_optional_event q event)).uid ≡ q.uid
+left-uid true q event = refl
+left-uid false q None = refl
+left-uid false q (Some event) = refl
+
+left-name : (b : Bool) (q : QueueHistory) (event : Option (Event ContentText)) → (cond b q (with_optional_event q event)).name ≡ q.name
+left-name true q event = refl
+left-name false q None = refl
+left-name false q (Some event) = refl
+
+left-limits : (b : Bool) (q : QueueHistory) (event : Option (Event ContentText)) → (cond b q (with_optional_event q event)).limits ≡ q.limits
+left-limits true q event = refl
+left-limits false q None = refl
+left-limits false q (Some event) = refl
+
+at_uid-keeps : {K : Type 0} (key : QueueHistory → K) (b : Bool) (q next : QueueHistory) → key next ≡ key q → key (cond b next q) ≡ key q
+at_uid-keeps key true q next h = h
+at_uid-keeps key false q next h = refl
+
+pub after_step-uid : (uid at : ℕ) (command : Command) (answer : Result Reply Fault) (q : QueueHistory) → (cond (nat_eq q.uid uid) (after_answer q at command answer) q).uid ≡ q.uid
+after_step-uid uid at command answer q =
+    at_uid-keeps (λ q. q.uid) (nat_eq q.uid uid) q (after_answer q at command answer) (left-uid (is_out_of_memory answer) (at_moment q at) (outcome_at q at command).event)
+
+at_uid-unclosed : (b : Bool) (q next : QueueHistory) → (is_closed q.lines ≡ false → is_closed next.lines ≡ false) → is_closed q.lines ≡ false → is_closed (cond b next q).lines ≡ false
+at_uid-unclosed true q next h k = h k
+at_uid-unclosed false q next h k = k
+
+pub IsRegistry-after_step : (w : World) (uid at : ℕ) (command : Command) (answer : Result Reply Fault) → closes_queue command ≡ false → IsRegistry w
+    → IsRegistry (with_queue_changed w uid (λ q. after_answer q at command answer))
+IsRegistry-after_step w uid at command answer stays h =
+    IsRegistry-map (λ q. cond (nat_eq q.uid uid) (after_answer q at command answer) q) w
+    (after_step-uid uid at command answer)
+    (λ q. at_uid-keeps (λ q. q.name) (nat_eq q.uid uid) q (after_answer q at command answer) (left-name (is_out_of_memory answer) (at_moment q at) (outcome_at q at command).event))
+    (λ q. at_uid-keeps (λ q. q.limits) (nat_eq q.uid uid) q (after_answer q at command answer) (left-limits (is_out_of_memory answer) (at_moment q at) (outcome_at q at command).event))
+    (λ q. at_uid-unclosed (nat_eq q.uid uid) q (after_answer q at command answer) (unclosed-after_answer at command answer q stays))
+    h
+
+pub IsRegistry-at_moment : (w : World) (at : ℕ) → IsRegistry w → IsRegistry (world_at_moment w at)
+IsRegistry-at_moment w at h = IsRegistry-map (λ q. at_moment q at) w (λ q. refl) (λ q. refl) (λ q. refl) (λ q k. k) h
+
+-- ---- the queue of a uid changed, where it stands
+
+abbrev uid_of : QueueHistory → ℕ
+uid_of q = q.uid
+
+-- some queue, read only past the end of a list
+some_queue : QueueHistory
+some_queue = next_queue (empty_world default_limits) 0 [] default_settings
+
+pub present-absent : (w : World) (uid place : ℕ) → position (λ q. nat_eq q.uid uid) w.queues ≡ Some place → queue_of_uid w uid ≡ None → ⊥
+present-absent w uid place h none =
+    let here : find (λ q. nat_eq q.uid uid) w.queues ≡ Some (get_or w.queues place some_queue) = find-position uid_of uid w.queues place some_queue h in
+    cc
+
+pub step-absent_answer : (w : World) (uid at : ℕ) (command : Command) → position (λ q. nat_eq q.uid uid) w.queues ≡ None → step_answer w uid at command ≡ Err QueueDoesNotExist
+step-absent_answer w uid at command h = rw (find-no_position uid_of uid w.queues h) refl
+
+either-way : {X : Type 0} (b : Bool) (x y : X) → y ≡ x → cond b x y ≡ x
+either-way true x y h = refl
+either-way false x y h = h
+
+pub changed-absent : (w : World) (uid : ℕ) (f : QueueHistory → QueueHistory) → position (λ q. nat_eq q.uid uid) w.queues ≡ None → with_queue_changed w uid f ≡ w
+changed-absent w uid f h = ap (λ (queues : List QueueHistory). record w { queues = queues }) (map-absent uid_of uid f w.queues (find-no_position uid_of uid w.queues h))
+
+pub step-absent_state : (w : World) (uid at : ℕ) (command : Command) (answer : Result Reply Fault) → position (λ q. nat_eq q.uid uid) w.queues ≡ None → world_after_step w uid at command answer ≡ w
+step-absent_state w uid at command answer h =
+    either-way (closes_queue command) w (with_queue_changed w uid (λ q. after_answer q at command answer)) (changed-absent w uid (λ q. after_answer q at command answer) h)
+
+pub step-present_answer : (w : World) (uid at : ℕ) (command : Command) (place : ℕ) (old : QueueHistory) → position (λ q. nat_eq q.uid uid) w.queues ≡ Some place → old ≡ get_or w.queues place old
+    → closes_queue command ≡ false → step_answer w uid at command ≡ (outcome_at old at command).reply
+step-present_answer w uid at command place old h e stays = rw (find-position uid_of uid w.queues place old h, ← e, stays) refl
+
+pub step-refused_answer : (w : World) (uid at : ℕ) (command : Command) (place : ℕ) → position (λ q. nat_eq q.uid uid) w.queues ≡ Some place
+    → closes_queue command ≡ true → step_answer w uid at command ≡ Err UnsupportedOperation
+step-refused_answer w uid at command place h closing = rw (find-position uid_of uid w.queues place some_queue h, closing) refl
+
+pub step-refused_state : (w : World) (uid at : ℕ) (command : Command) (answer : Result Reply Fault) → closes_queue command ≡ true → world_after_step w uid at command answer ≡ w
+step-refused_state w uid at command answer closing = rw closing refl
+
+-- ---- a queue deleted
+
+pub unclosed-present : (w : World) (uid place : ℕ) (old : QueueHistory) → IsRegistry w → position (λ q. nat_eq q.uid uid) w.queues ≡ Some place → old ≡ get_or w.queues place old
+    → is_closed old.lines ≡ false
+unclosed-present w uid place old r h e =
+    let p = position-Some (λ q. nat_eq q.uid uid) w.queues place old h in
+    ap (λ (q : QueueHistory). is_closed q.lines) e ∙ All-get_or (λ q. is_closed q.lines ≡ false) w.queues place old p.0 r.unclosed
+
+pub delete-absent_answer : (w : World) (uid : ℕ) → position (λ q. nat_eq q.uid uid) w.queues ≡ None → delete_answer w uid ≡ Err QueueDoesNotExist
+delete-absent_answer w uid h = rw (find-no_position uid_of uid w.queues h) refl
+
+pub delete-absent_state : (w : World) (uid : ℕ) → position (λ q. nat_eq q.uid uid) w.queues ≡ None → without_queue w uid ≡ w
+delete-absent_state w uid h =
+    ap (λ (queues : List QueueHistory). record w { queues = queues }) (filter-absent uid_of uid w.queues (find-no_position uid_of uid w.queues h))
+
+pub delete-present_answer : (w : World) (uid place : ℕ) → position (λ q. nat_eq q.uid uid) w.queues ≡ Some place → delete_answer w uid ≡ Ok tt
+delete-present_answer w uid place h = rw (find-position uid_of uid w.queues place some_queue h) refl
+
+-- the list that is left
+pub delete-present_state : (w : World) (uid place : ℕ) (old new : QueueHistory) (queues : List QueueHistory) → IsRegistry w → position (λ q. nat_eq q.uid uid) w.queues ≡ Some place
+    → queues ≡ remove (set w.queues place new) place → record w { queues = queues } ≡ without_queue w uid
+delete-present_state w uid place old new queues r h is =
+    let p = position-Some (λ q. nat_eq q.uid uid) w.queues place old h in
+    ap (λ (queues : List QueueHistory). record w { queues = queues }) (is ∙ remove-present uid_of uid w.queues place old new r.uids p.0 p.1)
+
+pub IsRegistry-without : (w : World) (uid : ℕ) → IsRegistry w → IsRegistry (without_queue w uid)
+IsRegistry-without w uid h =
+    let stays : QueueHistory → Bool = λ q. not (nat_eq q.uid uid) in
+    record {
+      names = IsDistinct-filter bytes_eq (λ (q : QueueHistory). q.name) stays w.queues h.names;
+      uids = IsDistinct-filter nat_eq (λ (q : QueueHistory). q.uid) stays w.queues h.uids;
+      used = All-filter stays (λ q. q.uid < w.next_uid) w.queues h.used;
+      first = All-filter stays (λ q. 1 ≤ q.uid) w.queues h.first;
+      begun = h.begun;
+      last = h.last;
+      limits = All-filter stays (λ q. q.limits ≡ w.limits) w.queues h.limits;
+      unclosed = All-filter stays (λ q. is_closed q.lines ≡ false) w.queues h.unclosed;
+    }
+
+-- a queue whose clock alone has moved
+pub IsRegistry-moved : (w : World) (uid at : ℕ) → IsRegistry w → IsRegistry (with_queue_changed w uid (λ q. at_moment q at))
+IsRegistry-moved w uid at h =
+    IsRegistry-map (λ q. cond (nat_eq q.uid uid) (at_moment q at) q) w
+    (λ q. at_uid-keeps (λ q. q.uid) (nat_eq q.uid uid) q (at_moment q at) refl)
+    (λ q. at_uid-keeps (λ q. q.name) (nat_eq q.uid uid) q (at_moment q at) refl)
+    (λ q. at_uid-keeps (λ q. q.limits) (nat_eq q.uid uid) q (at_moment q at) refl)
+    (λ q. at_uid-unclosed (nat_eq q.uid uid) q (at_moment q at) (λ k. k))
+    h
+
+pub moved-present_state : (w : World) (uid at place : ℕ) (old new : QueueHistory) → IsRegistry w → position (λ q. nat_eq q.uid uid) w.queues ≡ Some place → old ≡ get_or w.queues place old
+    → new ≡ at_moment old at → record w { queues = set w.queues place new } ≡ with_queue_changed w uid (λ q. at_moment q at)
+moved-present_state w uid at place old new r h e after =
+    let p = position-Some (λ q. nat_eq q.uid uid) w.queues place old h in
+    ap (λ (queues : List QueueHistory). record w { queues = queues })
+    (ap (λ (q : QueueHistory). set w.queues place q) (after ∙ ap (λ (q : QueueHistory). at_moment q at) e)
+    ∙ map-present uid_of uid (λ q. at_moment q at) w.queues place old r.uids p.0 p.1)
+
+pub step-present_state : (w : World) (uid at : ℕ) (command : Command) (answer : Result Reply Fault) (place : ℕ) (old new : QueueHistory) → IsRegistry w
+    → position (λ q. nat_eq q.uid uid) w.queues ≡ Some place → old ≡ get_or w.queues place old → new ≡ after_answer old at command answer
+    → record w { queues = set w.queues place new } ≡ with_queue_changed w uid (λ q. after_answer q at command answer)
+step-present_state w uid at command answer place old new r h e after =
+    let p = position-Some (λ q. nat_eq q.uid uid) w.queues place old h in
+    ap (λ (queues : List QueueHistory). record w { queues = queues })
+    (ap (λ (q : QueueHistory). set w.queues place q) (after ∙ ap (λ (q : QueueHistory). after_answer q at command answer) e)
+    ∙ map-present uid_of uid (λ q. after_answer q at command answer) w.queues place old r.uids p.0 p.1)
+
+-- ---- names after a create
+
+bytes_eq-false : (xs ys : List ℕ) (b : Bool) → Decides b (xs ≡ ys) → (xs ≡ ys → ⊥) → b ≡ false
+bytes_eq-false xs ys true d h = absurd (h (d.0 refl))
+bytes_eq-false xs ys false d h = refl
+
+found-new : (w : World) (q : QueueHistory) → queue_named w q.name ≡ None → found_uid (with_queue w q) q.name ≡ Some q.uid
+found-new w q none =
+    rw (find-append (λ x. bytes_eq x.name q.name) w.queues (q ∷ []), none, (bytes_eq-Decides q.name q.name).1 refl) refl
+
+same-or : (o : Option QueueHistory) → option_map (λ q. q.uid) (option_or o None) ≡ option_map (λ q. q.uid) o
+same-or None = refl
+same-or (Some q) = refl
+
+found-other : (w : World) (q : QueueHistory) (other : List ℕ) → other ≢ q.name → found_uid (with_queue w q) other ≡ found_uid w other
+found-other w q other differs =
+    rw (find-append (λ x. bytes_eq x.name other) w.queues (q ∷ []), bytes_eq-false q.name other (bytes_eq q.name other) (bytes_eq-Decides q.name other) (λ e. differs (sym e)))
+    (same-or (find (λ x. bytes_eq x.name other) w.queues))
+
+pub found-opened : (old new : World) (at : ℕ) (name : List ℕ) (settings : QueueSettings) (r : Result ℕ Fault) → queue_named old name ≡ None → Meets r (Ok old.next_uid)
+    → OnOk r (new ≡ with_queue old (next_queue old at name settings)) → IfOk r (λ uid. found_uid new name ≡ Some uid)
+found-opened old new at name settings (Ok uid) none meets ok =
+    let e : uid ≡ old.next_uid = cc in
+    rw (ok, e) (found-new old (next_queue old at name settings) none)
+found-opened old new at name settings (Err fault) none meets ok = tt
+
+pub others-opened : (old new : World) (at : ℕ) (name : List ℕ) (settings : QueueSettings) (r : Result ℕ Fault)
+    → OnOk r (new ≡ with_queue old (next_queue old at name settings)) → OnErr r (new ≡ old) → (other : List ℕ) → other ≢ name → found_uid new other ≡ found_uid old other
+others-opened old new at name settings (Ok uid) ok err other differs = rw ok (found-other old (next_queue old at name settings) other differs)
+others-opened old new at name settings (Err fault) ok err other differs = rw err refl
+
+-- ---- every queue changed, one after another
+
+pub map-next : (f : QueueHistory → QueueHistory) (qs now : List QueueHistory) (i : ℕ) (item new : QueueHistory) → now ≡ map f (take i qs) ++ drop i qs → i < length qs
+    → item ≡ get_or now i item → new ≡ f item → set now i new ≡ map f (take (i + 1) qs) ++ drop (i + 1) qs
+map-next f qs now i item new is l read changed =
+    let done = map f (take i qs) in
+    let count : length done ≡ i = length-map (take i qs) f ∙ length-take-le i qs (omega arith) in
+    let split : now ≡ done ++ get_or qs i item ∷ drop (i + 1) qs = is ∙ ap (λ (rest : List QueueHistory). done ++ rest) (drop_more qs i item l) in
+    let same : item ≡ get_or qs i item = read ∙ ap (λ (all : List QueueHistory). get_or all i item) split ∙ get_or_at done (get_or qs i item) (drop (i + 1) qs) item i count in
+    ap (λ (all : List QueueHistory). set all i new) split ∙ set_at done (get_or qs i item) (drop (i + 1) qs) new i count
+    ∙ ap (λ (q : QueueHistory). done ++ q ∷ drop (i + 1) qs) (changed ∙ ap f same)
+    ∙ sym (append_assoc done (f (get_or qs i item) ∷ []) (drop (i + 1) qs))
+    ∙ ap (λ (all : List QueueHistory). all ++ drop (i + 1) qs) (sym (map_more f qs i item l))
+
+-- the list as it is written back
+pub IsRegistry-written : (w : World) (at : ℕ) (qs now : List QueueHistory) (i len : ℕ) → IsRegistry w → now ≡ map (λ q. at_moment q at) (take i qs) ++ drop i qs → length qs ≤ i
+    → qs ≡ w.queues → length qs ≡ len → length now ≡ length qs → IsRegistry (record w { queues = take len (now ++ drop (length now) w.queues) })
+IsRegistry-written w at qs now i len h is past same count kept =
+    let all : now ≡ map (λ (q : QueueHistory). at_moment q at) w.queues =
+    is ∙ ap (λ (rest : List QueueHistory). map (λ (q : QueueHistory). at_moment q at) (take i qs) ++ rest) (drop_all i qs past) ∙ append-nil (map (λ (q : QueueHistory). at_moment q at) (take i qs))
+    ∙ ap (λ (all : List QueueHistory). map (λ (q : QueueHistory). at_moment q at) all) (take_all i qs past ∙ same) in
+    subst (λ (queues : List QueueHistory). IsRegistry (record w { queues = queues })) (sym (take_at now (drop (length now) w.queues) len (kept ∙ count) ∙ all)) (IsRegistry-at_moment w at h)

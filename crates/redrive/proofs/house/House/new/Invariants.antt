@@ -1,0 +1,6 @@
+use Rattle.std.proofs.Common.{◌≡◌, take}
+use Rattle.redrive.specs.World.{new_world}
+use Rattle.redrive.proofs.house.House.new.Given as goal
+
+abbrev pub invariant-loop-queue : goal.invariant-loop-queue
+invariant-loop-queue l = l.house ≡ new_world (record { limits = l.config.limits; queues = take l.queue-index l.config.queues }) l.at

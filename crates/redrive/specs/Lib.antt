@@ -1,0 +1,5 @@
+pub mod Listing
+pub mod Listed
+pub mod Catalog
+pub mod World
+pub mod WorldRun
