@@ -25,7 +25,7 @@ fn push_sized(preimage: &mut Vec<u8>, bytes: &[u8]) -> Result<(), Fault>
 }
 
 /// Writes an attribute's name, its type text, which kind of value it has, and the value.
-fn push_attribute(preimage: &mut Vec<u8>, attribute: &Attribute) -> Result<(), Fault>
+fn push_attribute_preimage(preimage: &mut Vec<u8>, attribute: &Attribute) -> Result<(), Fault>
     ensures pushed { OnOk result (preimage.new.items ≡ preimage.old.items ++ attribute_preimage attribute.now) }
     ensures refusal { IfErr result (λ fault. fault ≡ OutOfMemory) }
 {
@@ -40,13 +40,13 @@ fn push_attribute(preimage: &mut Vec<u8>, attribute: &Attribute) -> Result<(), F
 }
 
 /// The bytes of all the attributes, in the order in which they stand.
-pub fn list_preimage(alloc: Global, attributes: &[Attribute]) -> Result<Vec<u8>, Fault>
+pub fn preimage_of(alloc: Global, attributes: &[Attribute]) -> Result<Vec<u8>, Fault>
     ensures preimage { IfOk result (λ bytes. bytes.items ≡ preimage_of attributes.now) }
     ensures refusal { IfErr result (λ fault. fault ≡ OutOfMemory) }
 {
     let mut preimage = Vec::new(alloc);
     for attribute in attributes {
-        push_attribute(&mut preimage, attribute)?;
+        push_attribute_preimage(&mut preimage, attribute)?;
     }
     Ok(preimage)
 }

@@ -10,7 +10,7 @@
 //! "Calculating the MD5 message digest for message attributes"; `specs/Digest.antt` writes them out.
 #![tactic(auto)]
 
-ghost use Rattle.std.specs.Prelude.{◌≡◌, IfOk, IfErr, option_map, string_bytes};
+ghost use Rattle.std.specs.Prelude.{◌≡◌, [], IfOk, IfErr, option_map, string_bytes};
 ghost use Rattle.attribute_md5.specs.Digest.{attributes_digest, body_digest, preimage_of};
 ghost use Rattle.hex.specs.Hex.{encode_lower};
 ghost use Rattle.md5.specs.Md5.{md5};
@@ -43,24 +43,27 @@ pub fn body_md5(alloc: Global, body: &str) -> Result<String, Fault>
 }
 
 /// The MD5 digest of these attributes, in the order in which they stand, as 32 lower-case hex
-/// digits; none without attributes. `OutOfMemory` is the only refusal.
+/// digits; none without attributes. `OutOfMemory` is the only refusal, and none comes without
+/// attributes.
 ///
 /// For a list whose names ascend, such as those of a [`Content`] that a receive selected.
 pub fn list_md5(alloc: Global, attributes: &[Attribute]) -> Result<Option<String>, Fault>
     ensures digest { IfOk result (λ digest. option_map string_bytes digest ≡ attributes_digest attributes.now) }
+    ensures none { attributes.now ≡ [] → result ≡ Ok None }
     ensures refusal { IfErr result (λ fault. fault ≡ OutOfMemory) }
 {
     if attributes.is_empty() {
         return Ok(None);
     }
-    let preimage = bytes::list_preimage(alloc, attributes)?;
+    let preimage = bytes::preimage_of(alloc, attributes)?;
     Ok(Some(hex_md5(alloc, preimage.as_slice())?))
 }
 
 /// The MD5 digest of the content's attributes, as 32 lower-case hex digits; none without
-/// attributes. `OutOfMemory` is the only refusal.
+/// attributes. `OutOfMemory` is the only refusal, and none comes without attributes.
 pub fn attributes_md5(alloc: Global, content: &Content) -> Result<Option<String>, Fault>
     ensures digest { IfOk result (λ digest. option_map string_bytes digest ≡ attributes_digest content.now.attributes) }
+    ensures none { content.now.attributes ≡ [] → result ≡ Ok None }
     ensures refusal { IfErr result (λ fault. fault ≡ OutOfMemory) }
 {
     list_md5(alloc, content.attributes())
@@ -72,5 +75,5 @@ pub fn preimage(alloc: Global, content: &Content) -> Result<Vec<u8>, Fault>
     ensures preimage { IfOk result (λ bytes. bytes.items ≡ preimage_of content.now.attributes) }
     ensures refusal { IfErr result (λ fault. fault ≡ OutOfMemory) }
 {
-    bytes::list_preimage(alloc, content.attributes())
+    bytes::preimage_of(alloc, content.attributes())
 }

@@ -1,5 +1,5 @@
 -- Items made one after another, members put one after another, and that no reply has a float.
-use Rattle.std.proofs.Common.{◌≡◌, ℕ, Bool, true, false, true≢false, ◌||◌, ◌==◌, ◌/◌, cond, List, [], ◌∷◌, ◌++◌, length, get_or, drop, ◌+◌, ◌<◌, ◌≤◌, Option, Some, None, Result, Ok, Err, Ordering, Less, Equal, Greater, codes, decimal, refl, sym, ap, ◌∙◌}
+use Rattle.std.proofs.Common.{◌≡◌, ℕ, Bool, true, false, true≢false, ◌||◌, ◌==◌, cond, List, [], ◌∷◌, ◌++◌, length, get_or, drop, ◌+◌, ◌<◌, ◌≤◌, Option, Some, None, Result, Ok, Err, Ordering, Less, Equal, Greater, codes, refl, sym, ap, ◌∙◌}
 use Rattle.std.proofs.lemmas.List.{at_drop_more, drop_all}
 use Rattle.std.specs.Cmp.Lexicographic.{slice_cmp}
 use Rattle.std.specs.Ordering.{nat_cmp, match_ordering}
@@ -9,8 +9,7 @@ use Rattle.message.specs.Content.{ContentText}
 use Rattle.message.specs.Id.{message_id_text}
 use Rattle.message.specs.declared.fault.Fault.{Fault}
 use Rattle.message.specs.declared.id.MessageId.{MessageId}
-use Rattle.queue_config.specs.Settings.{QueueSettings}
-use Rattle.queue_core.specs.declared.gauges.Gauges.{Gauges}
+use Rattle.receipt_handle.specs.Handle.{handle_text}
 use Rattle.queue_core.specs.declared.offers.Offer.{Offer}
 use Rattle.queue_core.specs.declared.reply.Look.{Look}
 use Rattle.serde_json.specs.Data.{Data, string, array, object, Items, no_items, item, Members, no_members, member, put}
@@ -20,13 +19,14 @@ use Rattle.serde_json.specs.declared.value.Value.{Value}
 use Rattle.aws_json.specs.declared.batch.BatchAnswer.{BatchAnswer}
 use Rattle.aws_json.specs.declared.batch.EntryReply.{EntryReply}
 use Rattle.aws_json.specs.declared.batch.EntryReply.TheVariants as entries
-use Rattle.aws_json.specs.declared.request.AttributeNames.{AttributeNames}
+use Rattle.aws_json.specs.AttributeNames.{queue_attribute_name, system_attribute_name}
+use Rattle.aws_json.specs.declared.attribute_names.QueueAttribute.{QueueAttribute}
+use Rattle.aws_json.specs.declared.attribute_names.SystemAttribute.{SystemAttribute}
 use Rattle.aws_json.specs.declared.request.ReceiveNames.{ReceiveNames}
 use Rattle.aws_json.specs.declared.reply.ReplyShape.{ReplyShape}
 use Rattle.aws_json.specs.declared.reply.ReplyShape.TheVariants.{QueueUrl, QueueUrls, Sent, Attributes, Messages, Batch, Nothing}
 use Rattle.aws_json.specs.Attributes.{asked_attributes}
-use Rattle.aws_json.specs.Put.{put_given, put_sent}
-use Rattle.aws_json.specs.Reply.{put_if, put_count, put_counts, put_times, put_settings, queue_arn, queue_attributes, queue_url, url_items, given_text, sent_members, text_member_if, attribute_members, attribute_data, put_attributes, message_members, asks_attributes, message_data, message_items, done_data, done_item, done_items, failed_item, failed_items, reply_data}
+use Rattle.aws_json.specs.Reply.{queue_attribute_text, put_queue_attributes, queue_url, url_items, put_given, put_sent, put_attributes_given, put_offer, handle_of_offer, system_attribute_text, put_system_attributes, has_some, attribute_data, put_attributes, message_data, message_items, done_data, done_item, done_items, failed_item, failed_items, reply_data}
 
 -- ---- items
 
@@ -82,19 +82,6 @@ pub failed_items-all : (xs : List BatchAnswer) (vs : List Value) (i : ℕ) → l
 failed_items-all xs vs i past h =
     sym (items_then-end vs) ∙ ap (λ (rest : List BatchAnswer). items_then vs (failed_items rest)) (sym (drop_all i xs past)) ∙ h
 
--- ---- members
-
-sent_into_entry : (given : Option (List ℕ)) (entry body id : List ℕ)
-    → put (codes "MessageId") (string id) (put (codes "MD5OfMessageBody") (string body) (put_given (codes "MD5OfMessageAttributes") given (member (codes "Id") (string entry) no_members)))
-    ≡ member (codes "Id") (string entry) (given_text (codes "MD5OfMessageAttributes") given (member (codes "MD5OfMessageBody") (string body) (member (codes "MessageId") (string id) no_members)))
-sent_into_entry None entry body id = refl
-sent_into_entry (Some text) entry body id = refl
-
--- what a client is told of a send, put after the id of an entry
-pub put_sent-entry : (content : ContentText) (id : MessageId) (entry : List ℕ)
-    → put_sent content id (put (codes "Id") (string entry) no_members) ≡ member (codes "Id") (string entry) (sent_members content id)
-put_sent-entry content id entry = sent_into_entry (attributes_digest content.attributes) entry (body_digest content.body) (message_id_text id)
-
 -- ---- no float
 
 or_left : (a b : Bool) → (a || b) ≡ false → a ≡ false
@@ -120,20 +107,16 @@ put_float k d (member l e ms) p q =
     let later = or_right (has_float e) (members_have_float ms) q in
     ordered_float (slice_cmp nat_cmp k l) _ _ _ (or_both _ _ p q) (or_both _ _ p later) (or_both _ _ here (put_float k d ms p later))
 
-text_member_float : (asked : Bool) (name text : List ℕ) (rest : Members) → members_have_float rest ≡ false → members_have_float (text_member_if asked name text rest) ≡ false
-text_member_float true name text rest h = h
-text_member_float false name text rest h = h
+put_given_float : (name : List ℕ) (given : Option (List ℕ)) (ms : Members) → members_have_float ms ≡ false → members_have_float (put_given name given ms) ≡ false
+put_given_float name None ms h = h
+put_given_float name (Some text) ms h = put_float name (string text) ms refl h
 
-given_float : (name : List ℕ) (given : Option (List ℕ)) (rest : Members) → members_have_float rest ≡ false → members_have_float (given_text name given rest) ≡ false
-given_float name None rest h = h
-given_float name (Some text) rest h = h
-
-sent_float : (content : ContentText) (id : MessageId) → members_have_float (sent_members content id) ≡ false
-sent_float content id = given_float _ (attributes_digest content.attributes) _ refl
-
-message_attributes_float : (names : ReceiveNames) (o : Offer) → members_have_float (attribute_members names o) ≡ false
-message_attributes_float names o =
-    text_member_float names.first _ _ _ (text_member_float names.count _ _ _ (text_member_float names.sender _ _ _ (text_member_float names.sent _ _ _ refl)))
+put_sent_float : (content : ContentText) (id : MessageId) (ms : Members) → members_have_float ms ≡ false → members_have_float (put_sent content id ms) ≡ false
+put_sent_float content id ms h =
+    let m0 : Members = put_given (codes "MD5OfMessageAttributes") (attributes_digest content.attributes) ms in
+    let h0 : members_have_float m0 ≡ false = put_given_float (codes "MD5OfMessageAttributes") (attributes_digest content.attributes) ms h in
+    let m1 : Members = put (codes "MD5OfMessageBody") (string (body_digest content.body)) m0 in
+    put_float (codes "MessageId") (string (message_id_text id)) m1 refl (put_float (codes "MD5OfMessageBody") (string (body_digest content.body)) m0 refl h0)
 
 either_float : (b : Bool) (d e : Data) → has_float d ≡ false → has_float e ≡ false → has_float (cond b d e) ≡ false
 either_float true d e p q = p
@@ -143,19 +126,41 @@ put_attributes_float : (ms : Members) (xs : List AttributeText) → members_have
 put_attributes_float ms [] h = h
 put_attributes_float ms (a ∷ xs) h = put_attributes_float (put a.name (attribute_data a) ms) xs (put_float a.name (attribute_data a) ms (either_float a.is_binary _ _ refl refl) h)
 
-member_unless_float : (none : Bool) (name : List ℕ) (d : Data) (rest : Members) → has_float d ≡ false → members_have_float rest ≡ false → members_have_float (cond none rest (member name d rest)) ≡ false
-member_unless_float true name d rest p q = q
-member_unless_float false name d rest p q = or_both _ _ p q
+unless_float : (none : Bool) (ms ns : Members) → members_have_float ms ≡ false → members_have_float ns ≡ false → members_have_float (cond none ms ns) ≡ false
+unless_float true ms ns p q = p
+unless_float false ms ns p q = q
 
-message_members_float : (uid : ℕ) (patterns : List (List ℕ)) (o : Offer) → members_have_float (message_members uid patterns o) ≡ false
-message_members_float uid patterns o =
-    given_float _ (attributes_digest (asked_attributes patterns o.content.attributes)) _
-    (member_unless_float (length (asked_attributes patterns o.content.attributes) == 0) _ (object (put_attributes no_members (asked_attributes patterns o.content.attributes))) _ (put_attributes_float no_members (asked_attributes patterns o.content.attributes) refl) refl)
+put_attributes_given_float : (xs : List AttributeText) (ms : Members) → members_have_float ms ≡ false → members_have_float (put_attributes_given xs ms) ≡ false
+put_attributes_given_float xs ms h =
+    unless_float (length xs == 0) ms (put (codes "MessageAttributes") (object (put_attributes no_members xs)) ms) h
+    (put_float (codes "MessageAttributes") (object (put_attributes no_members xs)) ms (put_attributes_float no_members xs refl) h)
+
+put_offer_float : (uid : ℕ) (patterns : List (List ℕ)) (o : Offer) (ms : Members) → members_have_float ms ≡ false → members_have_float (put_offer uid patterns o ms) ≡ false
+put_offer_float uid patterns o ms h =
+    let asked : List AttributeText = asked_attributes patterns o.content.attributes in
+    let m0 : Members = put (codes "Body") (string o.content.body) ms in
+    let h0 : members_have_float m0 ≡ false = put_float (codes "Body") (string o.content.body) ms refl h in
+    let m1 : Members = put (codes "MD5OfBody") (string (body_digest o.content.body)) m0 in
+    let h1 : members_have_float m1 ≡ false = put_float (codes "MD5OfBody") (string (body_digest o.content.body)) m0 refl h0 in
+    let m2 : Members = put_given (codes "MD5OfMessageAttributes") (attributes_digest asked) m1 in
+    let h2 : members_have_float m2 ≡ false = put_given_float (codes "MD5OfMessageAttributes") (attributes_digest asked) m1 h1 in
+    let m3 : Members = put_attributes_given asked m2 in
+    let h3 : members_have_float m3 ≡ false = put_attributes_given_float asked m2 h2 in
+    let m4 : Members = put (codes "MessageId") (string (message_id_text o.id)) m3 in
+    let h4 : members_have_float m4 ≡ false = put_float (codes "MessageId") (string (message_id_text o.id)) m3 refl h3 in
+    put_float (codes "ReceiptHandle") (string (handle_text (handle_of_offer uid o))) m4 refl h4
+
+system_attributes_float : (o : Offer) (ms : Members) (xs : List SystemAttribute) → members_have_float ms ≡ false → members_have_float (put_system_attributes o ms xs) ≡ false
+system_attributes_float o ms [] h = h
+system_attributes_float o ms (a ∷ xs) h = system_attributes_float o (put_given (system_attribute_name a) (system_attribute_text o a) ms) xs (put_given_float (system_attribute_name a) (system_attribute_text o a) ms h)
 
 message_float : (uid : ℕ) (names : ReceiveNames) (patterns : List (List ℕ)) (o : Offer) → has_float (message_data uid names patterns o) ≡ false
 message_float uid names patterns o =
-    either_float (asks_attributes names) (object (member (codes "Attributes") (object (attribute_members names o)) (message_members uid patterns o))) (object (message_members uid patterns o))
-    (or_both _ _ (message_attributes_float names o) (message_members_float uid patterns o)) (message_members_float uid patterns o)
+    let attributes : Data = object (put_system_attributes o no_members names.asked) in
+    let given : Members = put (codes "Attributes") attributes no_members in
+    let h : members_have_float given ≡ false = put_float (codes "Attributes") attributes no_members (system_attributes_float o no_members names.asked refl) refl in
+    either_float (has_some o names.asked) (object (put_offer uid patterns o given)) (object (put_offer uid patterns o no_members))
+    (put_offer_float uid patterns o given h) (put_offer_float uid patterns o no_members refl)
 
 items_float : (uid : ℕ) (names : ReceiveNames) (patterns : List (List ℕ)) (os : List Offer) → items_have_float (message_items uid names patterns os) ≡ false
 items_float uid names patterns [] = refl
@@ -165,50 +170,16 @@ offers_float : (none : Bool) (name : List ℕ) (items : Items) → items_have_fl
     → has_float (cond none (object no_members) (object (member name (array items) no_members))) ≡ false
 offers_float none name items h = either_float none (object no_members) (object (member name (array items) no_members)) refl (or_both _ _ h refl)
 
-put_if_float : (asked : Bool) (name text : List ℕ) (ms : Members) → members_have_float ms ≡ false → members_have_float (put_if asked name (string text) ms) ≡ false
-put_if_float true name text ms h = put_float name (string text) ms refl h
-put_if_float false name text ms h = h
-
-put_counts_float : (names : AttributeNames) (gauges : Gauges) (ms : Members) → members_have_float ms ≡ false → members_have_float (put_counts names gauges ms) ≡ false
-put_counts_float names gauges ms h =
-    let m0 : Members = put_count names.visible (codes "ApproximateNumberOfMessages") gauges.visible ms in
-    let h0 : members_have_float m0 ≡ false = put_if_float names.visible (codes "ApproximateNumberOfMessages") (decimal gauges.visible) ms h in
-    let m1 : Members = put_count names.delayed (codes "ApproximateNumberOfMessagesDelayed") gauges.delayed m0 in
-    let h1 : members_have_float m1 ≡ false = put_if_float names.delayed (codes "ApproximateNumberOfMessagesDelayed") (decimal gauges.delayed) m0 h0 in
-    put_if_float names.in_flight (codes "ApproximateNumberOfMessagesNotVisible") (decimal gauges.in_flight) m1 h1
-
-put_times_float : (names : AttributeNames) (look : Look) (ms : Members) → members_have_float ms ≡ false → members_have_float (put_times names look ms) ≡ false
-put_times_float names look ms h =
-    let m0 : Members = put_count names.created (codes "CreatedTimestamp") (look.created / 1000) ms in
-    let h0 : members_have_float m0 ≡ false = put_if_float names.created (codes "CreatedTimestamp") (decimal (look.created / 1000)) ms h in
-    put_if_float names.modified (codes "LastModifiedTimestamp") (decimal (look.modified / 1000)) m0 h0
-
-put_settings_float : (names : AttributeNames) (settings : QueueSettings) (ms : Members) → members_have_float ms ≡ false → members_have_float (put_settings names settings ms) ≡ false
-put_settings_float names settings ms h =
-    let m0 : Members = put_count names.delay (codes "DelaySeconds") settings.delay_seconds ms in
-    let h0 : members_have_float m0 ≡ false = put_if_float names.delay (codes "DelaySeconds") (decimal settings.delay_seconds) ms h in
-    let m1 : Members = put_count names.timeout (codes "VisibilityTimeout") settings.visibility_timeout m0 in
-    let h1 : members_have_float m1 ≡ false = put_if_float names.timeout (codes "VisibilityTimeout") (decimal settings.visibility_timeout) m0 h0 in
-    let m2 : Members = put_count names.retention (codes "MessageRetentionPeriod") settings.retention_seconds m1 in
-    let h2 : members_have_float m2 ≡ false = put_if_float names.retention (codes "MessageRetentionPeriod") (decimal settings.retention_seconds) m1 h1 in
-    let m3 : Members = put_count names.wait (codes "ReceiveMessageWaitTimeSeconds") settings.wait_seconds m2 in
-    let h3 : members_have_float m3 ≡ false = put_if_float names.wait (codes "ReceiveMessageWaitTimeSeconds") (decimal settings.wait_seconds) m2 h2 in
-    put_if_float names.size (codes "MaximumMessageSize") (decimal settings.maximum_message_size) m3 h3
-
-queue_attributes_float : (names : AttributeNames) (queue : List ℕ) (look : Look) → members_have_float (queue_attributes names queue look) ≡ false
-queue_attributes_float names queue look =
-    let counts : Members = put_counts names look.gauges no_members in
-    let times : Members = put_times names look counts in
-    let settings : Members = put_settings names look.settings times in
-    put_if_float names.arn (codes "QueueArn") (queue_arn queue) settings
-    (put_settings_float names look.settings times (put_times_float names look counts (put_counts_float names look.gauges no_members refl)))
+queue_attributes_float : (queue : List ℕ) (look : Look) (ms : Members) (xs : List QueueAttribute) → members_have_float ms ≡ false → members_have_float (put_queue_attributes queue look ms xs) ≡ false
+queue_attributes_float queue look ms [] h = h
+queue_attributes_float queue look ms (a ∷ xs) h = queue_attributes_float queue look (put (queue_attribute_name a) (string (queue_attribute_text queue look a)) ms) xs (put_float (queue_attribute_name a) (string (queue_attribute_text queue look a)) ms refl h)
 
 urls_float : (names : List (List ℕ)) → items_have_float (url_items names) ≡ false
 urls_float [] = refl
 urls_float (name ∷ names) = or_both _ _ refl (urls_float names)
 
 done_float : (id : List ℕ) (reply : EntryReply) → has_float (done_data id reply) ≡ false
-done_float id (entries.Sent content number) = sent_float content number
+done_float id (entries.Sent content number) = put_sent_float content number (put (codes "Id") (string id) no_members) refl
 done_float id entries.Done = refl
 
 done_item_float : (id : List ℕ) (answer : Result EntryReply Fault) (rest : Items) → items_have_float rest ≡ false → items_have_float (done_item id answer rest) ≡ false
@@ -229,10 +200,10 @@ failed_items_float (a ∷ xs) = failed_item_float a.id a.answer (failed_items xs
 
 pub reply_data-float : (shape : ReplyShape) → has_float (reply_data shape) ≡ false
 reply_data-float (QueueUrl name) = refl
-reply_data-float (Sent content id) = sent_float content id
+reply_data-float (Sent content id) = put_sent_float content id no_members refl
 reply_data-float (QueueUrls names) = or_both _ _ (urls_float names) refl
 reply_data-float (Attributes None queue look) = refl
-reply_data-float (Attributes (Some names) queue look) = or_both _ _ (queue_attributes_float names queue look) refl
+reply_data-float (Attributes (Some names) queue look) = or_both _ _ (queue_attributes_float queue look no_members names.asked refl) refl
 reply_data-float (Messages uid names patterns offers) = offers_float (length offers == 0) _ _ (items_float uid names patterns offers)
 reply_data-float (Batch answers) = or_both _ _ (failed_items_float answers) (or_both _ _ (done_items_float answers) refl)
 reply_data-float Nothing = refl

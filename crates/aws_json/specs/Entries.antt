@@ -55,13 +55,18 @@ required_within least most number = do
 
 -- ---- entries of a batch
 
+-- the members that tell of a message to be sent
+abbrev pub message_columns : List Column
+message_columns = column (codes "MessageBody") Text ∷ column (codes "DelaySeconds") Number ∷ column (codes "MessageAttributes") MessageAttributes ∷ []
+
+abbrev pub handle_column : Column
+handle_column = column (codes "ReceiptHandle") Text
+
 -- the members that an entry knows, in the order in which they are judged
 abbrev pub entry_columns : EntryKind → List Column
-entry_columns entries.Send =
-    column (codes "Id") Text ∷ column (codes "MessageBody") Text ∷ column (codes "DelaySeconds") Number
-    ∷ column (codes "MessageAttributes") MessageAttributes ∷ []
-entry_columns entries.Delete = column (codes "Id") Text ∷ column (codes "ReceiptHandle") Text ∷ []
-entry_columns entries.Change = column (codes "Id") Text ∷ column (codes "ReceiptHandle") Text ∷ column (codes "VisibilityTimeout") Number ∷ []
+entry_columns entries.Send = column (codes "Id") Text ∷ message_columns
+entry_columns entries.Delete = column (codes "Id") Text ∷ handle_column ∷ []
+entry_columns entries.Change = column (codes "Id") Text ∷ handle_column ∷ column (codes "VisibilityTimeout") Number ∷ []
 
 -- what an entry asks of the queue, or its first fault; each is judged as the action for one message is
 abbrev pub entry_command : EntryKind → Data → Result Command Fault

@@ -1,5 +1,5 @@
 -- Replies as JSON data (AWS JSON 1.0, Amazon SQS API Reference); keys stand in byte order.
-use Rattle.std.specs.Prelude.{ℕ, nat_le, ◌++◌, ◌==◌, ◌||◌, ◌/◌, [], ◌∷◌, length, Bool, if◌then◌else◌, List, codes, decimal, Option, Some, None, Result, Ok, Err}
+use Rattle.std.specs.Prelude.{ℕ, nat_le, ◌++◌, ◌==◌, ◌||◌, ◌/◌, [], ◌∷◌, length, Bool, false, is_some, if◌then◌else◌, List, codes, decimal, Option, Some, None, Result, Ok, Err}
 use Rattle.attribute_md5.specs.Digest.{body_digest, attributes_digest}
 use Rattle.base64.specs.Engines.{standard}
 use Rattle.base64.specs.GeneralPurpose.{encode_of}
@@ -11,13 +11,16 @@ use Rattle.message.specs.declared.fault.Fault.{Fault}
 use Rattle.message.specs.declared.id.MessageId.{MessageId}
 use Rattle.receipt_handle.specs.declared.handle.Handle.{Handle}
 use Rattle.receipt_handle.specs.Handle.{handle_text}
-use Rattle.queue_config.specs.Settings.{QueueSettings}
-use Rattle.queue_core.specs.declared.gauges.Gauges.{Gauges}
 use Rattle.queue_core.specs.declared.offers.Offer.{Offer}
 use Rattle.queue_core.specs.declared.reply.Look.{Look}
 use Rattle.serde_json.specs.Data.{Data, boolean, string, array, object, Items, no_items, item, Members, no_members, member, put}
 use Rattle.aws_json.specs.Attributes.{asked_attributes}
 use Rattle.aws_json.specs.FaultText.{fault_name, fault_message}
+use Rattle.aws_json.specs.AttributeNames.{queue_attribute_name, system_attribute_name}
+use Rattle.aws_json.specs.declared.attribute_names.QueueAttribute.{QueueAttribute}
+use Rattle.aws_json.specs.declared.attribute_names.QueueAttribute.TheVariants as queues
+use Rattle.aws_json.specs.declared.attribute_names.SystemAttribute.{SystemAttribute}
+use Rattle.aws_json.specs.declared.attribute_names.SystemAttribute.TheVariants as messages
 use Rattle.aws_json.specs.declared.request.ReceiveNames.{ReceiveNames}
 use Rattle.aws_json.specs.declared.request.AttributeNames.{AttributeNames}
 use Rattle.aws_json.specs.declared.batch.BatchAnswer.{BatchAnswer}
@@ -34,49 +37,32 @@ queue_url name = codes "http://localhost:9324/000000000000/" ++ name
 abbrev pub queue_arn : List ℕ → List ℕ
 queue_arn name = codes "arn:aws:sqs:elasticmq:000000000000:" ++ name
 
--- ---- attributes of a queue: each is a text, under its name, where it is asked for
+-- ---- attributes of a queue
 
--- the members with this one put among them, where it is asked for
-abbrev pub put_if : Bool → List ℕ → Data → Members → Members
-put_if asked name d members = if asked then put name d members else members
+-- a number as a text
+abbrev pub queue_attribute_text : List ℕ → Look → QueueAttribute → List ℕ
+queue_attribute_text queue look queues.Visible = decimal look.gauges.visible
+queue_attribute_text queue look queues.Delayed = decimal look.gauges.delayed
+queue_attribute_text queue look queues.InFlight = decimal look.gauges.in_flight
+queue_attribute_text queue look queues.Created = decimal (look.created / 1000)
+queue_attribute_text queue look queues.Delay = decimal look.settings.delay_seconds
+queue_attribute_text queue look queues.Modified = decimal (look.modified / 1000)
+queue_attribute_text queue look queues.Size = decimal look.settings.maximum_message_size
+queue_attribute_text queue look queues.Retention = decimal look.settings.retention_seconds
+queue_attribute_text queue look queues.Arn = queue_arn queue
+queue_attribute_text queue look queues.Wait = decimal look.settings.wait_seconds
+queue_attribute_text queue look queues.Timeout = decimal look.settings.visibility_timeout
 
-abbrev pub put_count : Bool → List ℕ → ℕ → Members → Members
-put_count asked name count members = put_if asked name (string (decimal count)) members
-
-abbrev pub put_counts : AttributeNames → Gauges → Members → Members
-put_counts names gauges members =
-    put_count names.in_flight (codes "ApproximateNumberOfMessagesNotVisible") gauges.in_flight
-    (put_count names.delayed (codes "ApproximateNumberOfMessagesDelayed") gauges.delayed
-    (put_count names.visible (codes "ApproximateNumberOfMessages") gauges.visible members))
-
--- seconds, rounded down
-abbrev pub put_times : AttributeNames → Look → Members → Members
-put_times names look members =
-    put_count names.modified (codes "LastModifiedTimestamp") (look.modified / 1000)
-    (put_count names.created (codes "CreatedTimestamp") (look.created / 1000) members)
-
--- how long messages stay delayed, in flight, and at all
-abbrev pub put_durations : AttributeNames → QueueSettings → Members → Members
-put_durations names settings members =
-    put_count names.retention (codes "MessageRetentionPeriod") settings.retention_seconds
-    (put_count names.timeout (codes "VisibilityTimeout") settings.visibility_timeout
-    (put_count names.delay (codes "DelaySeconds") settings.delay_seconds members))
-
-abbrev pub put_settings : AttributeNames → QueueSettings → Members → Members
-put_settings names settings members =
-    put_count names.size (codes "MaximumMessageSize") settings.maximum_message_size
-    (put_count names.wait (codes "ReceiveMessageWaitTimeSeconds") settings.wait_seconds (put_durations names settings members))
-
--- the attributes of a queue that are asked for
-abbrev pub queue_attributes : AttributeNames → List ℕ → Look → Members
-queue_attributes names queue look =
-    put_if names.arn (codes "QueueArn") (string (queue_arn queue))
-    (put_settings names look.settings (put_times names look (put_counts names look.gauges no_members)))
+-- these attributes put among the members, each under its name
+abbrev pub put_queue_attributes : List ℕ → Look → Members → List QueueAttribute → Members
+put_queue_attributes queue look members [] = members
+put_queue_attributes queue look members (a ∷ rest) =
+    put_queue_attributes queue look (put (queue_attribute_name a) (string (queue_attribute_text queue look a)) members) rest
 
 -- an empty object where no name was asked
 abbrev pub attributes_data : Option AttributeNames → List ℕ → Look → Data
 attributes_data None queue look = object no_members
-attributes_data (Some names) queue look = object (member (codes "Attributes") (object (queue_attributes names queue look)) no_members)
+attributes_data (Some names) queue look = object (member (codes "Attributes") (object (put_queue_attributes queue look no_members names.asked)) no_members)
 
 -- ---- URLs
 
@@ -94,34 +80,35 @@ urls_data names = object (member (codes "QueueUrls") (array (url_items names)) n
 
 -- ---- sends
 
--- a text among the members, where there is one
-abbrev pub given_text : List ℕ → Option (List ℕ) → Members → Members
-given_text name None rest = rest
-given_text name (Some text) rest = member name (string text) rest
+-- a text put among the members, where there is one
+abbrev pub put_given : List ℕ → Option (List ℕ) → Members → Members
+put_given name None members = members
+put_given name (Some text) members = put name (string text) members
 
--- the digests of a message's attributes, where it has some, and of its body, and the message's id
-abbrev pub sent_members : ContentText → MessageId → Members
-sent_members content id =
-    given_text (codes "MD5OfMessageAttributes") (attributes_digest content.attributes)
-    (member (codes "MD5OfMessageBody") (string (body_digest content.body))
-    (member (codes "MessageId") (string (message_id_text id)) no_members))
+-- the digests of a message's attributes, where it has some, and of its body, and the message's id, put among the members
+abbrev pub put_sent : ContentText → MessageId → Members → Members
+put_sent content id members =
+    put (codes "MessageId") (string (message_id_text id))
+    (put (codes "MD5OfMessageBody") (string (body_digest content.body))
+    (put_given (codes "MD5OfMessageAttributes") (attributes_digest content.attributes) members))
 
 abbrev pub sent_data : ContentText → MessageId → Data
-sent_data content id = object (sent_members content id)
+sent_data content id = object (put_sent content id no_members)
 
 -- ---- messages
 
--- a text among the members, where it is asked for
-abbrev pub text_member_if : Bool → List ℕ → List ℕ → Members → Members
-text_member_if asked name text rest = if asked then member name (string text) rest else rest
+-- an attribute of an offer, where it has it. The sender is always the one account. No message comes from another queue, so none has a source
+abbrev pub system_attribute_text : Offer → SystemAttribute → Option (List ℕ)
+system_attribute_text o messages.FirstReceive = Some (decimal o.first_receive)
+system_attribute_text o messages.ReceiveCount = Some (decimal o.receipt)
+system_attribute_text o messages.Source = None
+system_attribute_text o messages.Sender = Some (codes "000000000000")
+system_attribute_text o messages.Sent = Some (decimal o.sent)
 
--- the attributes of an offer that are asked for. The sender is always the one account. No message comes from another queue, so the source is not answered
-abbrev pub attribute_members : ReceiveNames → Offer → Members
-attribute_members names o =
-    text_member_if names.first (codes "ApproximateFirstReceiveTimestamp") (decimal o.first_receive)
-    (text_member_if names.count (codes "ApproximateReceiveCount") (decimal o.receipt)
-    (text_member_if names.sender (codes "SenderId") (codes "000000000000")
-    (text_member_if names.sent (codes "SentTimestamp") (decimal o.sent) no_members)))
+-- these attributes of an offer put among the members, each under its name
+abbrev pub put_system_attributes : Offer → Members → List SystemAttribute → Members
+put_system_attributes o members [] = members
+put_system_attributes o members (a ∷ rest) = put_system_attributes o (put_given (system_attribute_name a) (system_attribute_text o a) members) rest
 
 -- the handle that an offer is changed and deleted by
 abbrev pub handle_of_offer : ℕ → Offer → Handle
@@ -138,31 +125,33 @@ abbrev pub put_attributes : Members → List AttributeText → Members
 put_attributes members [] = members
 put_attributes members (a ∷ rest) = put_attributes (put a.name (attribute_data a) members) rest
 
--- an object of attributes among the members, where there are some
-abbrev pub attributes_member : List AttributeText → Members → Members
-attributes_member attributes rest =
-    if length attributes == 0 then rest else member (codes "MessageAttributes") (object (put_attributes no_members attributes)) rest
+-- an object of attributes put among the members, where there are some
+abbrev pub put_attributes_given : List AttributeText → Members → Members
+put_attributes_given attributes members =
+    if length attributes == 0 then members
+    else put (codes "MessageAttributes") (object (put_attributes no_members attributes)) members
 
--- what every offer has, and the attributes that are asked for, with their digest
-abbrev pub message_members : ℕ → List (List ℕ) → Offer → Members
-message_members uid patterns o =
-    member (codes "Body") (string o.content.body)
-    (member (codes "MD5OfBody") (string (body_digest o.content.body))
-    (given_text (codes "MD5OfMessageAttributes") (attributes_digest (asked_attributes patterns o.content.attributes))
-    (attributes_member (asked_attributes patterns o.content.attributes)
-    (member (codes "MessageId") (string (message_id_text o.id))
-    (member (codes "ReceiptHandle") (string (handle_text (handle_of_offer uid o))) no_members)))))
+-- what every offer has, and the attributes that are asked for, with their digest, put among the members
+abbrev pub put_offer : ℕ → List (List ℕ) → Offer → Members → Members
+put_offer uid patterns o members =
+    put (codes "ReceiptHandle") (string (handle_text (handle_of_offer uid o)))
+    (put (codes "MessageId") (string (message_id_text o.id))
+    (put_attributes_given (asked_attributes patterns o.content.attributes)
+    (put_given (codes "MD5OfMessageAttributes") (attributes_digest (asked_attributes patterns o.content.attributes))
+    (put (codes "MD5OfBody") (string (body_digest o.content.body))
+    (put (codes "Body") (string o.content.body) members)))))
 
--- whether an attribute is asked for that offers have
-abbrev pub asks_attributes : ReceiveNames → Bool
-asks_attributes names = names.first || names.count || names.sender || names.sent
+-- whether an offer has one of these attributes
+abbrev pub has_some : Offer → List SystemAttribute → Bool
+has_some o [] = false
+has_some o (a ∷ rest) = is_some (system_attribute_text o a) || has_some o rest
 
--- an offer of the queue of a uid
+-- an offer of the queue of a uid, with its attributes that are asked for, where it has one of them
 abbrev pub message_data : ℕ → ReceiveNames → List (List ℕ) → Offer → Data
 message_data uid names patterns o =
-    if asks_attributes names
-    then object (member (codes "Attributes") (object (attribute_members names o)) (message_members uid patterns o))
-    else object (message_members uid patterns o)
+    if has_some o names.asked
+    then object (put_offer uid patterns o (put (codes "Attributes") (object (put_system_attributes o no_members names.asked)) no_members))
+    else object (put_offer uid patterns o no_members)
 
 abbrev pub message_items : ℕ → ReceiveNames → List (List ℕ) → List Offer → Items
 message_items uid names patterns [] = no_items
@@ -178,8 +167,8 @@ messages_data uid names patterns offers =
 
 -- what a client is told of an entry that was done: its id, and for a send what a send is told
 abbrev pub done_data : List ℕ → EntryReply → Data
-done_data id (entries.Sent content number) = object (member (codes "Id") (string id) (sent_members content number))
-done_data id entries.Done = object (member (codes "Id") (string id) no_members)
+done_data id (entries.Sent content number) = object (put_sent content number (put (codes "Id") (string id) no_members))
+done_data id entries.Done = object (put (codes "Id") (string id) no_members)
 
 -- what a client is told of an entry that was refused, and whether the fault is the client's
 abbrev pub failed_data : List ℕ → Fault → Data

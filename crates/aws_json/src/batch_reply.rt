@@ -6,8 +6,7 @@ ghost use Rattle.message.specs.Fault.{Meets};
 ghost use Rattle.message.specs.declared.fault.Fault.TheVariants.{OutOfMemory};
 ghost use Rattle.serde_json.specs.View.{view, items_view, members_view};
 ghost use Rattle.aws_json.specs.Steps.{result_map};
-ghost use Rattle.aws_json.specs.Put.{put_sent};
-ghost use Rattle.aws_json.specs.Reply.{sent_data, done_data, failed_data, done_items, failed_items, batch_data};
+ghost use Rattle.aws_json.specs.Reply.{put_sent, sent_data, done_data, failed_data, done_items, failed_items, batch_data};
 
 use crate::batch::{BatchAnswer, EntryReply};
 use crate::put::{put_given, put_text};

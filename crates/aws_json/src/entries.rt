@@ -5,12 +5,12 @@ ghost use Rattle.std.specs.Prelude.{◌≡◌, nat_lt, Ok, Some, option_map, sum
 ghost use Rattle.message.specs.Fault.{Meets};
 ghost use Rattle.serde_json.specs.View.{view, items_view, members_view};
 ghost use Rattle.aws_json.specs.Attributes.{text_or_empty, bytes_of_base64, attribute_given, attributes_given};
-ghost use Rattle.aws_json.specs.Entries.{given_body, given_attributes, message_given, given_handle, required_within, entry_columns, entry_command, entry_id, entry_of, entries_of, has_id, have_equal_ids, entry_size, checked_entries, item_count, batch_of, are_entries, entries_have_kinds};
+ghost use Rattle.aws_json.specs.Entries.{message_columns, given_body, given_attributes, message_given, given_handle, required_within, entry_columns, entry_command, entry_id, entry_of, entries_of, has_id, have_equal_ids, entry_size, checked_entries, item_count, batch_of, are_entries, entries_have_kinds};
 ghost use Rattle.aws_json.specs.Members.{within, have_kinds};
 ghost use Rattle.aws_json.specs.Steps.{result_map};
 
 use crate::batch::{BatchEntry, Entries, EntryKind, GivenMessage};
-use crate::members::{Kind, has_kind, members_in, number_in, text_in, within};
+use crate::members::{Kind, have_kinds, members_in, number_in, text_in, within};
 use base64::DecodeAllocError;
 use base64::engine::general_purpose::STANDARD;
 use message::{Attribute, AttributeValue, Content, Fault, QueueName, body_fault, is_binary_type};
@@ -24,6 +24,15 @@ const MOST_ENTRIES: usize = 10;
 
 /// How many bytes a batch sends at most (Amazon SQS API Reference, `SendMessageBatch`).
 const LONGEST_BATCH: u64 = 262_144;
+
+/// The name of an entry in its batch.
+const ID: (&str, Kind) = ("Id", Kind::Text);
+
+/// The handle of a receive.
+pub(crate) const HANDLE: (&str, Kind) = ("ReceiptHandle", Kind::Text);
+
+/// How long a message stays in flight, in seconds.
+pub(crate) const TIMEOUT: (&str, Kind) = ("VisibilityTimeout", Kind::Number);
 
 /// A member's text; one that is missing counts as empty.
 fn text_or_empty<'v>(name: &str, body: &'v Value) -> &'v str
@@ -152,25 +161,28 @@ pub(crate) fn message_given(alloc: Global, body: &Value) -> Result<GivenMessage,
     Ok(GivenMessage { content, delay })
 }
 
+/// Whether the members that tell of a message to be sent have their kinds.
+pub(crate) fn has_message_kinds(body: &Value) -> bool
+    ensures { result ≡ have_kinds message_columns (view body.now) }
+{
+    have_kinds(
+        body,
+        &[
+            ("MessageBody", Kind::Text),
+            ("DelaySeconds", Kind::Number),
+            ("MessageAttributes", Kind::MessageAttributes),
+        ],
+    )
+}
+
 /// Whether the members that an entry knows have their kinds.
 fn has_entry_kinds(kind: EntryKind, entry: &Value) -> bool
     ensures { result ≡ have_kinds (entry_columns kind) (view entry.now) }
 {
     match kind {
-        EntryKind::Send => {
-            has_kind(entry, "Id", Kind::Text)
-                && has_kind(entry, "MessageBody", Kind::Text)
-                && has_kind(entry, "DelaySeconds", Kind::Number)
-                && has_kind(entry, "MessageAttributes", Kind::MessageAttributes)
-        }
-        EntryKind::Delete => {
-            has_kind(entry, "Id", Kind::Text) && has_kind(entry, "ReceiptHandle", Kind::Text)
-        }
-        EntryKind::Change => {
-            has_kind(entry, "Id", Kind::Text)
-                && has_kind(entry, "ReceiptHandle", Kind::Text)
-                && has_kind(entry, "VisibilityTimeout", Kind::Number)
-        }
+        EntryKind::Send => have_kinds(entry, &[ID]) && has_message_kinds(entry),
+        EntryKind::Delete => have_kinds(entry, &[ID, HANDLE]),
+        EntryKind::Change => have_kinds(entry, &[ID, HANDLE, TIMEOUT]),
     }
 }
 
@@ -253,10 +265,10 @@ fn entry_of(alloc: Global, kind: EntryKind, item: &Value) -> Result<BatchEntry, 
 fn entries_of(alloc: Global, kind: EntryKind, items: &[Value]) -> Result<Entries, Fault>
     ensures { Meets result (entries_of kind (items_view items.now)) }
 {
-    let mut entries = Entries::new(alloc);
+    let mut entries = Entries::empty(alloc);
     for item in items {
         let entry = entry_of(alloc, kind, item)?;
-        entries.push(entry)?;
+        entries.push(alloc, entry)?;
     }
     Ok(entries)
 }

@@ -6,41 +6,43 @@
 //!   one after another. A batch is a list of [`Entries`], each a queue's command or its own fault.
 //! - [`reply_text`]: the JSON text of a reply. Of a batch it is the [`BatchAnswers`].
 //! - [`fault_text`] and [`status`]: the JSON text and the status of a refusal.
-//! - [`Patterns`]: which message attributes a receive asks for. [`Prefix`] and [`QueueNames`]: which
-//!   queues a client lists, and which there are.
+//! - [`QueueAttribute`] and [`SystemAttribute`]: the attributes that a client asks for by their names.
+//!   [`Patterns`]: which message attributes a receive asks for.
+//! - [`Prefix`] and [`QueueNames`]: which queues a client lists, and which there are.
+//! - [`Listed`]: a list, which contracts see as such.
 //! - [`read_object`]: the JSON object that a body is.
 //!
 //! Each contract is exact: it names the value, or the one refusal, that a definition in `specs/`
 //! computes from the bytes. Want of memory is the one thing that may come in its place.
 #![tactic(auto)]
 
+mod actions;
+mod attribute_names;
 mod batch;
 mod batch_reply;
 mod entries;
+mod listed;
 mod members;
 mod message_reply;
-mod prefix;
+mod named_queue;
 mod put;
-mod queue_names;
 mod queue_reply;
 mod refusal;
 mod reply;
 mod request;
+mod requested;
 mod selection;
 #[cfg(test)]
 mod tests;
-#[cfg(test)]
-mod tests_of_attributes;
-#[cfg(test)]
-mod tests_of_replies;
-#[cfg(test)]
-mod tests_of_requests;
+mod text;
 
+pub use actions::parse;
+pub use attribute_names::{QueueAttribute, SystemAttribute};
 pub use batch::{BatchAnswer, BatchAnswers, BatchEntry, Entries, EntryReply};
+pub use listed::Listed;
 pub use members::read_object;
-pub use prefix::Prefix;
-pub use queue_names::QueueNames;
 pub use refusal::{fault_text, status};
-pub use reply::{ReplyShape, reply_text};
-pub use request::{AttributeNames, ReceiveNames, Request, parse};
+pub use reply::{QueueNames, ReplyShape, reply_text};
+pub use request::{AttributeNames, ReceiveNames, Request};
 pub use selection::Patterns;
+pub use text::{Prefix, Text};

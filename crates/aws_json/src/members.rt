@@ -2,12 +2,12 @@
 //! and a member of another kind than asked is a `SerializationException` (this project's own
 //! choice).
 
-ghost use Rattle.std.specs.Prelude.{◌≡◌, ◌≤◌, option_map, IfOk};
+ghost use Rattle.std.specs.Prelude.{◌≡◌, ◌≤◌, option_map, map, IfOk};
 ghost use Rattle.std.specs.Option.{ForSome};
 ghost use Rattle.message.specs.Fault.{Meets};
 ghost use Rattle.serde_json.specs.View.{view, items_view, members_view};
 ghost use Rattle.aws_json.specs.Steps.{result_map};
-ghost use Rattle.aws_json.specs.Members.{object_of, text_in, items_in, members_in, number_in, as_whole, within, may_be_text, are_texts, have_texts, is_attribute, have_attributes, is_of_kind, has_kind};
+ghost use Rattle.aws_json.specs.Members.{column, have_kinds, object_of, text_in, items_in, members_in, number_in, as_whole, within, may_be_text, are_texts, have_texts, is_attribute, have_attributes, is_of_kind, has_kind};
 
 use message::Fault;
 use serde_json::{Category, Map, Value};
@@ -25,6 +25,18 @@ pub(crate) enum Kind {
     NamedTexts,
     /// An object of message attributes.
     MessageAttributes,
+}
+
+/// Whether each of these members has its kind, as far as it is there.
+pub(crate) fn have_kinds(body: &Value, columns: &[(&str, Kind)]) -> bool
+    ensures { result ≡ have_kinds (map (λ c. column c.0.now c.1) columns.now) (view body.now) }
+{
+    for (name, kind) in columns {
+        if !has_kind(body, name, *kind) {
+            return false;
+        }
+    }
+    true
 }
 
 /// The JSON object that a body is. Anything else, and bytes that are no UTF-8, is a
@@ -187,7 +199,7 @@ fn is_of_kind(kind: Kind, value: &Value) -> bool
 }
 
 /// Whether a member is of a kind, where it is there.
-pub(crate) fn has_kind(body: &Value, name: &str, kind: Kind) -> bool
+fn has_kind(body: &Value, name: &str, kind: Kind) -> bool
     ensures { result ≡ has_kind name.now kind (view body.now) }
 {
     match body.get(name) {

@@ -1,6 +1,6 @@
 //! The messages that a receive offers, as JSON (Amazon SQS API Reference, `ReceiveMessage`).
 
-ghost use Rattle.std.specs.Prelude.{◌≡◌, Ok, OnOk, IfErr, codes};
+ghost use Rattle.std.specs.Prelude.{◌≡◌, Ok, OnOk, IfErr, codes, is_some, option_map, string_bytes};
 ghost use Rattle.base64.specs.Engines.{standard};
 ghost use Rattle.base64.specs.GeneralPurpose.{encode_of};
 ghost use Rattle.message.specs.Fault.{Meets};
@@ -9,10 +9,11 @@ ghost use Rattle.serde_json.specs.Data.{string, object, no_members, member};
 ghost use Rattle.serde_json.specs.View.{view, items_view, members_view};
 ghost use Rattle.aws_json.specs.Attributes.{asked_attributes};
 ghost use Rattle.aws_json.specs.Steps.{result_map};
-ghost use Rattle.aws_json.specs.Put.{put_attributes_given, put_offer};
-ghost use Rattle.aws_json.specs.Reply.{attribute_members, attribute_data, put_attributes, asks_attributes, handle_of_offer, message_data, message_items, messages_data};
+ghost use Rattle.aws_json.specs.Reply.{put_attributes_given, put_offer, system_attribute_text, put_system_attributes, has_some, attribute_data, put_attributes, handle_of_offer, message_data, message_items, messages_data};
 
-use crate::put::{put_count, put_given, put_text, put_text_if, put_value};
+use crate::attribute_names::SystemAttribute;
+use crate::put::{put_given, put_text, put_value};
+use crate::queue_reply::decimal;
 use crate::request::ReceiveNames;
 use crate::selection::Patterns;
 use attribute_md5::{body_md5, list_md5};
@@ -23,40 +24,40 @@ use receipt_handle::Handle;
 use serde_json::{Map, Value, json};
 use std::alloc::Global;
 
-/// The attributes that a queue gives a message, as far as they are asked for.
-fn attributes_value(alloc: Global, names: ReceiveNames, offer: &Offer) -> Result<Value, Fault>
-    ensures { Meets (result_map view result) (Ok (object (attribute_members names offer.now))) }
+/// An attribute that a queue gives a message, where the offer has it.
+fn system_attribute_text(
+    alloc: Global,
+    offer: &Offer,
+    attribute: SystemAttribute,
+) -> Result<Option<String>, Fault>
+    ensures { Meets (result_map (λ text. option_map (λ s. string_bytes s) text) result)
+        (Ok (system_attribute_text offer.now attribute)) }
 {
-    let mut attributes = Map::new(alloc);
-    put_count(
-        alloc,
-        &mut attributes,
-        names.first,
-        "ApproximateFirstReceiveTimestamp",
-        offer.first_receive.milliseconds(),
-    )?;
-    put_count(
-        alloc,
-        &mut attributes,
-        names.count,
-        "ApproximateReceiveCount",
-        offer.receipt,
-    )?;
-    put_text_if(
-        alloc,
-        &mut attributes,
-        names.sender,
-        "SenderId",
-        "000000000000",
-    )?;
-    put_count(
-        alloc,
-        &mut attributes,
-        names.sent,
-        "SentTimestamp",
-        offer.sent.milliseconds(),
-    )?;
-    Ok(Value::Object(attributes))
+    let text = match attribute {
+        SystemAttribute::FirstReceive => decimal(alloc, offer.first_receive.milliseconds())?,
+        SystemAttribute::ReceiveCount => decimal(alloc, offer.receipt)?,
+        SystemAttribute::Source => return Ok(None),
+        SystemAttribute::Sender => String::from_str(alloc, "000000000000")?,
+        SystemAttribute::Sent => decimal(alloc, offer.sent.milliseconds())?,
+    };
+    Ok(Some(text))
+}
+
+/// An object of these attributes of an offer, as far as it has them, each under its name.
+fn system_attributes(
+    alloc: Global,
+    offer: &Offer,
+    attributes: &[SystemAttribute],
+) -> Result<Value, Fault>
+    ensures { Meets (result_map view result)
+        (Ok (object (put_system_attributes offer.now no_members attributes.now))) }
+{
+    let mut members = Map::new(alloc);
+    for attribute in attributes {
+        let text = system_attribute_text(alloc, offer, *attribute)?;
+        put_given(alloc, &mut members, attribute.name(), text.as_deref())?;
+    }
+    Ok(Value::Object(members))
 }
 
 /// The attributes that are asked for, once more.
@@ -183,26 +184,39 @@ fn put_offer(
     Ok(())
 }
 
-/// Whether an attribute is asked for that a queue gives its messages.
-fn asks_attributes(names: ReceiveNames) -> bool
-    ensures { result ≡ asks_attributes names }
+/// Whether an attribute is one that the offer has.
+fn is_had(_offer: &Offer, attribute: SystemAttribute) -> bool
+    ensures { result ≡ is_some (system_attribute_text _offer.now attribute) }
 {
-    names.first || names.count || names.sender || names.sent
+    !matches!(attribute, SystemAttribute::Source)
+}
+
+/// Whether an offer has one of these attributes.
+fn has_some(offer: &Offer, attributes: &[SystemAttribute]) -> bool
+    ensures { result ≡ has_some offer.now attributes.now }
+{
+    for attribute in attributes {
+        if is_had(offer, *attribute) {
+            return true;
+        }
+    }
+    false
 }
 
 /// An offer of the queue of a uid.
 fn message_value(
     alloc: Global,
     uid: u64,
-    names: ReceiveNames,
+    names: &ReceiveNames,
     patterns: &Patterns,
     offer: &Offer,
 ) -> Result<Value, Fault>
-    ensures { Meets (result_map view result) (Ok (message_data uid names patterns.now offer.now)) }
+    ensures { Meets (result_map view result) (Ok (message_data uid names.now patterns.now offer.now)) }
 {
     let mut members = Map::new(alloc);
-    if asks_attributes(names) {
-        let attributes = attributes_value(alloc, names, offer)?;
+    let asked = names.asked.as_slice();
+    if has_some(offer, asked) {
+        let attributes = system_attributes(alloc, offer, asked)?;
         put_value(alloc, &mut members, "Attributes", attributes)?;
         put_offer(alloc, &mut members, uid, patterns, offer)?;
         return Ok(Value::Object(members));
@@ -215,12 +229,12 @@ fn message_value(
 fn message_values(
     alloc: Global,
     uid: u64,
-    names: ReceiveNames,
+    names: &ReceiveNames,
     patterns: &Patterns,
     offers: &[Offer],
 ) -> Result<Vec<Value>, Fault>
     ensures { Meets (result_map (λ values. items_view values.items) result)
-        (Ok (message_items uid names patterns.now offers.now)) }
+        (Ok (message_items uid names.now patterns.now offers.now)) }
 {
     let mut values = Vec::new(alloc);
     for offer in offers {
@@ -234,12 +248,12 @@ fn message_values(
 pub(crate) fn messages_reply(
     alloc: Global,
     uid: u64,
-    names: ReceiveNames,
+    names: &ReceiveNames,
     patterns: &Patterns,
     offers: &[Offer],
 ) -> Result<Value, Fault>
     ensures { Meets (result_map view result)
-        (Ok (messages_data uid names patterns.now offers.now)) }
+        (Ok (messages_data uid names.now patterns.now offers.now)) }
 {
     if offers.is_empty() {
         return Ok(json!(in alloc; {})?);

@@ -4,8 +4,7 @@ ghost use Rattle.std.specs.Prelude.{◌≡◌, OnOk, IfErr, Option, option_map};
 ghost use Rattle.message.specs.declared.fault.Fault.TheVariants.{OutOfMemory};
 ghost use Rattle.serde_json.specs.Data.{string, put};
 ghost use Rattle.serde_json.specs.View.{view, members_view};
-ghost use Rattle.aws_json.specs.Reply.{put_if, put_count};
-ghost use Rattle.aws_json.specs.Put.{put_given};
+ghost use Rattle.aws_json.specs.Reply.{put_given};
 
 use message::Fault;
 use serde_json::{Map, Value};
@@ -40,40 +39,6 @@ pub(crate) fn put_text(
 {
     let text = String::from_str(alloc, text)?;
     put_value(alloc, members, name, Value::from(text))
-}
-
-/// Puts a text among the members, where it is asked for.
-pub(crate) fn put_text_if(
-    alloc: Global,
-    members: &mut Map<String, Value>,
-    asked: bool,
-    name: &str,
-    text: &str,
-) -> Result<(), Fault>
-    ensures ok { OnOk result (members_view members.new.entries
-        ≡ put_if asked name.now (string text.now) (members_view members.old.entries)) }
-    ensures refusal { IfErr result (λ fault. fault ≡ OutOfMemory) }
-{
-    if asked {
-        put_text(alloc, members, name, text)?;
-    }
-    Ok(())
-}
-
-/// Puts a count among the members, where it is asked for.
-pub(crate) fn put_count(
-    alloc: Global,
-    members: &mut Map<String, Value>,
-    asked: bool,
-    name: &str,
-    count: u64,
-) -> Result<(), Fault>
-    ensures ok { OnOk result (members_view members.new.entries
-        ≡ put_count asked name.now count (members_view members.old.entries)) }
-    ensures refusal { IfErr result (λ fault. fault ≡ OutOfMemory) }
-{
-    let text = count.to_string(alloc)?;
-    put_text_if(alloc, members, asked, name, text.as_str())
 }
 
 /// Puts a text among the members, where there is one.

@@ -1,5 +1,5 @@
-//! What a client reads of a refusal (AWS JSON 1.0 for the form). The texts and statuses are this
-//! project's own choice.
+//! What a client reads of a refusal (AWS JSON 1.0 for the form). Its status, name and text are those
+//! of the table of refusals in the crate `message`.
 
 ghost use Rattle.std.specs.Prelude.{◌≡◌};
 ghost use Rattle.serde_json.specs.Written.{compact_text};
@@ -11,7 +11,7 @@ use message::Fault;
 pub fn status(fault: Fault) -> u16
     ensures { result ≡ fault_status fault }
 {
-    if fault.code() <= 16 { 400 } else { 500 }
+    fault.status()
 }
 
 /// The JSON text of a refusal.
@@ -86,54 +86,12 @@ pub fn fault_text(fault: Fault) -> &'static str
 pub(crate) fn fault_name(fault: Fault) -> &'static str
     ensures { result.now ≡ fault_name fault }
 {
-    match fault {
-        Fault::QueueDoesNotExist => "QueueDoesNotExist",
-        Fault::QueueNameExists => "QueueNameExists",
-        Fault::InvalidAttributeName => "InvalidAttributeName",
-        Fault::InvalidAttributeValue => "InvalidAttributeValue",
-        Fault::InvalidParameterValue => "InvalidParameterValue",
-        Fault::InvalidMessageContents => "InvalidMessageContents",
-        Fault::ReceiptHandleIsInvalid => "ReceiptHandleIsInvalid",
-        Fault::MessageNotInflight => "MessageNotInflight",
-        Fault::OverLimit => "OverLimit",
-        Fault::EmptyBatchRequest => "EmptyBatchRequest",
-        Fault::TooManyEntriesInBatchRequest => "TooManyEntriesInBatchRequest",
-        Fault::BatchEntryIdsNotDistinct => "BatchEntryIdsNotDistinct",
-        Fault::InvalidBatchEntryId => "InvalidBatchEntryId",
-        Fault::BatchRequestTooLong => "BatchRequestTooLong",
-        Fault::UnsupportedOperation => "UnsupportedOperation",
-        Fault::SerializationException => "SerializationException",
-        Fault::JournalFull => "JournalFull",
-        Fault::OutOfMemory => "OutOfMemory",
-        Fault::Spent => "Spent",
-        Fault::ActorGone => "ActorGone",
-    }
+    fault.name()
 }
 
 /// What a refusal says in words.
 pub(crate) fn fault_message(fault: Fault) -> &'static str
     ensures { result.now ≡ fault_message fault }
 {
-    match fault {
-        Fault::QueueDoesNotExist => "The specified queue does not exist.",
-        Fault::QueueNameExists => "A queue of this name exists with other attributes.",
-        Fault::InvalidAttributeName => "Unknown attribute name.",
-        Fault::InvalidAttributeValue => "Attribute value not allowed.",
-        Fault::InvalidParameterValue => "Parameter value not allowed.",
-        Fault::InvalidMessageContents => "Characters not allowed in the message.",
-        Fault::ReceiptHandleIsInvalid => "The receipt handle is not valid.",
-        Fault::MessageNotInflight => "The message is not in flight.",
-        Fault::OverLimit => "A limit is reached.",
-        Fault::EmptyBatchRequest => "The batch has no entries.",
-        Fault::TooManyEntriesInBatchRequest => "The batch has more than 10 entries.",
-        Fault::BatchEntryIdsNotDistinct => "Two entries have the same id.",
-        Fault::InvalidBatchEntryId => "An entry id is not allowed.",
-        Fault::BatchRequestTooLong => "The batch is too long.",
-        Fault::UnsupportedOperation => "The action is not supported.",
-        Fault::SerializationException => "The request cannot be read.",
-        Fault::JournalFull => "The journal of the queue is full.",
-        Fault::OutOfMemory => "Out of memory.",
-        Fault::Spent => "The desk is spent.",
-        Fault::ActorGone => "The queue has stopped.",
-    }
+    fault.text()
 }

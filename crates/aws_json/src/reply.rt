@@ -10,8 +10,8 @@ ghost use Rattle.aws_json.specs.Reply.{queue_url, url_data, url_items, urls_data
 
 use crate::batch::BatchAnswers;
 use crate::batch_reply::{batch_reply, sent_reply};
+use crate::listed::Listed;
 use crate::message_reply::messages_reply;
-use crate::queue_names::QueueNames;
 use crate::queue_reply::attributes_reply;
 use crate::request::{AttributeNames, ReceiveNames};
 use crate::selection::Patterns;
@@ -19,6 +19,18 @@ use message::{Content, Fault, MessageId, QueueName};
 use queue_core::{Look, Offers};
 use serde_json::{Value, json};
 use std::alloc::Global;
+
+/// Names of queues in an order. Contracts see the list of names.
+pub type QueueNames = Listed<QueueName>;
+
+impl Listed<QueueName> {
+    /// These names.
+    pub fn new(names: Vec<QueueName>) -> QueueNames
+        ensures { result ≡ names.items }
+    {
+        Listed::of(names)
+    }
+}
 
 /// What a client is answered.
 #[derive(Debug, Drop)]
@@ -40,8 +52,8 @@ pub enum ReplyShape {
         look: Look,
     },
     /// What a receive offers of the queue of a uid, with the attributes that were asked for, of the
-    /// queue's (no message comes from another queue, so none has a source) and of the sender's; an empty object where it offers
-    /// nothing.
+    /// queue's (no message comes from another queue, so none has a source) and of the sender's; an
+    /// empty object where it offers nothing.
     Messages {
         uid: u64,
         names: ReceiveNames,
@@ -100,14 +112,14 @@ fn reply_value(alloc: Global, shape: &ReplyShape) -> Result<Value, Fault>
         ReplyShape::Sent { content, id } => sent_reply(alloc, content, *id),
         ReplyShape::QueueUrls(names) => urls_reply(alloc, names.as_slice()),
         ReplyShape::Attributes { names, queue, look } => {
-            attributes_reply(alloc, *names, queue, look)
+            attributes_reply(alloc, names, queue, look)
         }
         ReplyShape::Messages {
             uid,
             names,
             attributes,
             offers,
-        } => messages_reply(alloc, *uid, *names, attributes, offers.as_slice()),
+        } => messages_reply(alloc, *uid, names, attributes, offers.as_slice()),
         ReplyShape::Batch(answers) => batch_reply(alloc, answers.as_slice()),
         ReplyShape::Nothing => Ok(json!(in alloc; {})?),
     }

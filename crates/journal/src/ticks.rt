@@ -4,11 +4,11 @@ ghost use Rattle.std.specs.Prelude.{◌≡◌};
 ghost use Rattle.journal.specs.Ticks.{after_ticks};
 
 use std::marker::Model;
-use std::rt::Clock;
 
 /// Counts operations: each call of [`Journal::line`](crate::Journal::line) is one. The count stops
-/// at 2^64 - 1. Only [`Ticks::new`] makes a counter, and it takes a clock, which a program has of its
-/// runtime, so that code that is handed a counter and no clock counts on that one.
+/// at 2^64 - 1. Only [`Ticks::new`] makes a counter, and it takes the program's runtime, which `main`
+/// and each test are handed and nothing makes: code that is handed a counter and no runtime can count
+/// on that counter alone.
 #[derive(Debug, Drop)]
 pub struct Ticks {
     count: u64,
@@ -24,7 +24,7 @@ impl Model for Ticks {
 
 impl Ticks {
     /// A counter that stands at 0.
-    pub fn new(_rt: &impl Clock) -> Ticks
+    pub fn new(_rt: &HostRuntime) -> Ticks
         ensures { result ≡ 0 }
     {
         Ticks { count: 0 }

@@ -1,54 +1,59 @@
--- The refusals' numbers, and what a call answers where memory may run out.
-use Rattle.std.specs.Prelude.{◌≡◌, ℕ, ⊤, Bool, true, false, Result, Ok, Err, MatchBool}
+-- The table of refusals, and what a call answers where memory may run out.
+use Rattle.std.specs.Prelude.{◌≡◌, ℕ, ⊤, Bool, true, false, List, codes, Result, Err, MatchBool}
 use Rattle.message.specs.declared.fault.Fault.{Fault}
 use Rattle.message.specs.declared.fault.Fault.TheVariants.{QueueDoesNotExist, QueueNameExists, InvalidAttributeName, InvalidAttributeValue, InvalidParameterValue, InvalidMessageContents, ReceiptHandleIsInvalid, MessageNotInflight, OverLimit, EmptyBatchRequest, TooManyEntriesInBatchRequest, BatchEntryIdsNotDistinct, InvalidBatchEntryId, BatchRequestTooLong, UnsupportedOperation, SerializationException, JournalFull, OutOfMemory, Spent, ActorGone}
 
--- a refusal's number: this project's own choice
+-- a refusal's number, its status, its name as a client reads it and what it says in words
+pub record FaultRow : Type 0 where
+  pub code : ℕ
+  pub status : ℕ
+  pub name : List ℕ
+  pub text : List ℕ
+
+-- a row of the table, in this order
+abbrev pub fault_row : ℕ → ℕ → List ℕ → List ℕ → FaultRow
+fault_row code status name text = record { code = code; status = status; name = name; text = text }
+
+-- The refusals: 400 is a fault of the client's, 500 one of the server's. The names are those of the Amazon SQS API Reference where it has one;
+-- which refusals there are, their numbers, texts and statuses are this project's own choice.
+abbrev pub row_of : Fault → FaultRow
+row_of QueueDoesNotExist = fault_row 1 400 (codes "QueueDoesNotExist") (codes "The specified queue does not exist.")
+row_of QueueNameExists = fault_row 2 400 (codes "QueueNameExists") (codes "A queue of this name exists with other attributes.")
+row_of InvalidAttributeName = fault_row 3 400 (codes "InvalidAttributeName") (codes "Unknown attribute name.")
+row_of InvalidAttributeValue = fault_row 4 400 (codes "InvalidAttributeValue") (codes "Attribute value not allowed.")
+row_of InvalidParameterValue = fault_row 5 400 (codes "InvalidParameterValue") (codes "Parameter value not allowed.")
+row_of InvalidMessageContents = fault_row 6 400 (codes "InvalidMessageContents") (codes "Characters not allowed in the message.")
+row_of ReceiptHandleIsInvalid = fault_row 7 400 (codes "ReceiptHandleIsInvalid") (codes "The receipt handle is not valid.")
+row_of MessageNotInflight = fault_row 8 400 (codes "MessageNotInflight") (codes "The message is not in flight.")
+row_of OverLimit = fault_row 9 400 (codes "OverLimit") (codes "A limit is reached.")
+row_of EmptyBatchRequest = fault_row 10 400 (codes "EmptyBatchRequest") (codes "The batch has no entries.")
+row_of TooManyEntriesInBatchRequest = fault_row 11 400 (codes "TooManyEntriesInBatchRequest") (codes "The batch has more than 10 entries.")
+row_of BatchEntryIdsNotDistinct = fault_row 12 400 (codes "BatchEntryIdsNotDistinct") (codes "Two entries have the same id.")
+row_of InvalidBatchEntryId = fault_row 13 400 (codes "InvalidBatchEntryId") (codes "An entry id is not allowed.")
+row_of BatchRequestTooLong = fault_row 14 400 (codes "BatchRequestTooLong") (codes "The batch is too long.")
+row_of UnsupportedOperation = fault_row 15 400 (codes "UnsupportedOperation") (codes "The action is not supported.")
+row_of SerializationException = fault_row 16 400 (codes "SerializationException") (codes "The request cannot be read.")
+row_of JournalFull = fault_row 17 500 (codes "JournalFull") (codes "The journal of the queue is full.")
+row_of OutOfMemory = fault_row 18 500 (codes "OutOfMemory") (codes "Out of memory.")
+row_of Spent = fault_row 19 500 (codes "Spent") (codes "The desk is spent.")
+row_of ActorGone = fault_row 20 500 (codes "ActorGone") (codes "The queue has stopped.")
+
 abbrev pub fault_code : Fault → ℕ
-fault_code QueueDoesNotExist = 1
-fault_code QueueNameExists = 2
-fault_code InvalidAttributeName = 3
-fault_code InvalidAttributeValue = 4
-fault_code InvalidParameterValue = 5
-fault_code InvalidMessageContents = 6
-fault_code ReceiptHandleIsInvalid = 7
-fault_code MessageNotInflight = 8
-fault_code OverLimit = 9
-fault_code EmptyBatchRequest = 10
-fault_code TooManyEntriesInBatchRequest = 11
-fault_code BatchEntryIdsNotDistinct = 12
-fault_code InvalidBatchEntryId = 13
-fault_code BatchRequestTooLong = 14
-fault_code UnsupportedOperation = 15
-fault_code SerializationException = 16
-fault_code JournalFull = 17
-fault_code OutOfMemory = 18
-fault_code Spent = 19
-fault_code ActorGone = 20
+fault_code fault = (row_of fault).code
+
+abbrev pub fault_status : Fault → ℕ
+fault_status fault = (row_of fault).status
+
+abbrev pub fault_name : Fault → List ℕ
+fault_name fault = (row_of fault).name
+
+abbrev pub fault_message : Fault → List ℕ
+fault_message fault = (row_of fault).text
 
 -- whether an answer says that memory ran out
 abbrev pub is_out_of_memory : {T : Type 0} → Result T Fault → Bool
-is_out_of_memory (Ok x) = false
-is_out_of_memory (Err QueueDoesNotExist) = false
-is_out_of_memory (Err QueueNameExists) = false
-is_out_of_memory (Err InvalidAttributeName) = false
-is_out_of_memory (Err InvalidAttributeValue) = false
-is_out_of_memory (Err InvalidParameterValue) = false
-is_out_of_memory (Err InvalidMessageContents) = false
-is_out_of_memory (Err ReceiptHandleIsInvalid) = false
-is_out_of_memory (Err MessageNotInflight) = false
-is_out_of_memory (Err OverLimit) = false
-is_out_of_memory (Err EmptyBatchRequest) = false
-is_out_of_memory (Err TooManyEntriesInBatchRequest) = false
-is_out_of_memory (Err BatchEntryIdsNotDistinct) = false
-is_out_of_memory (Err InvalidBatchEntryId) = false
-is_out_of_memory (Err BatchRequestTooLong) = false
-is_out_of_memory (Err UnsupportedOperation) = false
-is_out_of_memory (Err SerializationException) = false
-is_out_of_memory (Err JournalFull) = false
 is_out_of_memory (Err OutOfMemory) = true
-is_out_of_memory (Err Spent) = false
-is_out_of_memory (Err ActorGone) = false
+is_out_of_memory _ = false
 
 -- the answer is the wanted one, unless memory ran out
 abbrev pub Meets : {T : Type 0} → Result T Fault → Result T Fault → Type 0

@@ -8,6 +8,7 @@ ghost use Rattle.message.specs.Attribute.{attribute_fault, attribute_size, begin
 
 use crate::characters::is_message_text;
 use crate::fault::Fault;
+use crate::name::is_name_byte;
 use std::alloc::Global;
 use std::marker::Model;
 
@@ -98,7 +99,7 @@ impl Attribute {
 fn is_attribute_name_byte(byte: u8) -> bool
     ensures { result ≡ is_attribute_name_character byte }
 {
-    byte.is_ascii_alphanumeric() || byte == b'-' || byte == b'_' || byte == b'.'
+    is_name_byte(byte) || byte == b'.'
 }
 
 /// Whether every byte may stand in a name.

@@ -1,6 +1,6 @@
 //! What a message holds.
 
-ghost use Rattle.std.specs.Prelude.{◌≡◌, ◌+◌, IsTrue, Ok, Err, IfOk, IfErr, IfSome, length, string_bytes, sum_by};
+ghost use Rattle.std.specs.Prelude.{◌≡◌, ◌+◌, IsTrue, Ok, Err, IfOk, IfErr, length, string_bytes, sum_by};
 ghost use Rattle.message.specs.declared.fault.Fault.TheVariants.{OutOfMemory};
 ghost use Rattle.message.specs.Fault.{Meets};
 ghost use Rattle.message.specs.Attribute.{attribute_size};
@@ -78,15 +78,15 @@ impl Content {
     /// of one name, are `InvalidParameterValue`. Then the attributes are judged in byte order of
     /// their names, each its name, its type and its value: a value with a character that messages
     /// may not have is `InvalidMessageContents`, every other fault `InvalidParameterValue`.
-    /// `OutOfMemory` may come in the place of any answer but a fault of the body.
+    /// `OutOfMemory` may come in the place of a content, and of no fault.
     pub fn new(alloc: Global, body: String, attributes: Vec<Attribute>) -> Result<Content, Fault>
         ensures content { Meets result (content_of (string_bytes body) attributes.items) }
-        ensures faulty_body { IfSome (body_fault (string_bytes body)) (λ fault. result ≡ Err fault) }
+        ensures refused { IfErr (content_of (string_bytes body) attributes.items) (λ fault. result ≡ Err fault) }
     {
         if let Some(fault) = body_fault(body.as_str()) {
             return Err(fault);
         }
-        let attributes = attributes::judged(alloc, attributes)?;
+        let attributes = attributes::judged(attributes)?;
         let parts = Parts::of(body, attributes)?;
         let parts = Arc::new(alloc, parts)?;
         Ok(Content { parts })

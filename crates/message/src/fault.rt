@@ -1,109 +1,139 @@
 //! Why a request is refused.
 
-ghost use Rattle.std.specs.Prelude.{◌≡◌};
-ghost use Rattle.message.specs.Fault.{fault_code};
+ghost use Rattle.std.specs.Prelude.{◌≡◌, Some};
+ghost use Rattle.message.specs.Fault.{fault_code, fault_message, fault_name, fault_status};
 ghost use Rattle.message.specs.declared.fault.Fault.TheVariants.{OutOfMemory};
 
 use std::alloc::{AllocError, AllocFailed};
+use std::fmt;
 use thiserror::Error;
 
-/// A refusal. The variants stand in the order of their numbers. What `Display` writes of them is shown
-/// by tests, and by no contract.
+/// A refusal, and its number. `Display` writes its [`text`](Fault::text).
 ///
 /// The names are those of the Amazon SQS API Reference where it has one. Which refusal has which
 /// number, status and text is this project's own choice.
 #[derive(Clone, Copy, Debug, PartialEq, Eq, Error)]
 pub enum Fault {
     /// No queue has the name, or the queue was deleted.
-    #[error("The specified queue does not exist.")]
-    QueueDoesNotExist,
+    QueueDoesNotExist = 1,
     /// A queue of the name exists, and a requested attribute differs from what it has.
-    #[error("A queue of this name exists with other attributes.")]
-    QueueNameExists,
+    QueueNameExists = 2,
     /// An attribute of queues or messages that this server does not know.
-    #[error("Unknown attribute name.")]
-    InvalidAttributeName,
+    InvalidAttributeName = 3,
     /// A queue attribute's value that is out of range or of another form.
-    #[error("Attribute value not allowed.")]
-    InvalidAttributeValue,
+    InvalidAttributeValue = 4,
     /// A parameter that is missing, out of range or of another form.
-    #[error("Parameter value not allowed.")]
-    InvalidParameterValue,
+    InvalidParameterValue = 5,
     /// A body, or the value of an attribute, with a character that messages may not have.
-    #[error("Characters not allowed in the message.")]
-    InvalidMessageContents,
+    InvalidMessageContents = 6,
     /// A text that is no receipt handle, or a handle that this queue never gave.
-    #[error("The receipt handle is not valid.")]
-    ReceiptHandleIsInvalid,
+    ReceiptHandleIsInvalid = 7,
     /// A change of visibility of a message that is not in flight under this handle.
-    #[error("The message is not in flight.")]
-    MessageNotInflight,
+    MessageNotInflight = 8,
     /// The limit on messages in flight, or on queues, is reached.
-    #[error("A limit is reached.")]
-    OverLimit,
+    OverLimit = 9,
     /// A batch without entries.
-    #[error("The batch has no entries.")]
-    EmptyBatchRequest,
+    EmptyBatchRequest = 10,
     /// A batch of more than ten entries.
-    #[error("The batch has more than 10 entries.")]
-    TooManyEntriesInBatchRequest,
+    TooManyEntriesInBatchRequest = 11,
     /// Two entries of a batch have one id.
-    #[error("Two entries have the same id.")]
-    BatchEntryIdsNotDistinct,
+    BatchEntryIdsNotDistinct = 12,
     /// An entry's id is missing or of another form.
-    #[error("An entry id is not allowed.")]
-    InvalidBatchEntryId,
+    InvalidBatchEntryId = 13,
     /// The sizes of a batch add up to more than a batch may have.
-    #[error("The batch is too long.")]
-    BatchRequestTooLong,
+    BatchRequestTooLong = 14,
     /// An action that this server does not serve.
-    #[error("The action is not supported.")]
-    UnsupportedOperation,
+    UnsupportedOperation = 15,
     /// A request that is no JSON object in UTF-8, or has a member of another kind, or an input line
     /// that cannot be read.
-    #[error("The request cannot be read.")]
-    SerializationException,
+    SerializationException = 16,
     /// The queue's journal has no room for another entry.
-    #[error("The journal of the queue is full.")]
-    JournalFull,
+    JournalFull = 17,
     /// An allocation was refused, or one more share of a content.
-    #[error("Out of memory.")]
-    OutOfMemory,
+    OutOfMemory = 18,
     /// The numbers that calls draw to take turns at a queue are used up.
-    #[error("The desk is spent.")]
-    Spent,
+    Spent = 19,
     /// The thread that serves the queue has ended.
-    #[error("The queue has stopped.")]
-    ActorGone,
+    ActorGone = 20,
 }
 
 impl Fault {
-    /// The refusal's number, 1 to 20, in the order of the variants.
+    /// The refusal's number, 1 to 20.
     pub fn code(self) -> u8
         ensures { result ≡ fault_code self }
     {
+        self as u8
+    }
+
+    /// The status that a client reads: 400 for a fault of the client's, 500 for one of the server's.
+    pub fn status(self) -> u16
+        ensures { result ≡ fault_status self }
+    {
+        if self.code() <= 16 { 400 } else { 500 }
+    }
+
+    /// The refusal's name, as a client reads it.
+    pub fn name(self) -> &'static str
+        ensures { result.now ≡ fault_name self }
+    {
         match self {
-            Fault::QueueDoesNotExist => 1,
-            Fault::QueueNameExists => 2,
-            Fault::InvalidAttributeName => 3,
-            Fault::InvalidAttributeValue => 4,
-            Fault::InvalidParameterValue => 5,
-            Fault::InvalidMessageContents => 6,
-            Fault::ReceiptHandleIsInvalid => 7,
-            Fault::MessageNotInflight => 8,
-            Fault::OverLimit => 9,
-            Fault::EmptyBatchRequest => 10,
-            Fault::TooManyEntriesInBatchRequest => 11,
-            Fault::BatchEntryIdsNotDistinct => 12,
-            Fault::InvalidBatchEntryId => 13,
-            Fault::BatchRequestTooLong => 14,
-            Fault::UnsupportedOperation => 15,
-            Fault::SerializationException => 16,
-            Fault::JournalFull => 17,
-            Fault::OutOfMemory => 18,
-            Fault::Spent => 19,
-            Fault::ActorGone => 20,
+            Fault::QueueDoesNotExist => "QueueDoesNotExist",
+            Fault::QueueNameExists => "QueueNameExists",
+            Fault::InvalidAttributeName => "InvalidAttributeName",
+            Fault::InvalidAttributeValue => "InvalidAttributeValue",
+            Fault::InvalidParameterValue => "InvalidParameterValue",
+            Fault::InvalidMessageContents => "InvalidMessageContents",
+            Fault::ReceiptHandleIsInvalid => "ReceiptHandleIsInvalid",
+            Fault::MessageNotInflight => "MessageNotInflight",
+            Fault::OverLimit => "OverLimit",
+            Fault::EmptyBatchRequest => "EmptyBatchRequest",
+            Fault::TooManyEntriesInBatchRequest => "TooManyEntriesInBatchRequest",
+            Fault::BatchEntryIdsNotDistinct => "BatchEntryIdsNotDistinct",
+            Fault::InvalidBatchEntryId => "InvalidBatchEntryId",
+            Fault::BatchRequestTooLong => "BatchRequestTooLong",
+            Fault::UnsupportedOperation => "UnsupportedOperation",
+            Fault::SerializationException => "SerializationException",
+            Fault::JournalFull => "JournalFull",
+            Fault::OutOfMemory => "OutOfMemory",
+            Fault::Spent => "Spent",
+            Fault::ActorGone => "ActorGone",
         }
+    }
+
+    /// What the refusal says in words.
+    pub fn text(self) -> &'static str
+        ensures { result.now ≡ fault_message self }
+    {
+        match self {
+            Fault::QueueDoesNotExist => "The specified queue does not exist.",
+            Fault::QueueNameExists => "A queue of this name exists with other attributes.",
+            Fault::InvalidAttributeName => "Unknown attribute name.",
+            Fault::InvalidAttributeValue => "Attribute value not allowed.",
+            Fault::InvalidParameterValue => "Parameter value not allowed.",
+            Fault::InvalidMessageContents => "Characters not allowed in the message.",
+            Fault::ReceiptHandleIsInvalid => "The receipt handle is not valid.",
+            Fault::MessageNotInflight => "The message is not in flight.",
+            Fault::OverLimit => "A limit is reached.",
+            Fault::EmptyBatchRequest => "The batch has no entries.",
+            Fault::TooManyEntriesInBatchRequest => "The batch has more than 10 entries.",
+            Fault::BatchEntryIdsNotDistinct => "Two entries have the same id.",
+            Fault::InvalidBatchEntryId => "An entry id is not allowed.",
+            Fault::BatchRequestTooLong => "The batch is too long.",
+            Fault::UnsupportedOperation => "The action is not supported.",
+            Fault::SerializationException => "The request cannot be read.",
+            Fault::JournalFull => "The journal of the queue is full.",
+            Fault::OutOfMemory => "Out of memory.",
+            Fault::Spent => "The desk is spent.",
+            Fault::ActorGone => "The queue has stopped.",
+        }
+    }
+}
+
+impl fmt::Display for Fault {
+    ghost output = { λ fault. Some (fault_message fault) };
+
+    fn fmt<W: fmt::Write>(&self, f: &mut fmt::Formatter<W>) -> fmt::Result {
+        f.write_str(self.text())
     }
 }
 

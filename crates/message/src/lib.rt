@@ -1,7 +1,7 @@
 //! What every other crate speaks of: the faults, queue names, message ids and message contents.
 //!
-//! - [`Fault`]: the twenty refusals, with their numbers. What `Display` writes of them is tested, not
-//!   proved.
+//! - [`Fault`]: the twenty refusals, each with its number, its status, its name and its text, which
+//!   `Display` writes.
 //! - [`QueueName`]: 1 to 80 ASCII letters, digits, hyphens and underscores, checked once by
 //!   [`QueueName::read`].
 //! - [`Content`]: a body and its attributes, checked once by [`Content::new`] and shared without
@@ -15,8 +15,9 @@
 //! - [`MessageId`]: the number of a message in the queue that it was first sent to, and its text as
 //!   a UUID.
 //!
-//! Each contract is exact: what is accepted, which refusal comes first otherwise, and the value.
-//! The definitions stand in `specs/`.
+//! Each contract is exact: what is accepted, which refusal comes first otherwise, and the value. What
+//! is at fault is refused without memory: `OutOfMemory` comes only in the place of a value. The
+//! definitions stand in `specs/`.
 #![tactic(auto)]
 
 mod attribute;

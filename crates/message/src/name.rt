@@ -34,7 +34,7 @@ impl Model for QueueName {
 }
 
 /// Whether a byte may stand in a name.
-fn is_name_byte(byte: u8) -> bool
+pub(crate) fn is_name_byte(byte: u8) -> bool
     ensures { result ≡ is_name_character byte }
 {
     byte.is_ascii_alphanumeric() || byte == b'-' || byte == b'_'
@@ -48,7 +48,7 @@ fn has_name_bytes(text: &[u8]) -> bool
 }
 
 /// Whether the bytes are a name.
-fn is_name(text: &[u8]) -> bool
+fn is_queue_name(text: &[u8]) -> bool
     ensures { result ≡ is_queue_name text.now }
 {
     1 <= text.len() && text.len() <= NAME_LIMIT && has_name_bytes(text)
@@ -72,7 +72,7 @@ impl QueueName {
         ensures { result ≡ queue_name_of text.now }
     {
         let text = text.as_bytes();
-        if !is_name(text) {
+        if !is_queue_name(text) {
             return Err(Fault::InvalidParameterValue);
         }
         let bytes = padded(text);

@@ -1,3 +1,5 @@
 pub mod DecimalLemmas
 pub mod ConfigLemmas
+pub mod EmptyText
+pub mod KeyLemmas
 pub mod Utf8Lemmas

@@ -1,17 +1,19 @@
 -- The configuration that a text is, or the first fault. The text is TOML 1.1; its tables, their keys, and the order of the faults are this project's own.
-use Rattle.std.specs.Prelude.{ℕ, ℤ, pos, negsuc, nat_le, nat_lt, Bool, true, false, ◌&&◌, ◌||◌, if◌then◌else◌, List, [], ◌∷◌, ◌++◌, length, codes, Option, Some, None, Result, Ok, Err, ok_or}
+use Rattle.std.specs.Prelude.{ℕ, ℤ, pos, negsuc, nat_le, nat_lt, Bool, true, false, ◌&&◌, ◌||◌, if◌then◌else◌, List, [], ◌∷◌, ◌++◌, map, length, codes, Option, Some, None, Result, Ok, Err, ok_or}
 use Rattle.std.specs.Global.{Vec}
 use Rattle.std.specs.Str.{bytes_eq, is_utf8}
 use Rattle.message.specs.Name.{is_queue_name}
 use Rattle.toml.specs.Data.{Data, Items, no_items, item, Members, no_members, member, get_member, as_integer, as_str, as_array, as_table}
 use Rattle.toml.specs.Parse.{parse_document}
-use Rattle.queue_config.specs.Limits.{QueueLimits, default_limits}
-use Rattle.queue_config.specs.Settings.{QueueSettings, default_settings}
-use Rattle.queue_config.specs.Config.{Configuration}
+use Rattle.queue_config.specs.Limits.{QueueLimits, max_lines_row, in_flight_row, default_limits}
+use Rattle.queue_config.specs.SettingRows.{row_of, all_settings}
+use Rattle.queue_config.specs.Settings.{default_settings, with_setting_value}
+use Rattle.queue_config.specs.Config.{Configuration, most_queues}
 use Rattle.queue_config.specs.declared.config.ConfiguredQueue.{ConfiguredQueue}
 use Rattle.queue_config.specs.declared.config_fault.ConfigFault.{ConfigFault}
 use Rattle.queue_config.specs.declared.config_fault.ConfigFault.TheVariants.{Syntax, UnknownKey, WrongKind, OutOfRange, NameTwice}
 use Rattle.queue_config.specs.declared.config_text.QueueTable.{QueueTable}
+use Rattle.queue_config.specs.declared.setting.Setting.{Setting}
 
 infixl 10 ◌>>=◌
 -- what a value leads to, or the fault in its place
@@ -39,57 +41,58 @@ name_in d = do
   text ← ok_or (as_str d) WrongKind
   if_name text
 
--- ---- limits
+-- ---- tables, key by key
 
--- the limits after one more key of their table
-abbrev pub with_limit : QueueLimits → List ℕ → Data → Result QueueLimits ConfigFault
-with_limit limits key d =
-    if bytes_eq key (codes "in_flight") then (number_between 1 120000 d >>= λ n. Ok (record limits { in_flight = n }))
-    else if bytes_eq key (codes "max_lines") then (number_between 1 16777216 d >>= λ n. Ok (record limits { max_lines = n }))
-    else Err UnknownKey
+-- a key of a table, and what its value does to what the table has said so far
+pub record KeyRow (S : Type 0) : Type 0 where
+  pub key : List ℕ
+  pub take : S → Data → Result S ConfigFault
+
+-- a key whose value is a whole number between two bounds
+abbrev pub number_key : {S : Type 0} → List ℕ → ℕ → ℕ → (S → ℕ → S) → KeyRow S
+number_key key least most change = record { key = key; take = λ s d. number_between least most d >>= λ n. Ok (change s n) }
+
+-- a key whose value is the name of a queue
+abbrev pub name_key : {S : Type 0} → List ℕ → (S → List ℕ → S) → KeyRow S
+name_key key change = record { key = key; take = λ s d. name_in d >>= λ name. Ok (change s name) }
+
+-- what a table has said after one more key
+abbrev pub with_key : {S : Type 0} → List (KeyRow S) → S → List ℕ → Data → Result S ConfigFault
+with_key [] s key d = Err UnknownKey
+with_key (row ∷ rows) s key d = if bytes_eq key row.key then row.take s d else with_key rows s key d
 
 -- keys stand in the order of their bytes
-abbrev pub with_limits : QueueLimits → Members → Result QueueLimits ConfigFault
-with_limits limits no_members = Ok limits
-with_limits limits (member key d rest) = do
-  more ← with_limit limits key d
-  with_limits more rest
+abbrev pub with_keys : {S : Type 0} → List (KeyRow S) → S → Members → Result S ConfigFault
+with_keys rows s no_members = Ok s
+with_keys rows s (member key d rest) = do
+  more ← with_key rows s key d
+  with_keys rows more rest
+
+-- ---- limits
+
+abbrev pub limit_keys : List (KeyRow QueueLimits)
+limit_keys =
+    number_key in_flight_row.key in_flight_row.least in_flight_row.most (λ limits n. record limits { in_flight = n })
+    ∷ number_key max_lines_row.key max_lines_row.least max_lines_row.most (λ limits n. record limits { max_lines = n })
+    ∷ []
 
 -- those of the table, where there is one
 abbrev pub limits_in : Option Data → Result QueueLimits ConfigFault
 limits_in None = Ok default_limits
 limits_in (Some d) = do
   table ← ok_or (as_table d) WrongKind
-  with_limits default_limits table
+  with_keys limit_keys default_limits table
 
 -- ---- queues
 
-abbrev pub with_setting : QueueTable → (ℕ → QueueSettings) → Result ℕ ConfigFault → Result QueueTable ConfigFault
-with_setting queue change (Ok n) = Ok (record queue { settings = change n })
-with_setting queue change (Err fault) = Err fault
+-- a setting, by its row in the table of settings
+abbrev pub setting_key : Setting → KeyRow QueueTable
+setting_key setting =
+    number_key (row_of setting).key (row_of setting).least (row_of setting).most
+    (λ queue n. record queue { settings = with_setting_value setting n queue.settings })
 
--- what a queue's table says after one more key of it
-abbrev pub with_key : QueueTable → List ℕ → Data → Result QueueTable ConfigFault
-with_key queue key d =
-    if bytes_eq key (codes "delay_seconds")
-    then with_setting queue (λ n. record queue.settings { delay_seconds = n }) (number_between 0 900 d)
-    else if bytes_eq key (codes "maximum_message_size")
-    then with_setting queue (λ n. record queue.settings { maximum_message_size = n }) (number_between 1024 262144 d)
-    else if bytes_eq key (codes "name")
-    then (name_in d >>= λ name. Ok (record queue { name = Some name }))
-    else if bytes_eq key (codes "retention_seconds")
-    then with_setting queue (λ n. record queue.settings { retention_seconds = n }) (number_between 60 1209600 d)
-    else if bytes_eq key (codes "visibility_timeout")
-    then with_setting queue (λ n. record queue.settings { visibility_timeout = n }) (number_between 0 43200 d)
-    else if bytes_eq key (codes "wait_seconds")
-    then with_setting queue (λ n. record queue.settings { wait_seconds = n }) (number_between 0 20 d)
-    else Err UnknownKey
-
-abbrev pub with_keys : QueueTable → Members → Result QueueTable ConfigFault
-with_keys queue no_members = Ok queue
-with_keys queue (member key d rest) = do
-  more ← with_key queue key d
-  with_keys more rest
+abbrev pub queue_keys : List (KeyRow QueueTable)
+queue_keys = name_key (codes "name") (λ queue name. record queue { name = Some name }) ∷ map setting_key all_settings
 
 -- a table that has said nothing yet
 abbrev pub no_keys : QueueTable
@@ -104,7 +107,7 @@ queue_of_table queue = do
 abbrev pub queue_in : Data → Result ConfiguredQueue ConfigFault
 queue_in d = do
   table ← ok_or (as_table d) WrongKind
-  queue ← with_keys no_keys table
+  queue ← with_keys queue_keys no_keys table
   queue_of_table queue
 
 -- these queues, and those of the tables after them
@@ -142,7 +145,7 @@ have_equal_names (q ∷ qs) = has_name q.name qs || have_equal_names qs
 -- what is judged of all queues together: how many there are, and then their names
 abbrev pub together : QueueLimits → List ConfiguredQueue → Result Configuration ConfigFault
 together limits queues =
-    if nat_lt 1000 (length queues) then Err OutOfRange
+    if nat_lt most_queues (length queues) then Err OutOfRange
     else if have_equal_names queues then Err NameTwice
     else Ok (record { limits = limits; queues = queues })
 
@@ -167,6 +170,11 @@ abbrev pub configuration_of_bytes : List ℕ → Result Configuration ConfigFaul
 configuration_of_bytes bytes = if is_utf8 bytes then configuration_of bytes else Err Syntax
 
 -- ---- for private clauses
+
+-- the value of a setting's key, where the key has one
+abbrev pub with_setting_key : Option Setting → QueueTable → Data → Result QueueTable ConfigFault
+with_setting_key None queue d = Err UnknownKey
+with_setting_key (Some setting) queue d = (setting_key setting).take queue d
 
 abbrev pub items_of : Result (Vec ConfiguredQueue) ConfigFault → Result (List ConfiguredQueue) ConfigFault
 items_of (Ok queues) = Ok queues.items

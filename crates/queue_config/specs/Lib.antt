@@ -1,7 +1,7 @@
 pub mod Decimal
 pub mod Limits
+pub mod SettingRows
 pub mod Settings
-pub mod Requested
 pub mod ConfigFault
 pub mod Config
 pub mod ConfigText

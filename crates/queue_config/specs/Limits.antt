@@ -1,16 +1,30 @@
--- The limits of a queue.
-use Rattle.std.specs.Prelude.{ℕ, ◌≤◌}
+-- The limits of a queue, one row each. The 120,000 messages are the Amazon SQS quota for standard queues; the rest is this project's own.
+use Rattle.std.specs.Prelude.{ℕ, ◌≤◌, List, codes}
 
--- how many entries a journal may have, and how many messages may be in flight
+-- the key in a configuration, the range, and what the limit is where nothing is said
+pub record LimitRow : Type 0 where
+  pub key : List ℕ
+  pub least : ℕ
+  pub most : ℕ
+  pub default : ℕ
+
+-- how many entries a journal may have
+abbrev pub max_lines_row : LimitRow
+max_lines_row = record { key = codes "max_lines"; least = 1; most = 16777216; default = 1000000 }
+
+-- how many messages of a queue may be in flight
+abbrev pub in_flight_row : LimitRow
+in_flight_row = record { key = codes "in_flight"; least = 1; most = 120000; default = 120000 }
+
 pub record QueueLimits : Type 0 where
   pub max_lines : ℕ
   pub in_flight : ℕ
 
 pub record AreLimits (max_lines in_flight : ℕ) : Type 0 where
-  pub some_lines : 1 ≤ max_lines
-  pub lines : max_lines ≤ 16777216
-  pub some_in_flight : 1 ≤ in_flight
-  pub messages : in_flight ≤ 120000
+  pub least_lines : max_lines_row.least ≤ max_lines
+  pub most_lines : max_lines ≤ max_lines_row.most
+  pub least_in_flight : in_flight_row.least ≤ in_flight
+  pub most_in_flight : in_flight ≤ in_flight_row.most
 
 abbrev pub default_limits : QueueLimits
-default_limits = record { max_lines = 1000000; in_flight = 120000 }
+default_limits = record { max_lines = max_lines_row.default; in_flight = in_flight_row.default }

@@ -1,64 +1,99 @@
 -- The settings of a queue, and the attributes that a request asks for (Amazon SQS API Reference, SetQueueAttributes).
-use Rattle.std.specs.Prelude.{ℕ, ◌≤◌, ◌&&◌, ◌||◌, nat_le, Bool, if◌then◌else◌, List, codes, Option, Some, None, unwrap_or, Result, Ok, Err}
+use Rattle.std.specs.Prelude.{ℕ, ◌==◌, ◌&&◌, ◌||◌, nat_le, Bool, if◌then◌else◌, List, codes, Option, Some, None, unwrap_or, Result, Ok, Err}
+use Rattle.std.specs.List.{list_all}
+use Rattle.std.specs.Option.{ForSome}
 use Rattle.std.specs.Str.{bytes_eq}
 use Rattle.message.specs.declared.fault.Fault.{Fault}
 use Rattle.message.specs.declared.fault.Fault.TheVariants.{InvalidAttributeName, InvalidAttributeValue}
 use Rattle.queue_config.specs.Decimal.{decimal_of}
+use Rattle.queue_config.specs.SettingRows.{row_of, all_settings, setting_named, IsInRange}
+use Rattle.queue_config.specs.declared.setting.Setting.{Setting}
+use Rattle.queue_config.specs.declared.setting.Setting.TheVariants.{DelaySeconds, VisibilityTimeout, MessageRetentionPeriod, ReceiveMessageWaitTimeSeconds, MaximumMessageSize}
 
--- seconds, and bytes for the size
-pub record QueueSettings : Type 0 where
-  pub delay_seconds : ℕ
-  pub visibility_timeout : ℕ
-  pub retention_seconds : ℕ
-  pub wait_seconds : ℕ
-  pub maximum_message_size : ℕ
+-- ---- one value a setting
+
+pub record PerSetting (T : Type 0) : Type 0 where
+  pub delay_seconds : T
+  pub visibility_timeout : T
+  pub retention_seconds : T
+  pub wait_seconds : T
+  pub maximum_message_size : T
+
+abbrev pub per_setting : {T : Type 0} → (Setting → T) → PerSetting T
+per_setting value = record {
+  delay_seconds = value DelaySeconds;
+  visibility_timeout = value VisibilityTimeout;
+  retention_seconds = value MessageRetentionPeriod;
+  wait_seconds = value ReceiveMessageWaitTimeSeconds;
+  maximum_message_size = value MaximumMessageSize;
+}
+
+abbrev pub setting_value : {T : Type 0} → Setting → PerSetting T → T
+setting_value DelaySeconds s = s.delay_seconds
+setting_value VisibilityTimeout s = s.visibility_timeout
+setting_value MessageRetentionPeriod s = s.retention_seconds
+setting_value ReceiveMessageWaitTimeSeconds s = s.wait_seconds
+setting_value MaximumMessageSize s = s.maximum_message_size
+
+abbrev pub with_setting_value : {T : Type 0} → Setting → T → PerSetting T → PerSetting T
+with_setting_value DelaySeconds x s = record s { delay_seconds = x }
+with_setting_value VisibilityTimeout x s = record s { visibility_timeout = x }
+with_setting_value MessageRetentionPeriod x s = record s { retention_seconds = x }
+with_setting_value ReceiveMessageWaitTimeSeconds x s = record s { wait_seconds = x }
+with_setting_value MaximumMessageSize x s = record s { maximum_message_size = x }
+
+-- it holds of each setting and its value
+pub record EachSetting {T : Type 0} (P : Setting → T → Type 0) (s : PerSetting T) : Type 0 where
+  pub delay_seconds : P DelaySeconds s.delay_seconds
+  pub visibility_timeout : P VisibilityTimeout s.visibility_timeout
+  pub retention_seconds : P MessageRetentionPeriod s.retention_seconds
+  pub wait_seconds : P ReceiveMessageWaitTimeSeconds s.wait_seconds
+  pub maximum_message_size : P MaximumMessageSize s.maximum_message_size
+
+-- ---- the settings of a queue
+
+abbrev pub QueueSettings : Type 0
+QueueSettings = PerSetting ℕ
 
 -- each number is in its range
-pub record AreSettings (delay_seconds visibility_timeout retention_seconds wait_seconds maximum_message_size : ℕ) : Type 0 where
-  pub delay : delay_seconds ≤ 900
-  pub visibility : visibility_timeout ≤ 43200
-  pub least_retention : 60 ≤ retention_seconds
-  pub retention : retention_seconds ≤ 1209600
-  pub wait : wait_seconds ≤ 20
-  pub least_size : 1024 ≤ maximum_message_size
-  pub size : maximum_message_size ≤ 262144
+abbrev pub AreSettings : QueueSettings → Type 0
+AreSettings s = EachSetting (λ setting n. IsInRange setting n) s
 
 abbrev pub default_settings : QueueSettings
-default_settings = record { delay_seconds = 0; visibility_timeout = 30; retention_seconds = 345600; wait_seconds = 0; maximum_message_size = 262144 }
+default_settings = per_setting (λ setting. (row_of setting).default)
 
--- the attributes that a request asks for, each where it does
-pub record RequestedAttributes : Type 0 where
-  pub delay_seconds : Option ℕ
-  pub visibility_timeout : Option ℕ
-  pub retention_seconds : Option ℕ
-  pub wait_seconds : Option ℕ
-  pub maximum_message_size : Option ℕ
+abbrev pub same_settings : QueueSettings → QueueSettings → Bool
+same_settings s t = list_all (λ setting. setting_value setting s == setting_value setting t) all_settings
+
+-- ---- what a request asks for
+
+-- a number for each attribute that the request names
+abbrev pub RequestedAttributes : Type 0
+RequestedAttributes = PerSetting (Option ℕ)
+
+-- each number is in the range of its setting
+abbrev pub AreRequested : RequestedAttributes → Type 0
+AreRequested requested = EachSetting (λ setting number. ForSome number (λ n. IsInRange setting n)) requested
 
 abbrev pub no_requested_attributes : RequestedAttributes
-no_requested_attributes = record { delay_seconds = None; visibility_timeout = None; retention_seconds = None; wait_seconds = None; maximum_message_size = None }
+no_requested_attributes = per_setting (λ setting. None)
 
 -- the settings with what is requested in its place
 abbrev pub settings_with : QueueSettings → RequestedAttributes → QueueSettings
-settings_with s requested = record {
-  delay_seconds = unwrap_or requested.delay_seconds s.delay_seconds;
-  visibility_timeout = unwrap_or requested.visibility_timeout s.visibility_timeout;
-  retention_seconds = unwrap_or requested.retention_seconds s.retention_seconds;
-  wait_seconds = unwrap_or requested.wait_seconds s.wait_seconds;
-  maximum_message_size = unwrap_or requested.maximum_message_size s.maximum_message_size;
-}
+settings_with s requested = per_setting (λ setting. unwrap_or (setting_value setting requested) (setting_value setting s))
 
--- the number between two bounds that a text of 1 to 9 digits is
 abbrev pub number_within : ℕ → ℕ → Option ℕ → Result ℕ Fault
 number_within least most None = Err InvalidAttributeValue
 number_within least most (Some n) = if nat_le least n && nat_le n most then Ok n else Err InvalidAttributeValue
 
-abbrev pub setting_of : ℕ → ℕ → List ℕ → Result ℕ Fault
-setting_of least most value = number_within least most (decimal_of 9 value)
+-- the number in the setting's range that a text of 1 to 9 digits is
+abbrev pub requested_number : Setting → List ℕ → Result ℕ Fault
+requested_number setting value = number_within (row_of setting).least (row_of setting).most (decimal_of 9 value)
 
--- what a change of the requested attributes gives where its number is in range
-abbrev pub request_number : (ℕ → RequestedAttributes) → Result ℕ Fault → Result RequestedAttributes Fault
-request_number change (Ok n) = Ok (change n)
-request_number change (Err fault) = Err fault
+-- the requested attributes with one more number, where it is one
+abbrev pub request_number : RequestedAttributes → Setting → Result ℕ Fault → Result RequestedAttributes Fault
+request_number requested setting (Ok n) = Ok (with_setting_value setting (Some n) requested)
+request_number requested setting (Err fault) = Err fault
 
 -- the names whose values are ignored: what they ask for does not exist here
 abbrev pub is_ignored_attribute : List ℕ → Bool
@@ -66,18 +101,11 @@ is_ignored_attribute name =
     bytes_eq name (codes "Policy") || bytes_eq name (codes "KmsMasterKeyId") || bytes_eq name (codes "KmsDataKeyReusePeriodSeconds")
     || bytes_eq name (codes "SqsManagedSseEnabled") || bytes_eq name (codes "RedriveAllowPolicy")
 
+-- a setting of the name asks for its number; an ignored name asks for nothing; any other is unknown
+abbrev pub request_of : Option Setting → RequestedAttributes → List ℕ → List ℕ → Result RequestedAttributes Fault
+request_of (Some setting) requested name value = request_number requested setting (requested_number setting value)
+request_of None requested name value = if is_ignored_attribute name then Ok requested else Err InvalidAttributeName
+
 -- the requested attributes after one more name and value, or what is wrong with these
 abbrev pub request_attribute : RequestedAttributes → List ℕ → List ℕ → Result RequestedAttributes Fault
-request_attribute requested name value =
-    if bytes_eq name (codes "DelaySeconds")
-    then request_number (λ n. record requested { delay_seconds = Some n }) (setting_of 0 900 value)
-    else if bytes_eq name (codes "VisibilityTimeout")
-    then request_number (λ n. record requested { visibility_timeout = Some n }) (setting_of 0 43200 value)
-    else if bytes_eq name (codes "MessageRetentionPeriod")
-    then request_number (λ n. record requested { retention_seconds = Some n }) (setting_of 60 1209600 value)
-    else if bytes_eq name (codes "ReceiveMessageWaitTimeSeconds")
-    then request_number (λ n. record requested { wait_seconds = Some n }) (setting_of 0 20 value)
-    else if bytes_eq name (codes "MaximumMessageSize")
-    then request_number (λ n. record requested { maximum_message_size = Some n }) (setting_of 1024 262144 value)
-    else if is_ignored_attribute name then Ok requested
-    else Err InvalidAttributeName
+request_attribute requested name value = request_of (setting_named name) requested name value

@@ -38,6 +38,7 @@ impl Model for Config {
 
 impl Config {
     /// These limits, and no queue. It takes no memory.
+    #[tactic(auto, using(crate::proofs::ConfigLemmas::no_queues_are_configured))]
     pub fn with_limits(alloc: Global, limits: Limits) -> Config
         ensures { result ≡ record { limits = limits; queues = [] } }
     {

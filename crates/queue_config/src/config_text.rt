@@ -3,15 +3,18 @@
 
 ghost use Rattle.std.specs.Prelude.{◌≡◌, ◌≤◌, [], false, Err, option_map, IfOk};
 ghost use Rattle.std.specs.Str.{is_utf8};
-ghost use Rattle.toml.specs.Data.{get_member};
+ghost use Rattle.toml.specs.Data.{get_member, no_members};
 ghost use Rattle.toml.specs.View.{view, items_view, table_view};
+ghost use Rattle.queue_config.specs.Config.{default_configuration};
 ghost use Rattle.queue_config.specs.ConfigFault.{IsReadAs};
 ghost use Rattle.queue_config.specs.Limits.{default_limits};
-ghost use Rattle.queue_config.specs.ConfigText.{number_between, name_in, with_limit, with_limits, limits_in, with_key, with_keys, no_keys, queue_of_table, queue_in, with_queues, queues_in, is_top_key, have_top_keys, has_name, have_equal_names, configuration_of_table, configuration_of, configuration_of_bytes, items_of};
+ghost use Rattle.queue_config.specs.SettingRows.{row_of, IsInRange};
+ghost use Rattle.queue_config.specs.ConfigText.{number_between, name_in, with_key, with_keys, limit_keys, limits_in, queue_keys, with_setting_key, no_keys, queue_of_table, queue_in, with_queues, queues_in, is_top_key, have_top_keys, has_name, have_equal_names, configuration_of_table, configuration_of, configuration_of_bytes, items_of};
 
 use crate::config::{Config, ConfiguredQueue, QUEUE_LIMIT};
 use crate::config_fault::ConfigFault;
-use crate::limits::Limits;
+use crate::limits::{IN_FLIGHT, Limits, MAX_LINES};
+use crate::setting::{Setting, row_of, setting_with_key};
 use crate::settings::Settings;
 use message::QueueName;
 use std::alloc::Global;
@@ -58,29 +61,33 @@ fn name_in(value: &Value) -> Result<QueueName, ConfigFault>
 }
 
 /// The limits after one more key of their table.
-fn with_limit(limits: Limits, key: &str, value: &Value) -> Result<Limits, ConfigFault>
-    ensures { result ≡ with_limit limits key.now (view value.now) }
+fn with_limit_key(limits: Limits, key: &str, value: &Value) -> Result<Limits, ConfigFault>
+    ensures { result ≡ with_key limit_keys limits key.now (view value.now) }
 {
-    match key {
-        "in_flight" => Ok(Limits {
-            in_flight: number_between(value, 1, 120_000)?,
+    if key == IN_FLIGHT.key {
+        let in_flight = number_between(value, IN_FLIGHT.least, IN_FLIGHT.most)?;
+        Ok(Limits {
+            in_flight,
             ..limits
-        }),
-        "max_lines" => Ok(Limits {
-            max_lines: number_between(value, 1, 16_777_216)?,
+        })
+    } else if key == MAX_LINES.key {
+        let max_lines = number_between(value, MAX_LINES.least, MAX_LINES.most)?;
+        Ok(Limits {
+            max_lines,
             ..limits
-        }),
-        _ => Err(ConfigFault::UnknownKey),
+        })
+    } else {
+        Err(ConfigFault::UnknownKey)
     }
 }
 
 /// The limits of a table, key by key.
-fn with_limits(table: &Table) -> Result<Limits, ConfigFault>
-    ensures { result ≡ with_limits default_limits (table_view table.now) }
+fn with_limit_keys(table: &Table) -> Result<Limits, ConfigFault>
+    ensures { result ≡ with_keys limit_keys default_limits (table_view table.now) }
 {
     let mut limits = Limits::default();
     for (key, value) in table {
-        limits = with_limit(limits, key.as_str(), value)?;
+        limits = with_limit_key(limits, key.as_str(), value)?;
     }
     Ok(limits)
 }
@@ -90,44 +97,55 @@ fn limits_in(value: Option<&Value>) -> Result<Limits, ConfigFault>
     ensures { result ≡ limits_in (option_map (λ v. view v.now) value.entry) }
 {
     match value {
-        Some(value) => with_limits(value.as_table().ok_or(ConfigFault::WrongKind)?),
+        Some(value) => with_limit_keys(value.as_table().ok_or(ConfigFault::WrongKind)?),
         None => Ok(Limits::default()),
     }
 }
 
-/// What a queue's table says after one more key of it.
-fn with_key(queue: QueueTable, key: &str, value: &Value) -> Result<QueueTable, ConfigFault>
-    ensures { result ≡ with_key queue key.now (view value.now) }
+/// The number of a setting that a value is.
+fn setting_in(value: &Value, setting: Setting) -> Result<u32, ConfigFault>
+    ensures value { result ≡ number_between (row_of setting).least (row_of setting).most (view value.now) }
+    ensures range { IfOk result (λ n. IsInRange setting n) }
 {
-    let mut queue = queue;
-    match key {
-        "delay_seconds" => queue.settings.delay_seconds = number_between(value, 0, 900)? as u16,
-        "maximum_message_size" => {
-            queue.settings.maximum_message_size = number_between(value, 1024, 262_144)?;
-        }
-        "name" => queue.name = Some(name_in(value)?),
-        "retention_seconds" => {
-            queue.settings.retention_seconds = number_between(value, 60, 1_209_600)?;
-        }
-        "visibility_timeout" => {
-            queue.settings.visibility_timeout = number_between(value, 0, 43_200)?;
-        }
-        "wait_seconds" => queue.settings.wait_seconds = number_between(value, 0, 20)? as u16,
-        _ => return Err(ConfigFault::UnknownKey),
+    let row = row_of(setting);
+    number_between(value, row.least, row.most)
+}
+
+/// What a queue's table says after the value of a setting.
+fn with_setting_key(
+    setting: Option<Setting>,
+    queue: QueueTable,
+    value: &Value,
+) -> Result<QueueTable, ConfigFault>
+    ensures { result ≡ with_setting_key setting queue (view value.now) }
+{
+    let setting = setting.ok_or(ConfigFault::UnknownKey)?;
+    let number = setting_in(value, setting)?;
+    let settings = queue.settings.with_setting_value(setting, number);
+    Ok(QueueTable { settings, ..queue })
+}
+
+/// What a queue's table says after one more key of it.
+fn with_queue_key(queue: QueueTable, key: &str, value: &Value) -> Result<QueueTable, ConfigFault>
+    ensures { result ≡ with_key queue_keys queue key.now (view value.now) }
+{
+    if key == "name" {
+        let name = Some(name_in(value)?);
+        return Ok(QueueTable { name, ..queue });
     }
-    Ok(queue)
+    with_setting_key(setting_with_key(key), queue, value)
 }
 
 /// What a queue's table says, key by key.
-fn with_keys(table: &Table) -> Result<QueueTable, ConfigFault>
-    ensures { result ≡ with_keys no_keys (table_view table.now) }
+fn with_queue_keys(table: &Table) -> Result<QueueTable, ConfigFault>
+    ensures { result ≡ with_keys queue_keys no_keys (table_view table.now) }
 {
     let mut queue = QueueTable {
         name: None,
         settings: Settings::default(),
     };
     for (key, value) in table {
-        queue = with_key(queue, key.as_str(), value)?;
+        queue = with_queue_key(queue, key.as_str(), value)?;
     }
     Ok(queue)
 }
@@ -137,7 +155,7 @@ fn queue_in(value: &Value) -> Result<ConfiguredQueue, ConfigFault>
     ensures { result ≡ queue_in (view value.now) }
 {
     let table = value.as_table().ok_or(ConfigFault::WrongKind)?;
-    let queue = with_keys(table)?;
+    let queue = with_queue_keys(table)?;
     let name = queue.name.ok_or(ConfigFault::WrongKind)?;
     let settings = queue.settings;
     Ok(ConfiguredQueue { name, settings })
@@ -156,7 +174,8 @@ fn with_queues(alloc: Global, tables: &[Value]) -> Result<Vec<ConfiguredQueue>, 
 
 /// The queues, which need not be there.
 fn queues_in(alloc: Global, value: Option<&Value>) -> Result<Vec<ConfiguredQueue>, ConfigFault>
-    ensures { IsReadAs (items_of result) (queues_in (option_map (λ v. view v.now) value.entry)) }
+    ensures read { IsReadAs (items_of result) (queues_in (option_map (λ v. view v.now) value.entry)) }
+    ensures none { value.entry ≡ None → items_of result ≡ Ok [] }
 {
     match value {
         Some(value) => {
@@ -212,7 +231,8 @@ fn have_equal_names(queues: &[ConfiguredQueue]) -> bool
 
 /// The configuration of the whole tree.
 fn configuration_of_table(alloc: Global, table: &Table) -> Result<Config, ConfigFault>
-    ensures { IsReadAs result (configuration_of_table (table_view table.now)) }
+    ensures read { IsReadAs result (configuration_of_table (table_view table.now)) }
+    ensures empty { table_view table.now ≡ no_members → result ≡ Ok default_configuration }
 {
     if !have_top_keys(table) {
         return Err(ConfigFault::UnknownKey);
@@ -233,9 +253,11 @@ fn configuration_of_table(alloc: Global, table: &Table) -> Result<Config, Config
 /// array, and each of its tables in their order; then more than 1,000 queues; then two queues of one
 /// name. Of a table the keys are judged in the order of their bytes, each as unknown, of another kind,
 /// or out of range; and then what is missing. An empty text has
-/// the default limits and no queue. `OutOfMemory` may come at any point.
+/// the default limits and no queue, and takes no memory; for any other `OutOfMemory` may come at any
+/// point.
 pub fn config_from_text(alloc: Global, text: &str) -> Result<Config, ConfigFault>
-    ensures { IsReadAs result (configuration_of text.now) }
+    ensures config { IsReadAs result (configuration_of text.now) }
+    ensures empty { text.now ≡ [] → result ≡ Ok default_configuration }
 {
     let table = match toml::table_from_str(alloc, text) {
         Ok(table) => table,

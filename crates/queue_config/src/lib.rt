@@ -1,5 +1,8 @@
 //! What a queue is configured with: settings, limits, and the attributes that a request asks for.
 //!
+//! - [`Setting`] and [`row_of`]: the table of the settings, one row each with the name of its
+//!   attribute, its key in a configuration, its range and its default. What a name,
+//!   a key or a number is judged by is read from it.
 //! - [`Settings`]: the numbers of a queue, each in its range by the type.
 //! - [`Wish`]: requested attributes. [`Wish::put`] judges one name and value; [`Settings::with`]
 //!   gives the settings with what was requested, and [`Settings::agrees`] says whether they already
@@ -18,6 +21,7 @@ mod config_fault;
 mod config_text;
 mod decimal;
 mod limits;
+mod setting;
 mod settings;
 #[cfg(test)]
 mod tests;
@@ -28,5 +32,6 @@ pub use config_fault::ConfigFault;
 pub use config_text::{config_from_bytes, config_from_text};
 pub use decimal::decimal_number;
 pub use limits::Limits;
+pub use setting::{ALL_SETTINGS, Setting, SettingRow, row_of, setting_named};
 pub use settings::Settings;
 pub use wish::{Wish, is_ignored};

@@ -1,28 +1,25 @@
 //! The settings of a queue.
 
 ghost use Rattle.std.specs.Prelude.{◌≡◌, ◌↔◌, IsTrue};
-ghost use Rattle.queue_config.specs.Settings.{default_settings, settings_with};
+ghost use Rattle.queue_config.specs.SettingRows.{row_of, IsInRange};
+ghost use Rattle.queue_config.specs.Settings.{default_settings, setting_value, with_setting_value, settings_with, same_settings};
 
+use crate::setting::{Setting, row_of};
 use crate::wish::Wish;
 use std::marker::Model;
 
-/// The settings of a queue, named as in the Amazon SQS API Reference (`SetQueueAttributes`). The
-/// ranges and defaults are those of its attributes; 262,144 bytes as the largest message is this
-/// project's own choice. Each number is in its range by the type.
+/// The settings of a queue. Each number is in the range of its [`Setting`] by the type.
 #[derive(Clone, Copy, Debug, PartialEq, Eq)]
 pub struct Settings {
-    /// How long a sent message stays delayed where the send says nothing, in seconds, 0 to 900;
-    /// default 0.
+    /// How long a sent message stays delayed where the send says nothing, in seconds.
     pub delay_seconds: u16,
-    /// How long a received message stays in flight where the receive says nothing, in seconds, 0
-    /// to 43,200; default 30.
+    /// How long a received message stays in flight where the receive says nothing, in seconds.
     pub visibility_timeout: u32,
-    /// How long messages are kept, in seconds, 60 to 1,209,600; default 345,600.
+    /// How long messages are kept, in seconds.
     pub retention_seconds: u32,
-    /// How long a receive waits for a message where it says nothing, in seconds, 0 to 20; default
-    /// 0.
+    /// How long a receive waits for a message where it says nothing, in seconds.
     pub wait_seconds: u16,
-    /// How large a message may be, in bytes, 1,024 to 262,144; default 262,144.
+    /// How large a message may be, in bytes.
     pub maximum_message_size: u32,
 }
 
@@ -33,27 +30,64 @@ impl Model for Settings {
 
     ghost view = { λ s. record { delay_seconds = s.delay_seconds; visibility_timeout = s.visibility_timeout; retention_seconds = s.retention_seconds; wait_seconds = s.wait_seconds; maximum_message_size = s.maximum_message_size } };
 
-    ghost invariant = { λ s. AreSettings s.delay_seconds s.visibility_timeout s.retention_seconds s.wait_seconds s.maximum_message_size };
+    ghost invariant = { λ s. AreSettings (record { delay_seconds = s.delay_seconds; visibility_timeout = s.visibility_timeout; retention_seconds = s.retention_seconds; wait_seconds = s.wait_seconds; maximum_message_size = s.maximum_message_size }) };
 
     ghost inverse = { λ v. record { delay_seconds = v.delay_seconds; visibility_timeout = v.visibility_timeout; retention_seconds = v.retention_seconds; wait_seconds = v.wait_seconds; maximum_message_size = v.maximum_message_size } };
+}
+
+/// What a setting is where nothing is said.
+fn default_of(setting: Setting) -> u32
+    ensures { result ≡ (row_of setting).default }
+{
+    let row = row_of(setting);
+    row.default
 }
 
 impl Default for Settings {
     ghost is_default = { λ settings. settings ≡ default_settings };
 
-    /// The defaults of the Amazon SQS API Reference.
+    /// The defaults of the settings' table.
     fn default() -> Settings {
         Settings {
-            delay_seconds: 0,
-            visibility_timeout: 30,
-            retention_seconds: 345_600,
-            wait_seconds: 0,
-            maximum_message_size: 262_144,
+            delay_seconds: default_of(Setting::DelaySeconds) as u16,
+            visibility_timeout: default_of(Setting::VisibilityTimeout),
+            retention_seconds: default_of(Setting::MessageRetentionPeriod),
+            wait_seconds: default_of(Setting::ReceiveMessageWaitTimeSeconds) as u16,
+            maximum_message_size: default_of(Setting::MaximumMessageSize),
         }
     }
 }
 
 impl Settings {
+    /// The number of a setting.
+    pub fn setting_value(self, setting: Setting) -> u32
+        ensures { result ≡ setting_value setting self }
+    {
+        match setting {
+            Setting::DelaySeconds => u32::from(self.delay_seconds),
+            Setting::VisibilityTimeout => self.visibility_timeout,
+            Setting::MessageRetentionPeriod => self.retention_seconds,
+            Setting::ReceiveMessageWaitTimeSeconds => u32::from(self.wait_seconds),
+            Setting::MaximumMessageSize => self.maximum_message_size,
+        }
+    }
+
+    /// These settings with another number for one of them.
+    pub(crate) fn with_setting_value(self, setting: Setting, number: u32) -> Settings
+        requires { IsInRange setting number }
+        ensures { result ≡ with_setting_value setting number self }
+    {
+        let mut settings = self;
+        match setting {
+            Setting::DelaySeconds => settings.delay_seconds = number as u16,
+            Setting::VisibilityTimeout => settings.visibility_timeout = number,
+            Setting::MessageRetentionPeriod => settings.retention_seconds = number,
+            Setting::ReceiveMessageWaitTimeSeconds => settings.wait_seconds = number as u16,
+            Setting::MaximumMessageSize => settings.maximum_message_size = number,
+        }
+        settings
+    }
+
     /// These settings with what is requested in its place. `target` is the uid that a requested
     /// dead-letter queue's name stands for, 0 where none is named; no dead-letter queue can be
     /// requested yet, so it does not count.
@@ -74,7 +108,8 @@ impl Settings {
     /// Whether the settings already have what is requested, so that [`with`](Settings::with)
     /// changes nothing.
     pub fn agrees(self, wish: &Wish, target: u64) -> bool
-        ensures { IsTrue result ↔ (settings_with self wish.now ≡ self) }
+        ensures same { result ≡ same_settings (settings_with self wish.now) self }
+        ensures unchanged { IsTrue result ↔ (settings_with self wish.now ≡ self) }
     {
         self.with(wish, target) == self
     }

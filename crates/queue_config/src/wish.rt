@@ -1,9 +1,11 @@
 //! The attributes that a request asks for.
 
-ghost use Rattle.std.specs.Prelude.{◌≡◌, ◌≤◌, IfOk, IfErr, OnErr};
-ghost use Rattle.queue_config.specs.Settings.{no_requested_attributes, request_attribute, setting_of, is_ignored_attribute};
+ghost use Rattle.std.specs.Prelude.{◌≡◌, IfOk, IfErr, OnErr};
+ghost use Rattle.queue_config.specs.SettingRows.{IsInRange};
+ghost use Rattle.queue_config.specs.Settings.{no_requested_attributes, request_attribute, requested_number, with_setting_value, is_ignored_attribute};
 
 use crate::decimal::decimal_number;
+use crate::setting::{Setting, row_of, setting_named};
 use message::Fault;
 use std::alloc::Global;
 use std::marker::Model;
@@ -20,27 +22,26 @@ pub struct Wish {
 }
 
 impl Model for Wish {
-    ghost use Rattle.queue_config.specs.Settings.{RequestedAttributes};
-    ghost use Rattle.queue_config.specs.Requested.{AreRequested};
+    ghost use Rattle.queue_config.specs.Settings.{RequestedAttributes, AreRequested};
 
     ghost Value = { RequestedAttributes };
 
     ghost view = { λ w. record { delay_seconds = w.delay_seconds; visibility_timeout = w.visibility_timeout; retention_seconds = w.retention_seconds; wait_seconds = w.wait_seconds; maximum_message_size = w.maximum_message_size } };
 
-    ghost invariant = { λ w. AreRequested w.delay_seconds w.visibility_timeout w.retention_seconds w.wait_seconds w.maximum_message_size };
+    ghost invariant = { λ w. AreRequested (record { delay_seconds = w.delay_seconds; visibility_timeout = w.visibility_timeout; retention_seconds = w.retention_seconds; wait_seconds = w.wait_seconds; maximum_message_size = w.maximum_message_size }) };
 
     ghost inverse = { λ v. record { delay_seconds = v.delay_seconds; visibility_timeout = v.visibility_timeout; retention_seconds = v.retention_seconds; wait_seconds = v.wait_seconds; maximum_message_size = v.maximum_message_size } };
 }
 
-/// The number that an attribute's value is, or `InvalidAttributeValue` where it is none between
-/// the bounds.
-fn setting(value: &str, least: u32, most: u32) -> Result<u32, Fault>
-    ensures value { result ≡ setting_of least most value.now }
-    ensures least { IfOk result (λ n. least ≤ n) }
-    ensures most { IfOk result (λ n. n ≤ most) }
+/// The number of a setting that an attribute's value is, or `InvalidAttributeValue` where it is none
+/// in the setting's range.
+fn requested_number(setting: Setting, value: &str) -> Result<u32, Fault>
+    ensures value { result ≡ requested_number setting value.now }
+    ensures range { IfOk result (λ n. IsInRange setting n) }
 {
+    let row = row_of(setting);
     match decimal_number(value, 9) {
-        Some(number) if u64::from(least) <= number && number <= u64::from(most) => {
+        Some(number) if u64::from(row.least) <= number && number <= u64::from(row.most) => {
             Ok(number as u32)
         }
         _ => Err(Fault::InvalidAttributeValue),
@@ -73,6 +74,22 @@ impl Wish {
         }
     }
 
+    /// The request with another number for a setting.
+    fn with_setting_value(self, setting: Setting, number: u32) -> Wish
+        requires { IsInRange setting number }
+        ensures { result ≡ with_setting_value setting (Some number) self }
+    {
+        let mut wish = self;
+        match setting {
+            Setting::DelaySeconds => wish.delay_seconds = Some(number as u16),
+            Setting::VisibilityTimeout => wish.visibility_timeout = Some(number),
+            Setting::MessageRetentionPeriod => wish.retention_seconds = Some(number),
+            Setting::ReceiveMessageWaitTimeSeconds => wish.wait_seconds = Some(number as u16),
+            Setting::MaximumMessageSize => wish.maximum_message_size = Some(number),
+        }
+        wish
+    }
+
     /// Requests one more attribute; a name that was requested before gets the new value. A name
     /// that no queue has is `InvalidAttributeName`, a value out of range or of another form
     /// `InvalidAttributeValue`; the request is then as it was. The values of `Policy`,
@@ -83,18 +100,13 @@ impl Wish {
         ensures err { IfErr result (λ fault. request_attribute self.old name.now value.now ≡ Err fault) }
         ensures unchanged { OnErr result (self.new ≡ self.old) }
     {
-        if name == "DelaySeconds" {
-            self.delay_seconds = Some(setting(value, 0, 900)? as u16);
-        } else if name == "VisibilityTimeout" {
-            self.visibility_timeout = Some(setting(value, 0, 43_200)?);
-        } else if name == "MessageRetentionPeriod" {
-            self.retention_seconds = Some(setting(value, 60, 1_209_600)?);
-        } else if name == "ReceiveMessageWaitTimeSeconds" {
-            self.wait_seconds = Some(setting(value, 0, 20)? as u16);
-        } else if name == "MaximumMessageSize" {
-            self.maximum_message_size = Some(setting(value, 1024, 262_144)?);
-        } else if !is_ignored(name) {
-            return Err(Fault::InvalidAttributeName);
+        match setting_named(name) {
+            Some(setting) => {
+                let number = requested_number(setting, value)?;
+                *self = self.with_setting_value(setting, number);
+            }
+            None if is_ignored(name) => {}
+            None => return Err(Fault::InvalidAttributeName),
         }
         Ok(())
     }

@@ -119,13 +119,13 @@ pub IsKept-pushed : {X : Type 0} (q : QueueHistory) (old new : Lines) (event : E
     → OnOk r (new ≡ with_line old (record { at = q.clock; event = event })) → OnErr r (new ≡ old) → IsKept q old.limit → IsCausedIn q event
     → IsKept (record q { lines = new.lines }) new.limit
 IsKept-pushed q old new event (Ok x) e ok err h k =
-    rw (ok, ← e) (IsKept-with_event q old.limit event h k (HasPlace-caused q k.0 event k.1))
+    rw (ok, ← e) (IsKept-with_event q old.limit event h k (HasPlace-caused q k.command event k.added))
 IsKept-pushed q old new event (Err fault) e ok err h k = rw (err, ← e) h
 
 -- the journal has a place for an event that a command causes
 pub below_limit : (q : QueueHistory) (limit : ℕ) (event : Event ContentText) → IsKept q limit → IsCausedIn q event → length q.lines < limit
 below_limit q limit event h k =
-    let left = h.place_left (HasPlace-caused q k.0 event k.1).unclosed in
+    let left = h.place_left (HasPlace-caused q k.command event k.added).unclosed in
     let room = h.room in
     omega arith
 

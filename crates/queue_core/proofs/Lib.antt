@@ -5,3 +5,5 @@ pub mod OrderLemmas
 mod MarkLemmas
 mod OfferLemmas
 mod StateLemmas
+mod RefusalLemmas
+mod LastingLemmas

@@ -1,8 +1,9 @@
 -- The definitions of a queue's numbers do not look at a content: over marks they give what they give over lines.
-use Rattle.std.proofs.Common.{◌≡◌, ℕ, suc, ◌-◌, Bool, cond, List, [], ◌∷◌, map, Option, refl, sym, ap, ◌∙◌}
+use Rattle.std.proofs.Common.{◌≡◌, ℕ, suc, ◌-◌, Bool, false, cond, leb, eqb, List, [], ◌∷◌, map, drop, Option, Some, None, refl, sym, ap, ◌∙◌}
 use Rattle.std.specs.Prelude.{◌/◌, count_by}
 use Rattle.std.specs.Option.{option_map_or}
 use Rattle.std.specs.List.{find, filter}
+use Rattle.std.proofs.lemmas.List.{drop-map}
 use Rattle.std.proofs.lemmas.List.Sums.{sum_by-cons}
 use Rattle.std.proofs.lemmas.List.Elements.{filter_agree}
 use Rattle.message.specs.Content.{ContentText}
@@ -11,10 +12,13 @@ use Rattle.journal.specs.declared.entry.Entry.{Entry}
 use Rattle.journal.specs.declared.entry.Event.{Event}
 use Rattle.journal.specs.declared.entry.Event.TheVariants.{Sent}
 use Rattle.queue_core.specs.declared.facts.Message.{Message}
+use Rattle.queue_core.specs.declared.facts.Course.{Course}
+use Rattle.queue_core.specs.declared.facts.Status.{Status}
+use Rattle.queue_core.specs.declared.facts.Status.TheVariants.{Present, Removed}
 use Rattle.queue_core.specs.declared.facts.MessageState.{MessageState}
 use Rattle.queue_core.specs.declared.facts.MessageState.TheVariants.{Visible, Delayed, InFlight}
-use Rattle.queue_core.specs.Messages.{message_of, messages_from, messages, settings_after, settings_from, closes_period, periods_from, offers_number, receive_count, due_after, due_from, removes_message, is_removed_from}
-use Rattle.queue_core.specs.States.{is_live, is_in_state, count_in_state, oldest_age, gauges_of, candidate_of, in_order, receive_order}
+use Rattle.queue_core.specs.Messages.{message_of, messages_from, messages, settings_after, settings_from, closes_period, periods_from, offers_number, receive_count, status_after, due_after, course_after, course_from, course_of, due_time}
+use Rattle.queue_core.specs.States.{is_live, same_state, is_in_state, count_in_state, oldest_age, gauges_of, candidate_of, in_order, receive_order}
 use Rattle.queue_core.specs.Mark.{mark_event, mark_of}
 
 -- ---- one event
@@ -39,9 +43,13 @@ due_after-mark : (number due at : ℕ) (event : Event ContentText) → due_after
 due_after-mark number due at (Sent delay content) = refl
 due_after-mark number due at event = refl
 
-removes_message-mark : (m : Message) (place : ℕ) (event : Event ContentText) → removes_message m place (mark_event event) ≡ removes_message m place event
-removes_message-mark m place (Sent delay content) = refl
-removes_message-mark m place event = refl
+status_after-mark : (number : ℕ) (status : Status) (event : Event ContentText) → status_after number status (mark_event event) ≡ status_after number status event
+status_after-mark number Present (Sent delay content) = refl
+status_after-mark number Removed (Sent delay content) = refl
+status_after-mark number status event = refl
+
+course_after-mark : (number : ℕ) (c : Course) (e : Entry ContentText) → course_after number c (mark_of e) ≡ course_after number c e
+course_after-mark number c e = rw (status_after-mark number c.status e.event, due_after-mark number c.due e.at e.event) refl
 
 -- ---- all entries
 
@@ -66,23 +74,37 @@ receive_count-marks number (e ∷ es) =
     sum_by-cons (λ (x : Entry ℕ). cond (offers_number number x.event) 1 0) (mark_of e) (map mark_of es)
     ∙ rw (offers_number-mark number e.event, receive_count-marks number es) (sym (sum_by-cons (λ (x : Entry ContentText). cond (offers_number number x.event) 1 0) e es))
 
-pub due_from-marks : (number due : ℕ) (lines : List (Entry ContentText)) → due_from number due (map mark_of lines) ≡ due_from number due lines
-due_from-marks number due [] = refl
-due_from-marks number due (e ∷ es) =
-    ap (λ (t : ℕ). due_from number t (map mark_of es)) (due_after-mark number due e.at e.event) ∙ due_from-marks number (due_after number due e.at e.event) es
+pub course_from-marks : (number : ℕ) (c : Course) (lines : List (Entry ContentText)) → course_from number c (map mark_of lines) ≡ course_from number c lines
+course_from-marks number c [] = refl
+course_from-marks number c (e ∷ es) =
+    ap (λ (d : Course). course_from number d (map mark_of es)) (course_after-mark number c e) ∙ course_from-marks number (course_after number c e) es
 
-pub is_removed_from-marks : (m : Message) (place : ℕ) (lines : List (Entry ContentText)) → is_removed_from m place (map mark_of lines) ≡ is_removed_from m place lines
-is_removed_from-marks m place [] = refl
-is_removed_from-marks m place (e ∷ es) = rw (removes_message-mark m place e.event, is_removed_from-marks m (suc place) es) refl
+pub course_of-marks : (lines : List (Entry ContentText)) (m : Message) → course_of (map mark_of lines) m ≡ course_of lines m
+course_of-marks lines m =
+    ap (course_from m.number (record { status = Present; due = m.first_due_time })) (drop-map mark_of m.place lines)
+    ∙ course_from-marks m.number (record { status = Present; due = m.first_due_time }) (drop m.place lines)
 
 -- ---- a message's state, the counts and the age
 
 is_live-marks : (lines : List (Entry ContentText)) (clock : ℕ) (m : Message) → is_live (map mark_of lines) clock m ≡ is_live lines clock m
-is_live-marks lines clock m = rw (is_removed_from-marks m 0 lines, periods_from-marks 0 default_settings clock lines) refl
+is_live-marks lines clock m = rw (course_of-marks lines m, periods_from-marks 0 default_settings clock lines) refl
+
+due_time-marks : (lines : List (Entry ContentText)) (m : Message) → due_time (map mark_of lines) m ≡ due_time lines m
+due_time-marks lines m = ap (λ (c : Course). c.due) (course_of-marks lines m)
+
+-- whether a message is in a state, by whether it is live, its due time and its receives
+abbrev pub in_state : MessageState → ℕ → Bool → ℕ → ℕ → Bool
+in_state state clock live due count =
+    option_map_or (λ s. same_state state s) (cond live (Some (cond (leb due clock) Visible (cond (eqb count 0) Delayed InFlight))) None) false
+
+pub in_state-same : (state : MessageState) (clock : ℕ) (live' live : Bool) (due' due count' count : ℕ) → live' ≡ live → due' ≡ due → count' ≡ count
+    → in_state state clock live' due' count' ≡ in_state state clock live due count
+in_state-same state clock live' live due' due count' count a b c = rw (a, b, c) refl
 
 is_in_state-marks : (state : MessageState) (lines : List (Entry ContentText)) (clock : ℕ) (m : Message) → is_in_state state (map mark_of lines) clock m ≡ is_in_state state lines clock m
 is_in_state-marks state lines clock m =
-    rw (is_removed_from-marks m 0 lines, periods_from-marks 0 default_settings clock lines, due_from-marks m.number m.first_due_time lines, receive_count-marks m.number lines) refl
+    in_state-same state clock (is_live (map mark_of lines) clock m) (is_live lines clock m) (due_time (map mark_of lines) m) (due_time lines m)
+    (receive_count (map mark_of lines) m.number) (receive_count lines m.number) (is_live-marks lines clock m) (due_time-marks lines m) (receive_count-marks m.number lines)
 
 count_by_agree : {X : Type 0} (p q : X → Bool) → ((x : X) → p x ≡ q x) → (xs : List X) → count_by p xs ≡ count_by q xs
 count_by_agree p q h [] = refl
@@ -122,7 +144,7 @@ map_agree f g h [] = refl
 map_agree f g h (x ∷ xs) = rw (h x, map_agree f g h xs) refl
 
 candidate_of-marks : (lines : List (Entry ContentText)) (m : Message) → candidate_of (map mark_of lines) m ≡ candidate_of lines m
-candidate_of-marks lines m = rw (due_from-marks m.number m.first_due_time lines) refl
+candidate_of-marks lines m = ap (λ (due : ℕ). record { due = due; message = m }) (due_time-marks lines m)
 
 pub receive_order-marks : (lines : List (Entry ContentText)) (clock : ℕ) → receive_order (map mark_of lines) clock ≡ receive_order lines clock
 receive_order-marks lines clock =

@@ -1,5 +1,5 @@
 -- One step of going through a journal: what is left at a place is the entry there and what is left after it.
-use Rattle.std.proofs.Common.{◌≡◌, ℕ, zero, suc, ◌+◌, Bool, true, false, cond, ◌&&◌, ◌||◌, List, [], ◌∷◌, length, drop, Some, None, refl, ap, ◌∙◌, arith, add-one}
+use Rattle.std.proofs.Common.{◌≡◌, ℕ, zero, suc, ◌+◌, ◌*◌, ◌≤◌, Bool, true, false, cond, ◌&&◌, ◌||◌, List, [], ◌∷◌, length, drop, Option, Some, None, refl, sym, ap, ◌∙◌, arith, add-one}
 use Rattle.std.specs.Prelude.{slice_get, count_by, option_map}
 use Rattle.std.specs.Option.{option_map_or}
 use Rattle.std.proofs.lemmas.List.Sums.{sum_by-cons}
@@ -7,24 +7,18 @@ use Rattle.std.specs.List.{list_any, find}
 use Rattle.queue_config.specs.Settings.{QueueSettings}
 use Rattle.journal.specs.declared.entry.Entry.{Entry}
 use Rattle.queue_core.specs.declared.facts.Message.{Message}
-use Rattle.queue_core.specs.Messages.{message_of, messages_from, settings_after, settings_from, created_time, opens, modified_from, gives_settings, RetentionPeriod, closes_period, periods_from, offers_number, last_receive_from, due_after, due_from, removes_message, is_removed_from, closes, is_closed}
+use Rattle.queue_core.specs.declared.facts.Course.{Course}
+use Rattle.queue_core.specs.Messages.{Birth, effect_of, message_of, messages_from, settings_after, settings_from, created_time, opens, modified_from, gives_settings, RetentionPeriod, closes_period, periods_from, offers_number, last_receive_from, course_after, course_from, closes, is_closed}
 
 pub drop_entry : {X : Type 0} (xs : List X) (i : ℕ) (x : X) → slice_get xs i ≡ Some x → drop i xs ≡ x ∷ drop (i + 1) xs
 drop_entry [] i x h = absurd cc
 drop_entry (y ∷ xs) zero x h = ap (λ z. z ∷ xs) (let e : y ≡ x = cc in e)
 drop_entry (y ∷ xs) (suc i) x h = rw add-one (rw add-one at (drop_entry xs i x h))
 
-by_closing : (b : Bool) (p : RetentionPeriod → Bool) (first : RetentionPeriod) (others : List RetentionPeriod)
+pub by_closing : (b : Bool) (p : RetentionPeriod → Bool) (first : RetentionPeriod) (others : List RetentionPeriod)
     → list_any p (cond b (first ∷ others) others) ≡ (b && p first) || list_any p others
 by_closing true p first others = refl
 by_closing false p first others = refl
-
--- a count over a list that begins with an element
-count_by-cons_yes : {X : Type 0} (p : X → Bool) (x : X) (xs : List X) → p x ≡ true → count_by p (x ∷ xs) ≡ 1 + count_by p xs
-count_by-cons_yes p x xs h = sum_by-cons (λ y. cond (p y) 1 0) x xs ∙ ap (λ b. cond b 1 0 + count_by p xs) h
-
-count_by-cons_no : {X : Type 0} (p : X → Bool) (x : X) (xs : List X) → p x ≡ false → count_by p (x ∷ xs) ≡ count_by p xs
-count_by-cons_no p x xs h = sum_by-cons (λ y. cond (p y) 1 0) x xs ∙ ap (λ b. cond b 1 0 + count_by p xs) h ∙ omega arith
 
 module _ {C : Type 0} (lines : List (Entry C)) (place : ℕ) (e : Entry C) (at : slice_get lines place ≡ Some e) where
   pub messages_from-some : (number : ℕ) (m : Message) → message_of place number e.at e.event ≡ Some m
@@ -34,10 +28,6 @@ module _ {C : Type 0} (lines : List (Entry C)) (place : ℕ) (e : Entry C) (at :
   pub messages_from-none : (number : ℕ) → message_of place number e.at e.event ≡ None
       → messages_from place number (drop place lines) ≡ messages_from (place + 1) number (drop (place + 1) lines)
   messages_from-none number is = rw (drop_entry lines place e at, is) (simp add-one)
-
-  pub length-messages_from-some : (number : ℕ) (m : Message) → message_of place number e.at e.event ≡ Some m
-      → length (messages_from place number (drop place lines)) ≡ 1 + length (messages_from (place + 1) (number + 1) (drop (place + 1) lines))
-  length-messages_from-some number m is = ap length (messages_from-some number m is) ∙ omega arith
 
   pub settings_from-entry : (s : QueueSettings) → settings_from s (drop place lines) ≡ settings_from (settings_after s e.event) (drop (place + 1) lines)
   settings_from-entry s = rw (drop_entry lines place e at) refl
@@ -69,14 +59,6 @@ module _ {C : Type 0} (lines : List (Entry C)) (place : ℕ) (e : Entry C) (at :
   list_any-periods_from-here p s clock h =
       list_any-periods_from p s clock ∙ ap (λ b. b || list_any p (periods_from (place + 1) (settings_after s e.event) clock (drop (place + 1) lines))) h
 
-  pub count_messages-yes : (p : Message → Bool) (number : ℕ) (m : Message) → message_of place number e.at e.event ≡ Some m → p m ≡ true
-      → count_by p (messages_from place number (drop place lines)) ≡ 1 + count_by p (messages_from (place + 1) (number + 1) (drop (place + 1) lines))
-  count_messages-yes p number m is h = ap (count_by p) (messages_from-some number m is) ∙ count_by-cons_yes p m (messages_from (place + 1) (number + 1) (drop (place + 1) lines)) h
-
-  pub count_messages-no : (p : Message → Bool) (number : ℕ) (m : Message) → message_of place number e.at e.event ≡ Some m → p m ≡ false
-      → count_by p (messages_from place number (drop place lines)) ≡ count_by p (messages_from (place + 1) (number + 1) (drop (place + 1) lines))
-  count_messages-no p number m is h = ap (count_by p) (messages_from-some number m is) ∙ count_by-cons_no p m (messages_from (place + 1) (number + 1) (drop (place + 1) lines)) h
-
   pub first-found : (p : Entry C → Bool) → p e ≡ true → option_map (λ x. x.at) (find p (drop place lines)) ≡ Some e.at
   first-found p h = rw (drop_entry lines place e at, h) refl
 
@@ -86,14 +68,8 @@ module _ {C : Type 0} (lines : List (Entry C)) (place : ℕ) (e : Entry C) (at :
   pub last_receive_from-entry : (number time : ℕ) → last_receive_from number time (drop place lines) ≡ last_receive_from number (cond (offers_number number e.event) e.at time) (drop (place + 1) lines)
   last_receive_from-entry number time = rw (drop_entry lines place e at) refl
 
-  pub due_from-entry : (number due : ℕ) → due_from number due (drop place lines) ≡ due_from number (due_after number due e.at e.event) (drop (place + 1) lines)
-  due_from-entry number due = rw (drop_entry lines place e at) refl
-
-  pub is_removed_from-here : (m : Message) → removes_message m place e.event ≡ true → is_removed_from m place (drop place lines) ≡ true
-  is_removed_from-here m h = rw (drop_entry lines place e at, h) refl
-
-  pub is_removed_from-later : (m : Message) → removes_message m place e.event ≡ false → is_removed_from m place (drop place lines) ≡ is_removed_from m (place + 1) (drop (place + 1) lines)
-  is_removed_from-later m h = rw (drop_entry lines place e at, h) (simp add-one)
+  pub course_from-entry : (number : ℕ) (c : Course) → course_from number c (drop place lines) ≡ course_from number (course_after number c e) (drop (place + 1) lines)
+  course_from-entry number c = rw (drop_entry lines place e at) refl
 
   pub is_closed-here : closes e.event ≡ true → is_closed (drop place lines) ≡ true
   is_closed-here h = rw (drop_entry lines place e at, h) refl
@@ -107,10 +83,28 @@ module _ {C : Type 0} (lines : List (Entry C)) (place : ℕ) (e : Entry C) (at :
   pub count_by-no : (p : Entry C → Bool) → p e ≡ false → count_by p (drop place lines) ≡ count_by p (drop (place + 1) lines)
   count_by-no p h = rw (drop_entry lines place e at) (sum_by-cons (λ x. cond (p x) 1 0) e (drop (place + 1) lines) ∙ ap (λ b. cond b 1 0 + count_by p (drop (place + 1) lines)) h ∙ omega arith)
 
--- the first message that passes a test
-pub find-here : (p : Message → Bool) (f : Message → ℕ) (m : Message) (ms rest : List Message) → ms ≡ m ∷ rest → p m ≡ true → option_map_or f (find p ms) 0 ≡ f m
-find-here p f m ms rest e h = rw (e, h) refl
+-- ---- messages
 
-pub find-later : (p : Message → Bool) (f : Message → ℕ) (m : Message) (ms rest : List Message) → ms ≡ m ∷ rest → p m ≡ false
-    → option_map_or f (find p ms) 0 ≡ option_map_or f (find p rest) 0
-find-later p f m ms rest e h = rw (e, h) refl
+-- a message's place is that of its entry
+pub place-message_of : {C : Type 0} (place number at : ℕ) (birth : Option (Birth C)) (m : Message)
+    → option_map (λ b. record { number = number; place = place; enqueue_time = at; first_send_time = at; first_due_time = at + 1000 * b.delay }) birth ≡ Some m → m.place ≡ place
+place-message_of place number at None m h = absurd cc
+place-message_of place number at (Some b) m h = cc
+
+pub messages_from-first : {C : Type 0} (lines : List (Entry C)) (place number : ℕ) (e : Entry C) (m : Message) → slice_get lines place ≡ Some e → message_of place number e.at e.event ≡ Some m
+    → messages_from place number (drop place lines) ≡ m ∷ messages_from (m.place + 1) (number + 1) (drop (m.place + 1) lines)
+messages_from-first lines place number e m at is =
+    messages_from-some lines place e at number m is
+    ∙ ap (λ (i : ℕ). m ∷ messages_from (i + 1) (number + 1) (drop (i + 1) lines)) (sym (place-message_of place number e.at (effect_of e.event).birth m is))
+
+length-more : {C : Type 0} (birth : Option Message) (more rest : List Message) (es : List (Entry C)) → length more ≤ length es → length rest ≤ length es
+    → length (option_map_or (λ m. m ∷ more) birth rest) ≤ suc (length es)
+length-more None more rest es h k = omega arith
+length-more (Some m) more rest es h k = omega arith
+
+-- there are no more messages than entries
+pub length-messages_from : {C : Type 0} (place number : ℕ) (es : List (Entry C)) → length (messages_from place number es) ≤ length es
+length-messages_from place number [] = omega arith
+length-messages_from place number (e ∷ es) =
+    length-more (message_of place number e.at e.event) (messages_from (suc place) (suc number) es) (messages_from (suc place) number es) es
+    (length-messages_from (suc place) (suc number) es) (length-messages_from (suc place) number es)

@@ -46,6 +46,9 @@ letter_a = record { body = 97 ∷ []; attributes = [] }
 abbrev pub letter_b : ContentText
 letter_b = record { body = 98 ∷ []; attributes = [] }
 
+abbrev pub empty : ContentText
+empty = record { body = []; attributes = [] }
+
 -- so many letters
 abbrev pub letters : ℕ → ContentText
 letters count = record { body = replicate count 97; attributes = [] }

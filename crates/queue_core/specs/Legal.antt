@@ -1,11 +1,15 @@
 -- Which journals a queue can have.
-use Rattle.std.specs.Prelude.{◌≡◌, ℕ, ◌≤◌, List, [], ◌∷◌, ◌++◌, Some}
-use Rattle.message.specs.Content.{ContentText}
-use Rattle.queue_config.specs.Settings.{QueueSettings}
+use Rattle.std.specs.Prelude.{◌≡◌, ℕ, ◌≤◌, List, [], ◌∷◌, ◌++◌, Some, IsTrue}
+use Rattle.std.specs.Option.{ForSome}
+use Rattle.message.specs.Content.{ContentText, is_content}
+use Rattle.queue_config.specs.Settings.{QueueSettings, AreSettings, settings_with}
 use Rattle.journal.specs.declared.entry.Entry.{Entry}
 use Rattle.journal.specs.declared.entry.Event.{Event}
 use Rattle.journal.specs.declared.entry.Event.TheVariants.{Opened}
 use Rattle.queue_core.specs.declared.command.Command.{Command}
+use Rattle.queue_core.specs.declared.command.Command.TheVariants.{Send, Receive, Change, Delete, Purge, Set, Close, Look}
+use Rattle.queue_core.specs.Messages.{settings_of}
+use Rattle.queue_core.specs.Ranges.{IsDelay, IsTimeout, IsMaximum}
 use Rattle.queue_core.specs.Queue.{QueueHistory, outcome_of}
 
 -- moments never fall, from a moment on up to the clock
@@ -13,17 +17,33 @@ abbrev pub IsOrdered : ℕ → List (Entry ContentText) → ℕ → Type 0
 IsOrdered from [] clock = from ≤ clock
 IsOrdered from (e ∷ es) clock = (from ≤ e.at) × IsOrdered e.at es clock
 
--- an event that some command adds to a queue
-abbrev pub IsCausedIn : QueueHistory → Event ContentText → Type 0
-IsCausedIn q event = (command : Command) × ((outcome_of q command).event ≡ Some event)
+-- a command that a client can send: its content is allowed, its numbers are in range, and so are the settings that it gives the queue
+abbrev pub IsAllowedIn : QueueHistory → Command → Type 0
+IsAllowedIn q (Send content delay) = IsTrue (is_content content) × ForSome delay (λ seconds. IsDelay seconds)
+IsAllowedIn q (Receive maximum timeout) = IsMaximum maximum × ForSome timeout (λ seconds. IsTimeout seconds)
+IsAllowedIn q (Change handle timeout) = IsTimeout timeout
+IsAllowedIn q (Delete handle) = Unit {0}
+IsAllowedIn q Purge = Unit {0}
+IsAllowedIn q (Set wish target) = AreSettings (settings_with (settings_of q.lines) wish)
+IsAllowedIn q Close = Unit {0}
+IsAllowedIn q Look = Unit {0}
+
+-- an event that some such command adds to a queue
+pub record IsCausedIn (q : QueueHistory) (event : Event ContentText) : Type 0 where
+  pub command : Command
+  pub allowed : IsAllowedIn q command
+  pub added : (outcome_of q command).event ≡ Some event
 
 -- each entry is what some command added to the entries before it, at the entry's own moment
 abbrev pub AreCaused : QueueHistory → List (Entry ContentText) → List (Entry ContentText) → Type 0
 AreCaused q before [] = Unit {0}
 AreCaused q before (e ∷ es) = IsCausedIn (record q { clock = e.at; lines = before }) e.event × AreCaused q (before ++ e ∷ []) es
 
-abbrev pub IsOpening : ℕ → Event ContentText → Type 0
-IsOpening uid event = (settings : QueueSettings) × (event ≡ Opened uid settings)
+-- a queue is opened with settings in range
+pub record IsOpening (uid : ℕ) (event : Event ContentText) : Type 0 where
+  pub settings : QueueSettings
+  pub allowed : AreSettings settings
+  pub opened : event ≡ Opened uid settings
 
 -- a journal begins with the queue's opening, and each later entry comes of a command
 abbrev pub BeginsAndFollows : QueueHistory → List (Entry ContentText) → Type 0

@@ -1,10 +1,11 @@
 pub mod Messages
 pub mod States
 pub mod Queue
-pub mod Legal
 pub mod Ranges
+pub mod Legal
 pub mod Kept
 pub mod Run
 pub mod Mark
 pub mod Turns
+pub mod Lasting
 pub mod Examples

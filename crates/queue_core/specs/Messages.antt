@@ -1,5 +1,5 @@
 -- The messages of a queue, as its journal has them. Nothing here depends on what stands for a content.
-use Rattle.std.specs.Prelude.{ℕ, suc, ◌+◌, ◌*◌, ◌&&◌, ◌||◌, ◌==◌, nat_le, nat_lt, Bool, true, false, if◌then◌else◌, List, [], ◌∷◌, length, count_by, slice_get, Option, Some, None, option_map, option_and_then}
+use Rattle.std.specs.Prelude.{ℕ, suc, ◌+◌, ◌*◌, ◌&&◌, ◌==◌, nat_le, nat_lt, Bool, true, false, if◌then◌else◌, List, [], ◌∷◌, length, drop, fold, count_by, slice_get, Option, Some, None, is_some, option_map, option_and_then, unwrap_or}
 use Rattle.std.specs.Option.{option_map_or}
 use Rattle.std.specs.List.{list_any, find}
 use Rattle.message.specs.declared.id.MessageId.{MessageId}
@@ -8,22 +8,66 @@ use Rattle.journal.specs.declared.entry.Entry.{Entry}
 use Rattle.journal.specs.declared.entry.Event.{Event}
 use Rattle.journal.specs.declared.entry.Event.TheVariants.{Opened, Sent, Received, Changed, Deleted, DeletedAgain, Purged, Set, Refused, Closed}
 use Rattle.queue_core.specs.declared.facts.Message.{Message}
+use Rattle.queue_core.specs.declared.facts.Course.{Course}
+use Rattle.queue_core.specs.declared.facts.Status.{Status}
+use Rattle.queue_core.specs.declared.facts.Status.TheVariants.{Present, Removed}
+
+-- ---- what an event does
+
+-- the beginning of a message: what it holds, and how many seconds later it is first due
+pub record Birth (C : Type 0) : Type 0 where
+  pub content : C
+  pub delay : ℕ
+
+-- what an event does to a queue and to its messages
+pub record Effect (C : Type 0) : Type 0 where
+  pub birth : Option (Birth C)  -- the message that begins with it
+  pub settings : Option QueueSettings  -- the settings from then on
+  pub opens : Bool  -- the queue is open from then on
+  pub closes : Bool  -- and closed
+  pub closes_period : Bool  -- the retention until then is over
+  pub offers : ℕ → Bool  -- whether it offers the message of a number
+  pub reschedules : ℕ → Bool  -- whether the message of a number is due again so many seconds later
+  pub timeout : ℕ
+  pub removes : ℕ → Bool  -- whether it removes the message of a number, where that is there
+
+abbrev pub no_effect : {C : Type 0} → Effect C
+no_effect = record {
+  birth = None;
+  settings = None;
+  opens = false;
+  closes = false;
+  closes_period = false;
+  offers = λ number. false;
+  reschedules = λ number. false;
+  timeout = 0;
+  removes = λ number. false;
+}
+
+abbrev pub contains_number : ℕ → List ℕ → Bool
+contains_number number numbers = list_any (λ n. n == number) numbers
+
+-- one clause an event, and none left out: what an event does is said here and nowhere else
+abbrev pub effect_of : {C : Type 0} → Event C → Effect C
+effect_of (Opened uid settings) = record no_effect { settings = Some settings; opens = true }
+effect_of (Sent delay content) = record no_effect { birth = Some (record { content = content; delay = delay }) }
+effect_of (Received timeout offered leaving target) =
+    record no_effect { offers = λ number. contains_number number offered; reschedules = λ number. contains_number number offered; timeout = timeout }
+effect_of (Changed changed timeout) = record no_effect { reschedules = λ number. changed == number; timeout = timeout }
+effect_of (Deleted deleted) = record no_effect { removes = λ number. deleted == number }
+effect_of DeletedAgain = no_effect
+effect_of Purged = record no_effect { removes = λ number. true }
+effect_of (Set settings) = record no_effect { settings = Some settings; closes_period = true }
+effect_of (Refused fault) = no_effect
+effect_of Closed = record no_effect { closes = true; removes = λ number. true }
 
 -- ---- numbering and birth
 
 -- the message that an event begins, where the event's place, the message's number and the time are given
 abbrev pub message_of : {C : Type 0} → ℕ → ℕ → ℕ → Event C → Option Message
-message_of place number at (Opened uid settings) = None
-message_of place number at (Sent delay content) =
-    Some (record { number = number; place = place; enqueue_time = at; first_send_time = at; first_due_time = at + 1000 * delay })
-message_of place number at (Received timeout offered leaving target) = None
-message_of place number at (Changed changed timeout) = None
-message_of place number at (Deleted deleted) = None
-message_of place number at DeletedAgain = None
-message_of place number at Purged = None
-message_of place number at (Set settings) = None
-message_of place number at (Refused fault) = None
-message_of place number at Closed = None
+message_of place number at event =
+    option_map (λ birth. record { number = number; place = place; enqueue_time = at; first_send_time = at; first_due_time = at + 1000 * birth.delay })
+    (effect_of event).birth
 
 -- the messages that entries from a place on begin, numbered from a number on
 abbrev pub messages_from : {C : Type 0} → ℕ → ℕ → List (Entry C) → List Message
@@ -44,16 +88,7 @@ message_id uid number = record { uid = uid; number = number }
 
 -- the content that an event brings
 abbrev pub content_in : {C : Type 0} → Event C → Option C
-content_in (Opened uid settings) = None
-content_in (Sent delay content) = Some content
-content_in (Received timeout offered leaving target) = None
-content_in (Changed number timeout) = None
-content_in (Deleted number) = None
-content_in DeletedAgain = None
-content_in Purged = None
-content_in (Set settings) = None
-content_in (Refused fault) = None
-content_in Closed = None
+content_in event = option_map (λ birth. birth.content) (effect_of event).birth
 
 -- a message's content: that of its entry
 abbrev pub content_of : {C : Type 0} → List (Entry C) → Message → Option C
@@ -63,16 +98,7 @@ content_of lines m = option_and_then (λ e. content_in e.event) (slice_get lines
 
 -- the settings after an event
 abbrev pub settings_after : {C : Type 0} → QueueSettings → Event C → QueueSettings
-settings_after s (Opened uid settings) = settings
-settings_after s (Sent delay content) = s
-settings_after s (Received timeout offered leaving target) = s
-settings_after s (Changed number timeout) = s
-settings_after s (Deleted number) = s
-settings_after s DeletedAgain = s
-settings_after s Purged = s
-settings_after s (Set settings) = settings
-settings_after s (Refused fault) = s
-settings_after s Closed = s
+settings_after s event = unwrap_or (effect_of event).settings s
 
 abbrev pub settings_from : {C : Type 0} → QueueSettings → List (Entry C) → QueueSettings
 settings_from s [] = s
@@ -84,28 +110,10 @@ settings_of lines = settings_from default_settings lines
 
 -- whether an event gives the queue its settings
 abbrev pub gives_settings : {C : Type 0} → Event C → Bool
-gives_settings (Opened uid settings) = true
-gives_settings (Sent delay content) = false
-gives_settings (Received timeout offered leaving target) = false
-gives_settings (Changed number timeout) = false
-gives_settings (Deleted number) = false
-gives_settings DeletedAgain = false
-gives_settings Purged = false
-gives_settings (Set settings) = true
-gives_settings (Refused fault) = false
-gives_settings Closed = false
+gives_settings event = is_some (effect_of event).settings
 
 abbrev pub opens : {C : Type 0} → Event C → Bool
-opens (Opened uid settings) = true
-opens (Sent delay content) = false
-opens (Received timeout offered leaving target) = false
-opens (Changed number timeout) = false
-opens (Deleted number) = false
-opens DeletedAgain = false
-opens Purged = false
-opens (Set settings) = false
-opens (Refused fault) = false
-opens Closed = false
+opens event = (effect_of event).opens
 
 -- the time of the first entry that opens the queue
 abbrev pub created_time : {C : Type 0} → List (Entry C) → ℕ
@@ -130,16 +138,7 @@ pub record RetentionPeriod : Type 0 where
 
 -- whether an event ends the period before it
 abbrev pub closes_period : {C : Type 0} → Event C → Bool
-closes_period (Opened uid settings) = false
-closes_period (Sent delay content) = false
-closes_period (Received timeout offered leaving target) = false
-closes_period (Changed number timeout) = false
-closes_period (Deleted number) = false
-closes_period DeletedAgain = false
-closes_period Purged = false
-closes_period (Set settings) = true
-closes_period (Refused fault) = false
-closes_period Closed = false
+closes_period event = (effect_of event).closes_period
 
 -- the periods that end at entries from a place on, or at the clock; the settings in force before the entries are given
 abbrev pub periods_from : {C : Type 0} → ℕ → QueueSettings → ℕ → List (Entry C) → List RetentionPeriod
@@ -161,21 +160,9 @@ is_expired lines clock m = list_any (λ p. runs_out_in m p) (retention_periods l
 
 -- ---- receives
 
-abbrev pub contains_number : ℕ → List ℕ → Bool
-contains_number number numbers = list_any (λ n. n == number) numbers
-
 -- whether an event offers the message of a number
 abbrev pub offers_number : {C : Type 0} → ℕ → Event C → Bool
-offers_number number (Opened uid settings) = false
-offers_number number (Sent delay content) = false
-offers_number number (Received timeout offered leaving target) = contains_number number offered
-offers_number number (Changed changed timeout) = false
-offers_number number (Deleted deleted) = false
-offers_number number DeletedAgain = false
-offers_number number Purged = false
-offers_number number (Set settings) = false
-offers_number number (Refused fault) = false
-offers_number number Closed = false
+offers_number number event = (effect_of event).offers number
 
 -- how often a message was received
 abbrev pub receive_count : {C : Type 0} → List (Entry C) → ℕ → ℕ
@@ -193,66 +180,45 @@ last_receive_from number time (e ∷ es) = last_receive_from number (if offers_n
 abbrev pub last_receive_time : {C : Type 0} → List (Entry C) → ℕ → ℕ
 last_receive_time lines number = last_receive_from number 0 lines
 
--- ---- due time
+-- ---- the course of a message
 
--- when the message of a number is due after an event, where its due time before it is given
+-- where the message of a number stands after an event: what is removed stays so
+abbrev pub status_after : {C : Type 0} → ℕ → Status → Event C → Status
+status_after number Present event = if (effect_of event).removes number then Removed else Present
+status_after number Removed event = Removed
+
+-- when the message of a number is due after an event at a time
 abbrev pub due_after : {C : Type 0} → ℕ → ℕ → ℕ → Event C → ℕ
-due_after number due at (Opened uid settings) = due
-due_after number due at (Sent delay content) = due
-due_after number due at (Received timeout offered leaving target) = if contains_number number offered then at + 1000 * timeout else due
-due_after number due at (Changed changed timeout) = if changed == number then at + 1000 * timeout else due
-due_after number due at (Deleted deleted) = due
-due_after number due at DeletedAgain = due
-due_after number due at Purged = due
-due_after number due at (Set settings) = due
-due_after number due at (Refused fault) = due
-due_after number due at Closed = due
+due_after number due at event = if (effect_of event).reschedules number then at + 1000 * (effect_of event).timeout else due
 
-abbrev pub due_from : {C : Type 0} → ℕ → ℕ → List (Entry C) → ℕ
-due_from number due [] = due
-due_from number due (e ∷ es) = due_from number (due_after number due e.at e.event) es
+abbrev pub course_after : {C : Type 0} → ℕ → Course → Entry C → Course
+course_after number c e = record { status = status_after number c.status e.event; due = due_after number c.due e.at e.event }
 
--- when a message is to be offered next: after the last entry that offered or changed it, and else when it is first due
-abbrev pub due_time : {C : Type 0} → List (Entry C) → Message → ℕ
-due_time lines m = due_from m.number m.first_due_time lines
+abbrev pub course_from : {C : Type 0} → ℕ → Course → List (Entry C) → Course
+course_from number c [] = c
+course_from number c (e ∷ es) = course_from number (course_after number c e) es
 
--- ---- removal
+-- a message begins with its entry, and each entry behind that may change where it stands and when it is due
+abbrev pub course_of : {C : Type 0} → List (Entry C) → Message → Course
+course_of lines m = course_from m.number (record { status = Present; due = m.first_due_time }) (drop m.place lines)
 
--- whether the event of the entry at a place removes a message for good
-abbrev pub removes_message : {C : Type 0} → Message → ℕ → Event C → Bool
-removes_message m place (Opened uid settings) = false
-removes_message m place (Sent delay content) = false
-removes_message m place (Received timeout offered leaving target) = false
-removes_message m place (Changed changed timeout) = false
-removes_message m place (Deleted deleted) = deleted == m.number
-removes_message m place DeletedAgain = false
-removes_message m place Purged = nat_lt m.place place
-removes_message m place (Set settings) = false
-removes_message m place (Refused fault) = false
-removes_message m place Closed = true
-
-abbrev pub is_removed_from : {C : Type 0} → Message → ℕ → List (Entry C) → Bool
-is_removed_from m place [] = false
-is_removed_from m place (e ∷ es) = removes_message m place e.event || is_removed_from m (suc place) es
+abbrev pub is_removed_status : Status → Bool
+is_removed_status Present = false
+is_removed_status Removed = true
 
 -- deleted, or there when the queue was purged or closed
 abbrev pub is_removed : {C : Type 0} → List (Entry C) → Message → Bool
-is_removed lines m = is_removed_from m 0 lines
+is_removed lines m = is_removed_status (course_of lines m).status
+
+-- when a message is to be offered next: after the last entry that offered or changed it, and else when it is first due
+abbrev pub due_time : {C : Type 0} → List (Entry C) → Message → ℕ
+due_time lines m = (course_of lines m).due
 
 -- ---- the end of a queue
 
 -- whether an event closes the queue
 abbrev pub closes : {C : Type 0} → Event C → Bool
-closes (Opened uid settings) = false
-closes (Sent delay content) = false
-closes (Received timeout offered leaving target) = false
-closes (Changed number timeout) = false
-closes (Deleted number) = false
-closes DeletedAgain = false
-closes Purged = false
-closes (Set settings) = false
-closes (Refused fault) = false
-closes Closed = true
+closes event = (effect_of event).closes
 
 abbrev pub is_closed : {C : Type 0} → List (Entry C) → Bool
 is_closed lines = list_any (λ e. closes e.event) lines

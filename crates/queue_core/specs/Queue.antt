@@ -1,5 +1,5 @@
 -- The queue of one thread: what each command adds to the journal, and what answers it.
-use Rattle.std.specs.Prelude.{ℕ, ◌+◌, ◌-◌, ◌*◌, ◌==◌, ◌&&◌, min, take, map, option_map, nat_lt, nat_le, max, Bool, if◌then◌else◌, List, [], ◌∷◌, ◌++◌, length, Option, Some, None, unwrap_or, Result, Ok, Err}
+use Rattle.std.specs.Prelude.{◌≡◌, ℕ, ◌+◌, ◌-◌, ◌*◌, ◌==◌, ◌&&◌, min, take, map, option_map, nat_lt, nat_le, max, Bool, false, if◌then◌else◌, List, [], ◌∷◌, ◌++◌, length, Option, Some, None, is_some, unwrap_or, Result, Ok, Err}
 use Rattle.std.specs.List.{filter_map}
 use Rattle.message.specs.declared.fault.Fault.{Fault}
 use Rattle.message.specs.declared.fault.Fault.TheVariants.{QueueDoesNotExist, InvalidParameterValue, ReceiptHandleIsInvalid, MessageNotInflight, OverLimit, JournalFull}
@@ -38,6 +38,13 @@ at_moment q at = record q { clock = max q.clock at }
 pub record Outcome : Type 0 where
   pub event : Option (Event ContentText)
   pub reply : Result Reply Fault
+
+abbrev pub adds_entry : Outcome → Bool
+adds_entry outcome = is_some outcome.event
+
+-- what adds no entry wants no memory: its answer is the outcome's reply, and never want of memory in its place
+abbrev pub IsExact : Outcome → Result Reply Fault → Type 0
+IsExact outcome answer = adds_entry outcome ≡ false → answer ≡ outcome.reply
 
 -- refused, without an entry
 abbrev pub uncounted_refusal : Fault → Outcome

@@ -1,7 +1,7 @@
 //! What a queue is asked.
 
-ghost use Rattle.std.specs.Prelude.{◌≡◌, ◌≤◌};
-ghost use Rattle.queue_core.specs.Ranges.{delay_of, timeout_of, maximum_of};
+ghost use Rattle.std.specs.Prelude.{◌≡◌};
+ghost use Rattle.queue_core.specs.Ranges.{IsDelay, IsTimeout, IsMaximum, delay_of, timeout_of, maximum_of};
 
 use journal::Moment;
 use message::Content;
@@ -19,13 +19,14 @@ pub struct Delay {
 }
 
 impl Model for Delay {
-    ghost use Rattle.std.specs.Prelude.{ℕ, ◌≤◌};
+    ghost use Rattle.std.specs.Prelude.{ℕ};
+    ghost use Rattle.queue_core.specs.Ranges.{IsDelay};
 
     ghost Value = { ℕ };
 
     ghost view = { λ d. d.seconds };
 
-    ghost invariant = { λ d. d.seconds ≤ 900 };
+    ghost invariant = { λ d. IsDelay d.seconds };
 
     ghost inverse = { λ n. record { seconds = n } };
 }
@@ -45,7 +46,7 @@ impl Delay {
     /// How many seconds it is.
     pub fn seconds(self) -> u16
         ensures value { result ≡ self }
-        ensures range { result ≤ 900 }
+        ensures range { IsDelay result }
     {
         self.seconds
     }
@@ -62,13 +63,14 @@ pub struct Timeout {
 }
 
 impl Model for Timeout {
-    ghost use Rattle.std.specs.Prelude.{ℕ, ◌≤◌};
+    ghost use Rattle.std.specs.Prelude.{ℕ};
+    ghost use Rattle.queue_core.specs.Ranges.{IsTimeout};
 
     ghost Value = { ℕ };
 
     ghost view = { λ t. t.seconds };
 
-    ghost invariant = { λ t. t.seconds ≤ 43200 };
+    ghost invariant = { λ t. IsTimeout t.seconds };
 
     ghost inverse = { λ n. record { seconds = n } };
 }
@@ -88,7 +90,7 @@ impl Timeout {
     /// How many seconds it is.
     pub fn seconds(self) -> u32
         ensures value { result ≡ self }
-        ensures range { result ≤ 43200 }
+        ensures range { IsTimeout result }
     {
         self.seconds
     }
@@ -104,13 +106,14 @@ pub struct Maximum {
 }
 
 impl Model for Maximum {
-    ghost use Rattle.std.specs.Prelude.{ℕ, ◌≤◌};
+    ghost use Rattle.std.specs.Prelude.{ℕ};
+    ghost use Rattle.queue_core.specs.Ranges.{IsMaximum};
 
     ghost Value = { ℕ };
 
     ghost view = { λ m. m.messages };
 
-    ghost invariant = { λ m. (1 ≤ m.messages) × (m.messages ≤ 10) };
+    ghost invariant = { λ m. IsMaximum m.messages };
 
     ghost inverse = { λ n. record { messages = n } };
 }
@@ -130,8 +133,7 @@ impl Maximum {
     /// How many messages.
     pub fn messages(self) -> u8
         ensures value { result ≡ self }
-        ensures least { 1 ≤ result }
-        ensures most { result ≤ 10 }
+        ensures range { IsMaximum result }
     {
         self.messages
     }

@@ -10,6 +10,8 @@ ghost use Rattle.queue_core.specs.declared.command.Command.TheVariants.{Send, Re
 ghost use Rattle.queue_core.specs.Messages.{is_expired, created_time, modified_time};
 ghost use Rattle.queue_core.specs.States.{oldest_age, receive_order};
 ghost use Rattle.queue_core.specs.Queue.{at_moment, numbers_of, outcome_at, done, refusal, uncounted_refusal};
+ghost use Rattle.queue_core.specs.Queue.{QueueHistory};
+ghost use Rattle.queue_core.specs.Legal.{IsAllowedIn};
 ghost use Rattle.queue_core.specs.Examples as example;
 
 /// A message is delayed until it is due and in flight until its timeout ends. From that very
@@ -295,4 +297,13 @@ pub fn journals_come_of_commands()
     ensures clock_asked_to_fall { example.queue_after (example.queue 0 example.only_opened)
         (example.step 9000 Look ∷ example.step 8000 (Send example.letter_a None) ∷ [])
         ≡ example.queue 9000 example.sent_at_nine_seconds }
+{}
+
+/// No journal holds what is out of range: a client cannot send it.
+pub fn nothing_out_of_range_is_legal()
+    ensures delay { (q : QueueHistory) → IsAllowedIn q (Send example.hello (Some 901)) → ⊥ }
+    ensures empty_body { (q : QueueHistory) → IsAllowedIn q (Send example.empty None) → ⊥ }
+    ensures no_messages { (q : QueueHistory) → IsAllowedIn q (Receive 0 None) → ⊥ }
+    ensures eleven_messages { (q : QueueHistory) → IsAllowedIn q (Receive 11 None) → ⊥ }
+    ensures timeout { (q : QueueHistory) → IsAllowedIn q (Change (example.handle 1) 43201) → ⊥ }
 {}

@@ -17,6 +17,23 @@ pub struct Message {
     pub first_due_time: u64,
 }
 
+/// Whether a message is there.
+#[derive(Clone, Copy, Debug, PartialEq, Eq)]
+pub enum Status {
+    /// It is there, or has expired.
+    Present,
+    /// It was deleted, or was there when the queue was purged or closed.
+    Removed,
+}
+
+/// What has become of a message since its entry.
+#[derive(Clone, Copy, Debug, PartialEq, Eq)]
+pub struct Course {
+    pub status: Status,
+    /// When it is to be offered next, in milliseconds. It may pass the greatest moment.
+    pub due: u64,
+}
+
 /// The state of a live message, in the words of Amazon SQS.
 #[derive(Clone, Copy, Debug, PartialEq, Eq)]
 pub enum MessageState {

@@ -1,16 +1,27 @@
 //! Laws about the definitions in `specs/`, for every journal and every queue. Nothing runs here:
 //! each function is empty, and its contract is the law.
 
-ghost use Rattle.std.specs.Prelude.{◌≡◌, ◌≢◌, ℕ, ◌+◌, ◌-◌, min, count_by, List, ◌++◌, map, length, IsTrue};
+ghost use Rattle.std.specs.Prelude.{◌≡◌, ◌≢◌, ℕ, ◌+◌, ◌-◌, ◌*◌, ◌≤◌, min, true, count_by, List, [], ◌∷◌, ◌++◌, map, length, Option, Some, Result, Ok, Err, IsTrue};
 ghost use Rattle.std.specs.List.{All, AllPairs, Contains};
+ghost use Rattle.message.specs.declared.fault.Fault.{Fault};
+ghost use Rattle.message.specs.Fault.{Meets};
 ghost use Rattle.message.specs.Content.{ContentText};
 ghost use Rattle.journal.specs.declared.entry.Entry.{Entry};
+ghost use Rattle.journal.specs.declared.entry.Event.TheVariants.{Received};
+ghost use Rattle.queue_core.specs.declared.command.Command.{Command};
+ghost use Rattle.queue_core.specs.declared.command.Command.TheVariants.{Send, Look};
+ghost use Rattle.queue_core.specs.declared.command.Step.{Step};
+ghost use Rattle.queue_core.specs.declared.reply.Reply.{Reply};
+ghost use Rattle.queue_core.specs.declared.reply.Reply.TheVariants.{Sent, Looked};
+ghost use Rattle.queue_core.specs.declared.reply.Posted.{Posted};
 ghost use Rattle.queue_core.specs.declared.facts.Message.{Message};
 ghost use Rattle.queue_core.specs.declared.facts.Candidate.{Candidate};
 ghost use Rattle.queue_core.specs.declared.facts.MessageState.TheVariants.{Visible, Delayed, InFlight};
-ghost use Rattle.queue_core.specs.Messages.{messages, settings_of, receive_count};
+ghost use Rattle.queue_core.specs.Messages.{messages, settings_of, receive_count, is_removed, is_expired, due_time};
 ghost use Rattle.queue_core.specs.States.{is_live, is_in_state, count_in_state, gauges_of, candidate_of, receive_order};
-ghost use Rattle.queue_core.specs.Queue.{QueueHistory, in_flight_count, offered_candidates, offers_of, numbers_of};
+ghost use Rattle.queue_core.specs.Queue.{QueueHistory, at_moment, outcome_at, with_event, after_answer, look_of, in_flight_count, offered_candidates, offers_of, numbers_of};
+ghost use Rattle.queue_core.specs.Lasting.{StandsAs, content_numbered};
+ghost use Rattle.queue_core.specs.Run.{AreExact, after_all};
 ghost use Rattle.queue_core.specs.Mark.{mark_of};
 ghost use Rattle.queue_core.specs.Turns.{ComesBefore, remaining_candidates, IsVisibleCandidate};
 
@@ -85,4 +96,53 @@ pub fn each_live_message_is_in_one_state()
         → (count_in_state Visible lines clock + count_in_state Delayed lines clock)
         + count_in_state InFlight lines clock
         ≡ count_by (λ m. is_live lines clock m) (messages lines) }
+{}
+
+/// A call that is refused, or finds no memory, leaves the counts, the age, the order, the settings and
+/// what each handle may do as they are at its moment without it.
+pub fn refused_calls_change_nothing()
+    ensures stands { (q : QueueHistory) (at : ℕ) (command : Command) (fault : Fault)
+        → Meets {T = Reply} (Err fault) (outcome_at q at command).reply
+        → StandsAs (after_answer {T = Reply} q at command (Err fault)) (at_moment q at) }
+{}
+
+/// A message that is gone stays so, whatever commands follow, at whatever moments and with whatever
+/// answers: what was deleted, purged or closed away is never there again, and what has expired has
+/// expired for good.
+pub fn what_is_gone_stays_gone()
+    ensures removed { (q : QueueHistory) (steps : List Step) (answers : List (Result Reply Fault)) (m : Message)
+        → is_removed q.lines m ≡ true → is_removed (after_all q steps answers).lines m ≡ true }
+    ensures expired { (q : QueueHistory) (steps : List Step) (answers : List (Result Reply Fault)) (m : Message)
+        → is_expired q.lines q.clock m ≡ true
+        → is_expired (after_all q steps answers).lines (after_all q steps answers).clock m ≡ true }
+{}
+
+/// A look after a list of commands tells the counts, the age, the settings and the times that the
+/// definitions give for the journal which those commands leave, found by going through all of it.
+pub fn looks_tell_what_the_journal_says()
+    ensures look { (q : QueueHistory) (steps : List Step) (answers : List (Result Reply Fault)) (at : ℕ) (answer : Result Reply Fault)
+        → AreExact q (steps ++ record { at = at; command = Look } ∷ []) (answers ++ answer ∷ [])
+        → answer ≡ Ok (Looked (look_of (at_moment (after_all q steps answers) at))) }
+{}
+
+/// The number that answers a send is that of the content which was sent, and stays so whatever
+/// commands follow.
+pub fn numbers_name_contents()
+    ensures sent { (q : QueueHistory) (at : ℕ) (content : ContentText) (delay : Option ℕ) (posted : Posted)
+        → (outcome_at q at (Send content delay)).reply ≡ Ok (Sent posted)
+        → content_numbered (after_answer {T = Reply} q at (Send content delay) (Ok (Sent posted))).lines posted.number ≡ Some content }
+    ensures lasting { (q : QueueHistory) (steps : List Step) (answers : List (Result Reply Fault)) (number : ℕ) (content : ContentText)
+        → content_numbered q.lines number ≡ Some content
+        → content_numbered (after_all q steps answers).lines number ≡ Some content }
+{}
+
+/// A receive offers no message before its due time, and each that it offers is due again when the
+/// timeout that it is offered for ends.
+pub fn no_message_is_offered_early()
+    ensures due { (q : QueueHistory) (maximum : ℕ)
+        → All (λ c. due_time q.lines c.message ≤ q.clock) (offered_candidates q maximum) }
+    ensures due_again { (q : QueueHistory) (maximum timeout : ℕ) (c : Candidate)
+        → Contains (offered_candidates q maximum) c
+        → due_time (with_event q (Received timeout (numbers_of (offered_candidates q maximum)) [] 0)).lines c.message
+        ≡ q.clock + 1000 * timeout }
 {}

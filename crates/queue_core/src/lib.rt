@@ -4,13 +4,16 @@
 //! going through the journal. Each command's contract says that the clock never falls, which entry
 //! is added and what is answered, by the definitions in `specs/`:
 //!
-//! - `Messages`: the messages of a journal, their times, retention and expiry;
+//! - `Messages`: what each event does (`effect_of`), the messages of a journal, their times, retention
+//!   and expiry;
 //! - `States`: which messages are visible, delayed or in flight, the counts and the age;
 //! - `Queue`: the outcome of each command;
-//! - `Legal`: which journals a queue can have.
+//! - `Ranges`, `Legal`: what commands carry, and which journals a queue can have.
 //!
-//! Want of memory of a command moves the clock and nothing else. [`QueueState::run`] performs a list
-//! of commands: its answers are those of the definitions one after another.
+//! Want of memory of a command moves the clock and nothing else, and a command that adds no entry never
+//! wants memory. [`QueueState::run`] performs a list of commands: its answers are those of the
+//! definitions one after another. What follows from the definitions, as that no message is offered
+//! before its due time, stands in the laws, which are functions without a body.
 #![tactic(auto)]
 
 mod command;
@@ -18,6 +21,7 @@ pub mod examples;
 mod facts;
 mod gauges;
 mod laws;
+mod numbering;
 mod offers;
 mod order;
 mod reading;
@@ -25,8 +29,6 @@ mod reply;
 mod state;
 #[cfg(test)]
 mod tests;
-#[cfg(test)]
-mod tests_of_closing;
 
 pub use command::{
     Command, Delay, LONGEST_DELAY, LONGEST_TIMEOUT, MOST_OFFERS, Maximum, Step, Timeout,
@@ -34,8 +36,10 @@ pub use command::{
 pub use gauges::Gauges;
 pub use laws::{
     as_many_are_offered_as_may_be, each_live_message_is_in_one_state,
-    each_visible_message_has_its_turn, gauges_need_no_content, messages_need_no_content,
-    offers_are_the_first_in_order, replies_offer_what_lines_record,
+    each_visible_message_has_its_turn, gauges_need_no_content, looks_tell_what_the_journal_says,
+    messages_need_no_content, no_message_is_offered_early, numbers_name_contents,
+    offers_are_the_first_in_order, refused_calls_change_nothing, replies_offer_what_lines_record,
+    what_is_gone_stays_gone,
 };
 pub use offers::{Offer, Offers};
 pub use reply::{Look, Posted, Reply};

@@ -1,121 +1,92 @@
-//! What is found by going through a journal.
+//! What is found by going through a journal. A function that computes a definition of `specs/` has
+//! its name.
 
-ghost use Rattle.std.specs.Prelude.{◌≡◌, ◌-◌, ◌/◌, ◌<◌, ◌≤◌, length, slice_get, Some, if◌then◌else◌, ◌&&◌, option_and_then};
+ghost use Rattle.std.specs.Prelude.{◌≡◌, ◌-◌, ◌/◌, ◌≤◌, length, if◌then◌else◌, ◌&&◌};
 ghost use Rattle.std.specs.Option.{option_copied};
-ghost use Rattle.queue_core.specs.Messages.{message_of, content_in, message_count, settings_of, settings_after, created_time, modified_time, gives_settings, opens, closes_period, runs_out_in, is_expired, contains_number, offers_number, receive_count, first_receive_time, last_receive_time, due_after, due_time, removes_message, is_removed, closes, is_closed};
-ghost use Rattle.queue_core.specs.States.{is_live, waiting_state, state_of, same_state, is_in_state, count_in_state, oldest_age, gauges_of, message_numbered};
+ghost use Rattle.std.specs.List.{find};
+ghost use Rattle.queue_core.specs.Messages.{messages, content_of, message_count, settings_of, settings_after, created_time, modified_time, gives_settings, opens, closes_period, runs_out_in, is_expired, contains_number, offers_number, receive_count, first_receive_time, last_receive_time, status_after, due_after, course_after, course_of, due_time, is_removed, closes, is_closed};
+ghost use Rattle.queue_core.specs.States.{is_live, state_of, is_in_state, count_in_state, oldest_age, gauges_of, message_numbered};
 
-use crate::facts::{Message, MessageState};
+use crate::facts::{Course, Message, MessageState, Status};
 use crate::gauges::Gauges;
+use crate::numbering::{Messages, line_at};
 use journal::{Event, Journal, Line, Moment, Numbers};
 use message::Content;
 use queue_config::Settings;
 
-/// The line at a place.
-pub(crate) fn line_at(journal: &Journal, place: usize) -> &Line
-    requires { place < length journal.now.lines }
-    ensures { slice_get journal.now.lines place ≡ Some result.now }
-{
-    match journal.peek(place) {
-        Some(line) => line,
-        None => unreachable!(),
-    }
-}
-
-/// The message that a line begins, if it begins one.
-pub(crate) fn message_at(line: &Line, place: usize, number: u64) -> Option<Message>
-    ensures { result ≡ message_of place number line.now.at line.now.event }
-{
-    match &line.event {
-        Event::Sent { delay, .. } => Some(Message {
-            number,
-            place,
-            enqueue_time: line.at,
-            first_send_time: line.at,
-            first_due_time: line.at.milliseconds() + 1000 * u64::from(*delay),
-        }),
-        Event::Opened { .. }
-        | Event::Received { .. }
-        | Event::Changed { .. }
-        | Event::Deleted { .. }
-        | Event::DeletedAgain
-        | Event::Purged
-        | Event::Set { .. }
-        | Event::Refused { .. }
-        | Event::Closed => None,
-    }
-}
-
 /// How many messages there are.
-pub(crate) fn count_messages(journal: &Journal) -> u64
+pub(crate) fn message_count(journal: &Journal) -> u64
     ensures { result ≡ message_count journal.now.lines }
 {
-    let mut count = 0;
-    for place in 0..journal.len() {
-        match message_at(line_at(journal, place), place, count) {
-            Some(_message) => count += 1,
-            None => {}
-        }
+    Messages::of(journal).count() as u64
+}
+
+/// The message of a number.
+pub(crate) fn message_numbered(journal: &Journal, number: u64) -> Option<Message>
+    ensures { result ≡ message_numbered journal.now.lines number }
+{
+    Messages::of(journal).nth(number as usize)
+}
+
+/// The content of a message.
+pub(crate) fn content_of<'a>(journal: &'a Journal, message: &Message) -> Option<&'a Content>
+    ensures { option_copied result ≡ content_of journal.now.lines message.now }
+{
+    match &journal.peek(message.place)?.event {
+        Event::Sent { content, .. } => Some(content),
+        _ => None,
     }
-    count
 }
 
 /// The settings after an event.
-fn settings_following(settings: Settings, event: &Event<Content>) -> Settings
+fn settings_after(settings: Settings, event: &Event<Content>) -> Settings
     ensures { result ≡ settings_after settings event.now }
 {
     match event {
         Event::Opened { settings, .. } | Event::Set { settings } => *settings,
-        Event::Sent { .. }
-        | Event::Received { .. }
-        | Event::Changed { .. }
-        | Event::Deleted { .. }
-        | Event::DeletedAgain
-        | Event::Purged
-        | Event::Refused { .. }
-        | Event::Closed => settings,
+        _ => settings,
     }
 }
 
 /// The settings in force.
-pub(crate) fn current_settings(journal: &Journal) -> Settings
+pub(crate) fn settings_of(journal: &Journal) -> Settings
     ensures { result ≡ settings_of journal.now.lines }
 {
     let mut settings = Settings::default();
     for place in 0..journal.len() {
-        settings = settings_following(settings, &line_at(journal, place).event);
+        settings = settings_after(settings, &line_at(journal, place).event);
     }
     settings
 }
 
 /// Whether an event opens the queue.
-fn is_opening(event: &Event<Content>) -> bool
+fn opens(event: &Event<Content>) -> bool
     ensures { result ≡ opens event.now }
 {
     matches!(event, Event::Opened { .. })
 }
 
 /// Whether an event gives the queue its settings.
-fn is_change_of_settings(event: &Event<Content>) -> bool
+fn gives_settings(event: &Event<Content>) -> bool
     ensures { result ≡ gives_settings event.now }
 {
     matches!(event, Event::Opened { .. } | Event::Set { .. })
 }
 
 /// Whether an event ends a retention period.
-fn is_end_of_period(event: &Event<Content>) -> bool
+fn closes_period(event: &Event<Content>) -> bool
     ensures { result ≡ closes_period event.now }
 {
     matches!(event, Event::Set { .. })
 }
 
 /// When the queue was opened.
-pub(crate) fn creation(journal: &Journal) -> Moment
+pub(crate) fn created_time(journal: &Journal) -> Moment
     ensures { result ≡ created_time journal.now.lines }
 {
     for place in 0..journal.len() {
         let line = line_at(journal, place);
-        if is_opening(&line.event) {
+        if opens(&line.event) {
             return line.at;
         }
     }
@@ -123,10 +94,10 @@ pub(crate) fn creation(journal: &Journal) -> Moment
 }
 
 /// When the queue last got settings, after a line.
-fn modification_following(time: Moment, line: &Line) -> Moment
+fn modified_after(time: Moment, line: &Line) -> Moment
     ensures { result ≡ (if gives_settings line.now.event then line.now.at else time) }
 {
-    if is_change_of_settings(&line.event) {
+    if gives_settings(&line.event) {
         line.at
     } else {
         time
@@ -134,19 +105,19 @@ fn modification_following(time: Moment, line: &Line) -> Moment
 }
 
 /// When the queue last got settings.
-pub(crate) fn modification(journal: &Journal) -> Moment
+pub(crate) fn modified_time(journal: &Journal) -> Moment
     ensures { result ≡ modified_time journal.now.lines }
 {
     let mut time = Moment::zero();
     for place in 0..journal.len() {
-        time = modification_following(time, line_at(journal, place));
+        time = modified_after(time, line_at(journal, place));
     }
     time
 }
 
 /// Whether the message's retention runs out in a period of these settings, which ends at a time, by
 /// the entry at a place.
-fn runs_out(message: &Message, settings: Settings, end: Moment, closing: usize) -> bool
+fn runs_out_in(message: &Message, settings: Settings, end: Moment, closing: usize) -> bool
     ensures { result
         ≡ runs_out_in message.now (record { retention = settings.retention_seconds; end = end; closing = closing }) }
 {
@@ -160,11 +131,11 @@ fn runs_out_at(message: &Message, settings: Settings, line: &Line, place: usize)
     ensures { result
         ≡ (closes_period line.now.event && runs_out_in message.now (record { retention = settings.retention_seconds; end = line.now.at; closing = place })) }
 {
-    is_end_of_period(&line.event) && runs_out(message, settings, line.at, place)
+    closes_period(&line.event) && runs_out_in(message, settings, line.at, place)
 }
 
 /// Whether the message's retention has run out.
-fn has_expired(journal: &Journal, clock: Moment, message: &Message) -> bool
+fn is_expired(journal: &Journal, clock: Moment, message: &Message) -> bool
     ensures { result ≡ is_expired journal.now.lines clock message.now }
 {
     let mut settings = Settings::default();
@@ -173,44 +144,36 @@ fn has_expired(journal: &Journal, clock: Moment, message: &Message) -> bool
         if runs_out_at(message, settings, line, place) {
             return true;
         }
-        settings = settings_following(settings, &line.event);
+        settings = settings_after(settings, &line.event);
     }
-    runs_out(message, settings, clock, journal.len())
+    runs_out_in(message, settings, clock, journal.len())
 }
 
 /// Whether a number is in the list.
-fn contains(numbers: &Numbers, number: u64) -> bool
+fn contains_number(numbers: &Numbers, number: u64) -> bool
     ensures { result ≡ contains_number number numbers.now }
 {
     numbers.as_slice().iter().any(|other| *other == number)
 }
 
 /// Whether an event offers the message of a number.
-fn is_offer_of(event: &Event<Content>, number: u64) -> bool
+fn offers_number(event: &Event<Content>, number: u64) -> bool
     ensures { result ≡ offers_number number event.now }
 {
     match event {
-        Event::Received { offered, .. } => contains(offered, number),
-        Event::Opened { .. }
-        | Event::Sent { .. }
-        | Event::Changed { .. }
-        | Event::Deleted { .. }
-        | Event::DeletedAgain
-        | Event::Purged
-        | Event::Set { .. }
-        | Event::Refused { .. }
-        | Event::Closed => false,
+        Event::Received { offered, .. } => contains_number(offered, number),
+        _ => false,
     }
 }
 
 /// How often the message of a number was received.
-pub(crate) fn count_receives(journal: &Journal, number: u64) -> u64
+pub(crate) fn receive_count(journal: &Journal, number: u64) -> u64
     ensures count { result ≡ receive_count journal.now.lines number }
     ensures within { result ≤ length journal.now.lines }
 {
     let mut count = 0;
     for place in 0..journal.len() {
-        if is_offer_of(&line_at(journal, place).event, number) {
+        if offers_number(&line_at(journal, place).event, number) {
             count += 1;
         }
     }
@@ -218,12 +181,12 @@ pub(crate) fn count_receives(journal: &Journal, number: u64) -> u64
 }
 
 /// When the message of a number was first received.
-pub(crate) fn first_receive(journal: &Journal, number: u64) -> Option<Moment>
+pub(crate) fn first_receive_time(journal: &Journal, number: u64) -> Option<Moment>
     ensures { result ≡ first_receive_time journal.now.lines number }
 {
     for place in 0..journal.len() {
         let line = line_at(journal, place);
-        if is_offer_of(&line.event, number) {
+        if offers_number(&line.event, number) {
             return Some(line.at);
         }
     }
@@ -231,10 +194,10 @@ pub(crate) fn first_receive(journal: &Journal, number: u64) -> Option<Moment>
 }
 
 /// When the message of a number was last received, after a line.
-fn last_receive_following(time: Moment, line: &Line, number: u64) -> Moment
+fn last_receive_after(time: Moment, line: &Line, number: u64) -> Moment
     ensures { result ≡ (if offers_number number line.now.event then line.now.at else time) }
 {
-    if is_offer_of(&line.event, number) {
+    if offers_number(&line.event, number) {
         line.at
     } else {
         time
@@ -242,102 +205,102 @@ fn last_receive_following(time: Moment, line: &Line, number: u64) -> Moment
 }
 
 /// When the message of a number was last received, 0 where it never was.
-pub(crate) fn last_receive(journal: &Journal, number: u64) -> Moment
+pub(crate) fn last_receive_time(journal: &Journal, number: u64) -> Moment
     ensures { result ≡ last_receive_time journal.now.lines number }
 {
     let mut time = Moment::zero();
     for place in 0..journal.len() {
-        time = last_receive_following(time, line_at(journal, place), number);
+        time = last_receive_after(time, line_at(journal, place), number);
     }
     time
 }
 
-/// When the message of a number is due, after a line.
-fn due_following(due: u64, line: &Line, number: u64) -> u64
-    ensures { result ≡ due_after number due line.now.at line.now.event }
+/// Where the message of a number stands after an event.
+fn status_after(number: u64, status: Status, event: &Event<Content>) -> Status
+    ensures { result ≡ status_after number status event.now }
 {
-    let at = line.at.milliseconds();
-    match &line.event {
+    match (status, event) {
+        (Status::Present, Event::Deleted { number: deleted }) if *deleted == number =>
+            Status::Removed,
+        (Status::Present, Event::Purged | Event::Closed) => Status::Removed,
+        _ => status,
+    }
+}
+
+/// When the message of a number is due, in milliseconds, after an event at a time.
+fn due_after(number: u64, due: u64, at: Moment, event: &Event<Content>) -> u64
+    ensures { result ≡ due_after number due at event.now }
+{
+    let at = at.milliseconds();
+    match event {
         Event::Received {
             timeout,
             offered,
             ..
-        } if contains(offered, number) => { at + 1000 * u64::from(*timeout) }
+        } if contains_number(offered, number) => at + 1000 * u64::from(*timeout),
         Event::Changed {
             number: changed,
             timeout,
-        } if *changed == number => { at + 1000 * u64::from(*timeout) }
-        Event::Received { .. }
-        | Event::Changed { .. }
-        | Event::Opened { .. }
-        | Event::Sent { .. }
-        | Event::Deleted { .. }
-        | Event::DeletedAgain
-        | Event::Purged
-        | Event::Set { .. }
-        | Event::Refused { .. }
-        | Event::Closed => due,
+        } if *changed == number => at + 1000 * u64::from(*timeout),
+        _ => due,
     }
+}
+
+/// What has become of the message of a number after a line.
+fn course_after(number: u64, course: Course, line: &Line) -> Course
+    ensures { result ≡ course_after number course line.now }
+{
+    Course {
+        status: status_after(number, course.status, &line.event),
+        due: due_after(number, course.due, line.at, &line.event),
+    }
+}
+
+/// What has become of a message.
+fn course_of(journal: &Journal, message: &Message) -> Course
+    ensures { result ≡ course_of journal.now.lines message.now }
+{
+    let mut course = Course {
+        status: Status::Present,
+        due: message.first_due_time,
+    };
+    for place in message.place..journal.len() {
+        course = course_after(message.number, course, line_at(journal, place));
+    }
+    course
 }
 
 /// When a message is to be offered next, in milliseconds.
-pub(crate) fn due(journal: &Journal, message: &Message) -> u64
+pub(crate) fn due_time(journal: &Journal, message: &Message) -> u64
     ensures { result ≡ due_time journal.now.lines message.now }
 {
-    let mut due = message.first_due_time;
-    for place in 0..journal.len() {
-        due = due_following(due, line_at(journal, place), message.number);
-    }
-    due
-}
-
-/// Whether the event at a place removes a message for good.
-fn is_removal_of(event: &Event<Content>, place: usize, message: &Message) -> bool
-    ensures { result ≡ removes_message message.now place event.now }
-{
-    match event {
-        Event::Deleted { number } => *number == message.number,
-        Event::Purged => message.place < place,
-        Event::Closed => true,
-        Event::Opened { .. }
-        | Event::Sent { .. }
-        | Event::Received { .. }
-        | Event::Changed { .. }
-        | Event::DeletedAgain
-        | Event::Set { .. }
-        | Event::Refused { .. } => false,
-    }
+    course_of(journal, message).due
 }
 
 /// Whether a message was deleted, purged, or gone with its queue.
-fn was_removed(journal: &Journal, message: &Message) -> bool
+fn is_removed(journal: &Journal, message: &Message) -> bool
     ensures { result ≡ is_removed journal.now.lines message.now }
 {
-    for place in 0..journal.len() {
-        if is_removal_of(&line_at(journal, place).event, place, message) {
-            return true;
-        }
-    }
-    false
+    matches!(course_of(journal, message).status, Status::Removed)
 }
 
 /// Whether a message was neither removed nor has expired.
-pub(crate) fn is_alive(journal: &Journal, clock: Moment, message: &Message) -> bool
+pub(crate) fn is_live(journal: &Journal, clock: Moment, message: &Message) -> bool
     ensures { result ≡ is_live journal.now.lines clock message.now }
 {
-    !was_removed(journal, message) && !has_expired(journal, clock, message)
+    !is_removed(journal, message) && !is_expired(journal, clock, message)
 }
 
 /// The state of a message, where it is live.
-fn state(journal: &Journal, clock: Moment, message: &Message) -> Option<MessageState>
+fn state_of(journal: &Journal, clock: Moment, message: &Message) -> Option<MessageState>
     ensures { result ≡ state_of journal.now.lines clock message.now }
 {
-    if !is_alive(journal, clock, message) {
+    if !is_live(journal, clock, message) {
         return None;
     }
-    if due(journal, message) <= clock.milliseconds() {
+    if due_time(journal, message) <= clock.milliseconds() {
         Some(MessageState::Visible)
-    } else if count_receives(journal, message.number) == 0 {
+    } else if receive_count(journal, message.number) == 0 {
         Some(MessageState::Delayed)
     } else {
         Some(MessageState::InFlight)
@@ -345,97 +308,48 @@ fn state(journal: &Journal, clock: Moment, message: &Message) -> Option<MessageS
 }
 
 /// Whether a message is in the state.
-pub(crate) fn has_state(
+pub(crate) fn is_in_state(
+    state: MessageState,
     journal: &Journal,
     clock: Moment,
     message: &Message,
-    wanted: MessageState,
 ) -> bool
-    ensures { result ≡ is_in_state wanted journal.now.lines clock message.now }
+    ensures { result ≡ is_in_state state journal.now.lines clock message.now }
 {
-    match state(journal, clock, message) {
+    match state_of(journal, clock, message) {
         None => false,
-        Some(MessageState::Visible) => matches!(wanted, MessageState::Visible),
-        Some(MessageState::Delayed) => matches!(wanted, MessageState::Delayed),
-        Some(MessageState::InFlight) => matches!(wanted, MessageState::InFlight),
+        Some(MessageState::Visible) => matches!(state, MessageState::Visible),
+        Some(MessageState::Delayed) => matches!(state, MessageState::Delayed),
+        Some(MessageState::InFlight) => matches!(state, MessageState::InFlight),
     }
-}
-
-/// The message of a number.
-pub(crate) fn numbered(journal: &Journal, wanted: u64) -> Option<Message>
-    ensures { result ≡ message_numbered journal.now.lines wanted }
-{
-    let mut number = 0;
-    for place in 0..journal.len() {
-        match message_at(line_at(journal, place), place, number) {
-            Some(message) => {
-                if number == wanted {
-                    return Some(message);
-                }
-                number += 1;
-            }
-            None => {}
-        }
-    }
-    None
 }
 
 /// Whether an event closes the queue.
-fn is_closing(event: &Event<Content>) -> bool
+fn closes(event: &Event<Content>) -> bool
     ensures { result ≡ closes event.now }
 {
     matches!(event, Event::Closed)
 }
 
 /// Whether the queue was closed.
-pub(crate) fn has_closed(journal: &Journal) -> bool
+pub(crate) fn is_closed(journal: &Journal) -> bool
     ensures { result ≡ is_closed journal.now.lines }
 {
     for place in 0..journal.len() {
-        if is_closing(&line_at(journal, place).event) {
+        if closes(&line_at(journal, place).event) {
             return true;
         }
     }
     false
 }
 
-/// The content that the line at a place brings.
-pub(crate) fn content_at(journal: &Journal, place: usize) -> Option<&Content>
-    ensures { option_copied result
-        ≡ option_and_then (λ e. content_in e.event) (slice_get journal.now.lines place) }
-{
-    match &journal.peek(place)?.event {
-        Event::Sent { content, .. } => Some(content),
-        Event::Opened { .. }
-        | Event::Received { .. }
-        | Event::Changed { .. }
-        | Event::Deleted { .. }
-        | Event::DeletedAgain
-        | Event::Purged
-        | Event::Set { .. }
-        | Event::Refused { .. }
-        | Event::Closed => None,
-    }
-}
-
 /// How many messages are in the state.
-pub(crate) fn count_having_state(journal: &Journal, clock: Moment, wanted: MessageState) -> u64
-    ensures { result ≡ count_in_state wanted journal.now.lines clock }
+pub(crate) fn count_in_state(state: MessageState, journal: &Journal, clock: Moment) -> u64
+    ensures { result ≡ count_in_state state journal.now.lines clock }
 {
-    let mut number = 0;
-    let mut count = 0;
-    for place in 0..journal.len() {
-        match message_at(line_at(journal, place), place, number) {
-            Some(message) => {
-                number += 1;
-                if has_state(journal, clock, &message, wanted) {
-                    count += 1;
-                }
-            }
-            None => {}
-        }
-    }
-    count
+    Messages::of(journal)
+        .filter(|message| is_in_state(state, journal, clock, message))
+        .count() as u64
 }
 
 /// Whole seconds from one time to a later one.
@@ -445,33 +359,31 @@ fn seconds_between(from: Moment, to: Moment) -> u64
     to.milliseconds().saturating_sub(from.milliseconds()) / 1000
 }
 
+/// The first live message.
+fn oldest_message(journal: &Journal, clock: Moment) -> Option<Message>
+    ensures { result ≡ find (λ m. is_live journal.now.lines clock m) (messages journal.now.lines) }
+{
+    Messages::of(journal).find(|message| is_live(journal, clock, message))
+}
+
 /// Whole seconds since the first live message came, 0 where none is live.
-fn age(journal: &Journal, clock: Moment) -> u64
+fn oldest_age(journal: &Journal, clock: Moment) -> u64
     ensures { result ≡ oldest_age journal.now.lines clock }
 {
-    let mut number = 0;
-    for place in 0..journal.len() {
-        match message_at(line_at(journal, place), place, number) {
-            Some(message) => {
-                number += 1;
-                if is_alive(journal, clock, &message) {
-                    return seconds_between(message.enqueue_time, clock);
-                }
-            }
-            None => {}
-        }
+    match oldest_message(journal, clock) {
+        Some(message) => seconds_between(message.enqueue_time, clock),
+        None => 0,
     }
-    0
 }
 
 /// The counts and the age at a time.
-pub(crate) fn gauges(journal: &Journal, clock: Moment) -> Gauges
+pub(crate) fn gauges_of(journal: &Journal, clock: Moment) -> Gauges
     ensures { result ≡ gauges_of journal.now.lines clock }
 {
     Gauges {
-        visible: count_having_state(journal, clock, MessageState::Visible),
-        delayed: count_having_state(journal, clock, MessageState::Delayed),
-        in_flight: count_having_state(journal, clock, MessageState::InFlight),
-        age: age(journal, clock),
+        visible: count_in_state(MessageState::Visible, journal, clock),
+        delayed: count_in_state(MessageState::Delayed, journal, clock),
+        in_flight: count_in_state(MessageState::InFlight, journal, clock),
+        age: oldest_age(journal, clock),
     }
 }

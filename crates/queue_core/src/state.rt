@@ -1,9 +1,11 @@
 //! A queue, kept as its journal and a clock.
 
-ghost use Rattle.std.specs.Prelude.{◌≡◌, ◌-◌, ◌<◌, ◌≤◌, ◌^◌, nat_lt, nat_le, false, if◌then◌else◌, unwrap_or, IfOk, OnOk, OnErr, IfErr};
+ghost use Rattle.std.specs.Prelude.{◌≡◌, ◌-◌, ◌<◌, ◌≤◌, ◌^◌, ◌≢◌, nat_lt, nat_le, false, if◌then◌else◌, unwrap_or, Some, None, IsTrue, IfSome, IfOk, OnOk, OnErr, IfErr};
 ghost use Rattle.std.specs.Option.{ForSome};
-ghost use Rattle.message.specs.Fault.{Meets};
-ghost use Rattle.message.specs.Content.{content_size};
+ghost use Rattle.message.specs.declared.fault.Fault.TheVariants.{OutOfMemory};
+ghost use Rattle.message.specs.Fault.{Meets, is_out_of_memory};
+ghost use Rattle.message.specs.Content.{content_size, is_content};
+ghost use Rattle.queue_config.specs.Settings.{AreSettings, settings_with};
 
 use crate::command::{Command, Step};
 use crate::facts::{Candidate, MessageState};
@@ -44,14 +46,15 @@ impl Model for QueueState {
 }
 
 impl QueueState {
-    ghost use Rattle.journal.specs.declared.entry.Event.TheVariants.{Deleted, DeletedAgain};
+    ghost use Rattle.journal.specs.declared.entry.Event.TheVariants.{Deleted, DeletedAgain, Refused};
     ghost use Rattle.queue_core.specs.declared.facts.MessageState.TheVariants.{InFlight};
     ghost use Rattle.queue_core.specs.Messages.{is_closed, message_count, content_of, settings_of, receive_count, first_receive_time};
     ghost use Rattle.queue_core.specs.States.{is_live, is_in_state, is_numbered, gauges_of};
-    ghost use Rattle.queue_core.specs.Queue.{at_moment, is_full, first_refusal, in_flight_count, offered_candidates, offer_of, offers_of, is_valid_handle, is_latest_handle, holds_live, passes_twelve_hours, change_refusal, look_of, outcome_at, with_event, after_answer, as_reply};
+    ghost use Rattle.queue_core.specs.Queue.{at_moment, is_full, first_refusal, in_flight_count, offered_candidates, offer_of, offers_of, is_valid_handle, is_latest_handle, holds_in_flight, holds_live, passes_twelve_hours, change_refusal, look_of, outcome_at, IsExact, with_event, after_answer, as_reply};
+    ghost use Rattle.queue_core.specs.Ranges.{IsDelay, IsTimeout, IsMaximum};
     ghost use Rattle.queue_core.specs.Legal.{IsLegal, IsCausedIn};
     ghost use Rattle.queue_core.specs.Kept.{opened_queue};
-    ghost use Rattle.queue_core.specs.Run.{AreAnswers, after_all};
+    ghost use Rattle.queue_core.specs.Run.{AreAnswers, AreExact, after_all};
 
     /// Opens a queue. `OutOfMemory` is the only refusal.
     pub fn open(
@@ -65,6 +68,8 @@ impl QueueState {
         ensures { Meets result (Ok (opened_queue uid name settings limits at)) }
     {
         let mut journal = Journal::new(alloc, limits.max_lines as usize + 1)?;
+        // A field that is read tells the proof that the numbers are in range.
+        let _seconds = settings.delay_seconds;
         let event = Event::Opened { uid, settings };
         journal.push(alloc, Entry { at, event })?;
         Ok(QueueState {
@@ -84,7 +89,7 @@ impl QueueState {
     }
 
     /// Whether the journal has as many entries as it may have.
-    fn has_no_room(&self) -> bool
+    fn is_full(&self) -> bool
         ensures { result ≡ is_full self.now }
     {
         self.limits.max_lines as usize <= self.journal.len()
@@ -94,7 +99,7 @@ impl QueueState {
     fn is_closed(&self) -> bool
         ensures { result ≡ is_closed self.now.lines }
     {
-        reading::has_closed(&self.journal)
+        reading::is_closed(&self.journal)
     }
 
     /// What refuses a command before anything of it is asked.
@@ -104,10 +109,24 @@ impl QueueState {
         if self.is_closed() {
             return Some(Fault::QueueDoesNotExist);
         }
-        if self.has_no_room() {
+        if self.is_full() {
             return Some(Fault::JournalFull);
         }
         None
+    }
+
+    /// Moves the clock, and refuses what comes to a closed queue or a full journal. It takes no
+    /// memory.
+    fn begin(&mut self, at: Moment) -> Result<(), Fault>
+        ensures state { self.new ≡ at_moment self.old at }
+        ensures ok { OnOk result (first_refusal self.new ≡ None) }
+        ensures refused { IfErr result (λ fault. first_refusal self.new ≡ Some fault) }
+    {
+        self.move_to(at);
+        match self.first_refusal() {
+            Some(fault) => Err(fault),
+            None => Ok(()),
+        }
     }
 
     /// The uid that it was opened with.
@@ -128,13 +147,14 @@ impl QueueState {
     pub fn settings(&self) -> Settings
         ensures { result ≡ settings_of self.now.lines }
     {
-        reading::current_settings(&self.journal)
+        reading::settings_of(&self.journal)
     }
 
     /// Whether a content is larger than the queue takes.
     fn is_too_large(&self, content: &Content) -> bool
-        ensures { result
+        ensures size { result
             ≡ nat_lt (settings_of self.now.lines).maximum_message_size (content_size content.now) }
+        ensures allowed { IsTrue (is_content content.now) }
     {
         u64::from(self.settings().maximum_message_size) < content.size()
     }
@@ -147,53 +167,53 @@ impl QueueState {
     }
 
     /// The number of the next message.
-    fn next_number(&self) -> u64
+    fn message_count(&self) -> u64
         ensures { result ≡ message_count self.now.lines }
     {
-        reading::count_messages(&self.journal)
+        reading::message_count(&self.journal)
     }
 
     /// Whether as many messages are in flight as may be.
     fn is_at_in_flight_limit(&self) -> bool
         ensures { result ≡ nat_le self.now.limits.in_flight (in_flight_count self.now) }
     {
-        u64::from(self.limits.in_flight) <= self.count_in_flight()
+        u64::from(self.limits.in_flight) <= self.in_flight_count()
     }
 
     /// How many messages are in flight.
-    fn count_in_flight(&self) -> u64
+    fn in_flight_count(&self) -> u64
         ensures { result ≡ in_flight_count self.now }
     {
-        reading::count_having_state(&self.journal, self.clock, MessageState::InFlight)
+        reading::count_in_state(MessageState::InFlight, &self.journal, self.clock)
     }
 
     /// How many more messages may be in flight.
     fn free_in_flight(&self) -> u64
         ensures { result ≡ self.now.limits.in_flight - in_flight_count self.now }
     {
-        u64::from(self.limits.in_flight).saturating_sub(self.count_in_flight())
+        u64::from(self.limits.in_flight).saturating_sub(self.in_flight_count())
     }
 
     /// The messages that a receive of at most so many offers, in order.
-    fn candidates(&self, alloc: Global, maximum: u8) -> Result<Vec<Candidate>, Fault>
+    fn offered_candidates(&self, alloc: Global, maximum: u8) -> Result<Vec<Candidate>, Fault>
         ensures ok { IfOk result (λ candidates. candidates.items ≡ offered_candidates self.now maximum) }
-        ensures errors { IfErr result (λ fault. fault ≡ Fault.OutOfMemory) }
+        ensures errors { IfErr result (λ fault. fault ≡ OutOfMemory) }
     {
         let most = u64::from(maximum).min(self.free_in_flight());
-        let mut order = order::visible_in_order(alloc, &self.journal, self.clock)?;
+        let mut order = order::receive_order(alloc, &self.journal, self.clock)?;
         order.truncate(most as usize);
         Ok(order)
     }
 
     /// The offer of a message with its content.
-    fn offer(&self, candidate: &Candidate, content: Content) -> Offer
+    fn offer_of(&self, candidate: &Candidate, content: Content) -> Offer
         ensures { result ≡ offer_of self.now candidate.now content }
     {
         let number = candidate.message.number;
         Offer {
             number,
-            receipt: self.count_receives(number) + 1,
-            id: self.id_of(number),
+            receipt: self.receive_count(number) + 1,
+            id: self.message_id(number),
             sent: candidate.message.first_send_time,
             first_receive: self.first_receive_or_now(number),
             source: None,
@@ -202,31 +222,31 @@ impl QueueState {
     }
 
     /// How often the message of a number was received.
-    fn count_receives(&self, number: u64) -> u64
+    fn receive_count(&self, number: u64) -> u64
         ensures count { result ≡ receive_count self.now.lines number }
         ensures small { result < 2 ^ 63 }
     {
         // The journal has at most one entry more than this, a number of 32 bits.
         let _most = self.limits.max_lines;
-        reading::count_receives(&self.journal, number)
+        reading::receive_count(&self.journal, number)
     }
 
     /// When the message of a number was first received, where this is the first time now.
     fn first_receive_or_now(&self, number: u64) -> Moment
         ensures { result ≡ unwrap_or (first_receive_time self.now.lines number) self.now.clock }
     {
-        reading::first_receive(&self.journal, number).unwrap_or(self.clock)
+        reading::first_receive_time(&self.journal, number).unwrap_or(self.clock)
     }
 
     /// The offers of the candidates.
-    fn offers(&self, alloc: Global, candidates: &[Candidate]) -> Result<Offers, Fault>
+    fn offers_of(&self, alloc: Global, candidates: &[Candidate]) -> Result<Offers, Fault>
         ensures ok { IfOk result (λ offers. offers ≡ offers_of self.now candidates.now) }
-        ensures errors { IfErr result (λ fault. fault ≡ Fault.OutOfMemory) }
+        ensures errors { IfErr result (λ fault. fault ≡ OutOfMemory) }
     {
         let mut offers = Offers::new(alloc);
         for candidate in candidates {
             match self.content_of(candidate)? {
-                Some(content) => offers.push(self.offer(candidate, content))?,
+                Some(content) => offers.push(self.offer_of(candidate, content))?,
                 None => {}
             }
         }
@@ -236,9 +256,9 @@ impl QueueState {
     /// A share of the content of a message.
     fn content_of(&self, candidate: &Candidate) -> Result<Option<Content>, Fault>
         ensures ok { IfOk result (λ content. content ≡ content_of self.now.lines candidate.now.message) }
-        ensures errors { IfErr result (λ fault. fault ≡ Fault.OutOfMemory) }
+        ensures errors { IfErr result (λ fault. fault ≡ OutOfMemory) }
     {
-        match reading::content_at(&self.journal, candidate.message.place) {
+        match reading::content_of(&self.journal, &candidate.message) {
             Some(content) => Ok(Some(content.share()?)),
             None => Ok(None),
         }
@@ -252,20 +272,20 @@ impl QueueState {
     }
 
     /// Whether this queue gave the handle.
-    fn is_valid(&self, handle: &Handle) -> bool
+    fn is_valid_handle(&self, handle: &Handle) -> bool
         ensures { result ≡ is_valid_handle self.now handle.now }
     {
         handle.uid == self.uid
-            && handle.number < self.next_number()
+            && handle.number < self.message_count()
             && 1 <= handle.receipt
-            && handle.receipt <= self.count_receives(handle.number)
+            && handle.receipt <= self.receive_count(handle.number)
     }
 
     /// Whether it is the handle of the message's latest receive.
-    fn is_latest(&self, handle: &Handle) -> bool
+    fn is_latest_handle(&self, handle: &Handle) -> bool
         ensures { result ≡ is_latest_handle self.now handle.now }
     {
-        handle.receipt == self.count_receives(handle.number)
+        handle.receipt == self.receive_count(handle.number)
     }
 
     /// Whether the message of a number is in flight.
@@ -273,36 +293,50 @@ impl QueueState {
         ensures { result
             ≡ is_numbered (λ m. is_in_state InFlight self.now.lines self.now.clock m) self.now.lines number }
     {
-        match reading::numbered(&self.journal, number) {
+        match reading::message_numbered(&self.journal, number) {
             Some(message) => {
-                reading::has_state(&self.journal, self.clock, &message, MessageState::InFlight)
+                reading::is_in_state(MessageState::InFlight, &self.journal, self.clock, &message)
             }
             None => false,
         }
     }
 
     /// Whether the message of a number is live.
-    fn is_alive(&self, number: u64) -> bool
+    fn is_live(&self, number: u64) -> bool
         ensures { result
             ≡ is_numbered (λ m. is_live self.now.lines self.now.clock m) self.now.lines number }
     {
-        match reading::numbered(&self.journal, number) {
-            Some(message) => reading::is_alive(&self.journal, self.clock, &message),
+        match reading::message_numbered(&self.journal, number) {
+            Some(message) => reading::is_live(&self.journal, self.clock, &message),
             None => false,
         }
     }
 
+    /// Whether it is the latest handle of a message in flight.
+    fn holds_in_flight(&self, handle: &Handle) -> bool
+        ensures { result ≡ holds_in_flight self.now handle.now }
+    {
+        self.is_in_flight(handle.number) && self.is_latest_handle(handle)
+    }
+
+    /// Whether it is the latest handle of a live message.
+    fn holds_live(&self, handle: &Handle) -> bool
+        ensures { result ≡ holds_live self.now handle.now }
+    {
+        self.is_live(handle.number) && self.is_latest_handle(handle)
+    }
+
     /// Whether a timeout in seconds from now on ends later than twelve hours after the last
     /// receive.
-    fn is_too_long(&self, number: u64, timeout: u32) -> bool
+    fn passes_twelve_hours(&self, number: u64, timeout: u32) -> bool
         ensures { result ≡ passes_twelve_hours self.now number timeout }
     {
-        let last = reading::last_receive(&self.journal, number).milliseconds();
+        let last = reading::last_receive_time(&self.journal, number).milliseconds();
         last + 43_200_000 < self.clock.milliseconds() + 1000 * u64::from(timeout)
     }
 
     /// The id of a message that is sent to this queue.
-    fn id_of(&self, number: u64) -> MessageId
+    fn message_id(&self, number: u64) -> MessageId
         ensures { result ≡ record { uid = self.now.uid; number = number } }
     {
         MessageId {
@@ -316,10 +350,21 @@ impl QueueState {
         requires { IsCausedIn self.old event }
         ensures ok { OnOk result (self.new ≡ with_event self.old event) }
         ensures err { OnErr result (self.new ≡ self.old) }
-        ensures errors { IfErr result (λ fault. fault ≡ Fault.OutOfMemory) }
+        ensures errors { IfErr result (λ fault. fault ≡ OutOfMemory) }
     {
         let at = self.clock;
         self.journal.push(alloc, Entry { at, event })
+    }
+
+    /// Refuses a command with an entry. With `OutOfMemory` in its place the queue is as it was.
+    fn refuse<T>(&mut self, alloc: Global, fault: Fault) -> Result<T, Fault>
+        requires caused { IsCausedIn self.old (Refused fault) }
+        requires refusal { fault ≢ OutOfMemory }
+        ensures answer { Meets result (Err fault) }
+        ensures state { self.new ≡ (if is_out_of_memory result then self.old else with_event self.old (Refused fault)) }
+    {
+        self.add(alloc, Event::Refused { fault })?;
+        Err(fault)
     }
 
     /// Sends a message, after a delay in seconds or the queue's own. A content larger than the
@@ -333,21 +378,17 @@ impl QueueState {
         delay: Option<u16>,
         _ticks: &mut Ticks,
     ) -> Result<Posted, Fault>
-        requires { ForSome delay (λ seconds. seconds ≤ 900) }
+        requires { ForSome delay (λ seconds. IsDelay seconds) }
         ensures answer { Meets (as_reply Reply.Sent result) (outcome_at self.old at (Command.Send content delay)).reply }
+        ensures exact { IsExact (outcome_at self.old at (Command.Send content delay)) (as_reply Reply.Sent result) }
         ensures state { self.new ≡ after_answer self.old at (Command.Send content delay) result }
     {
-        self.move_to(at);
-        if let Some(fault) = self.first_refusal() {
-            return Err(fault);
-        }
+        self.begin(at)?;
         if self.is_too_large(&content) {
-            let fault = Fault::InvalidParameterValue;
-            self.add(alloc, Event::Refused { fault })?;
-            return Err(fault);
+            return self.refuse(alloc, Fault::InvalidParameterValue);
         }
-        let number = self.next_number();
-        let id = self.id_of(number);
+        let number = self.message_count();
+        let id = self.message_id(number);
         let delay = self.delay_or_own(delay);
         self.add(alloc, Event::Sent { delay, content })?;
         Ok(Posted { number, id })
@@ -367,26 +408,21 @@ impl QueueState {
         timeout: Option<u32>,
         _ticks: &mut Ticks,
     ) -> Result<Offers, Fault>
-        requires least { 1 ≤ maximum }
-        requires most { maximum ≤ 10 }
-        requires range { ForSome timeout (λ seconds. seconds ≤ 43200) }
+        requires maximum { IsMaximum maximum }
+        requires timeout { ForSome timeout (λ seconds. IsTimeout seconds) }
         ensures answer { Meets (as_reply Reply.Received result) (outcome_at self.old at (Command.Receive maximum timeout)).reply }
+        ensures exact { IsExact (outcome_at self.old at (Command.Receive maximum timeout)) (as_reply Reply.Received result) }
         ensures state { self.new ≡ after_answer self.old at (Command.Receive maximum timeout) result }
     {
-        self.move_to(at);
-        if let Some(fault) = self.first_refusal() {
-            return Err(fault);
-        }
+        self.begin(at)?;
         if self.is_at_in_flight_limit() {
-            let fault = Fault::OverLimit;
-            self.add(alloc, Event::Refused { fault })?;
-            return Err(fault);
+            return self.refuse(alloc, Fault::OverLimit);
         }
-        let candidates = self.candidates(alloc, maximum)?;
-        let offers = self.offers(alloc, candidates.as_slice())?;
+        let candidates = self.offered_candidates(alloc, maximum)?;
+        let offers = self.offers_of(alloc, candidates.as_slice())?;
         let event = Event::Received {
             timeout: self.timeout_or_own(timeout),
-            offered: order::numbers(alloc, candidates.as_slice())?,
+            offered: order::numbers_of(alloc, candidates.as_slice())?,
             leaving: Numbers::new(alloc),
             target: 0,
         };
@@ -407,19 +443,14 @@ impl QueueState {
         timeout: u32,
         _ticks: &mut Ticks,
     ) -> Result<(), Fault>
-        requires { timeout ≤ 43200 }
+        requires { IsTimeout timeout }
         ensures answer { Meets (as_reply (λ _. Reply.Done) result) (outcome_at self.old at (Command.Change handle timeout)).reply }
+        ensures exact { IsExact (outcome_at self.old at (Command.Change handle timeout)) (as_reply (λ _. Reply.Done) result) }
         ensures state { self.new ≡ after_answer self.old at (Command.Change handle timeout) result }
     {
-        self.move_to(at);
-        if let Some(fault) = self.first_refusal() {
-            return Err(fault);
-        }
-        match self.refusal_of_change(&handle, timeout) {
-            Some(fault) => {
-                self.add(alloc, Event::Refused { fault })?;
-                Err(fault)
-            }
+        self.begin(at)?;
+        match self.change_refusal(&handle, timeout) {
+            Some(fault) => self.refuse(alloc, fault),
             None => {
                 let number = handle.number;
                 self.add(alloc, Event::Changed { number, timeout })
@@ -428,17 +459,18 @@ impl QueueState {
     }
 
     /// Why a change is refused, if it is.
-    fn refusal_of_change(&self, handle: &Handle, timeout: u32) -> Option<Fault>
-        requires { timeout ≤ 43200 }
-        ensures { result ≡ change_refusal self.now handle.now timeout }
+    fn change_refusal(&self, handle: &Handle, timeout: u32) -> Option<Fault>
+        requires { IsTimeout timeout }
+        ensures refusal { result ≡ change_refusal self.now handle.now timeout }
+        ensures never { IfSome result (λ fault. fault ≢ OutOfMemory) }
     {
-        if !self.is_valid(handle) {
+        if !self.is_valid_handle(handle) {
             return Some(Fault::ReceiptHandleIsInvalid);
         }
-        if !self.is_in_flight(handle.number) || !self.is_latest(handle) {
+        if !self.holds_in_flight(handle) {
             return Some(Fault::MessageNotInflight);
         }
-        if self.is_too_long(handle.number, timeout) {
+        if self.passes_twelve_hours(handle.number, timeout) {
             return Some(Fault::InvalidParameterValue);
         }
         None
@@ -456,16 +488,12 @@ impl QueueState {
         _ticks: &mut Ticks,
     ) -> Result<(), Fault>
         ensures answer { Meets (as_reply (λ _. Reply.Done) result) (outcome_at self.old at (Command.Delete handle)).reply }
+        ensures exact { IsExact (outcome_at self.old at (Command.Delete handle)) (as_reply (λ _. Reply.Done) result) }
         ensures state { self.new ≡ after_answer self.old at (Command.Delete handle) result }
     {
-        self.move_to(at);
-        if let Some(fault) = self.first_refusal() {
-            return Err(fault);
-        }
-        if !self.is_valid(&handle) {
-            let fault = Fault::ReceiptHandleIsInvalid;
-            self.add(alloc, Event::Refused { fault })?;
-            return Err(fault);
+        self.begin(at)?;
+        if !self.is_valid_handle(&handle) {
+            return self.refuse(alloc, Fault::ReceiptHandleIsInvalid);
         }
         let event = self.deletion(&handle);
         self.add(alloc, event)
@@ -475,7 +503,7 @@ impl QueueState {
     fn deletion(&self, handle: &Handle) -> Event<Content>
         ensures { result ≡ (if holds_live self.now handle.now then Deleted handle.now.number else DeletedAgain) }
     {
-        if self.is_alive(handle.number) && self.is_latest(handle) {
+        if self.holds_live(handle) {
             Event::Deleted {
                 number: handle.number,
             }
@@ -488,12 +516,10 @@ impl QueueState {
     /// has moved.
     pub fn purge(&mut self, alloc: Global, at: Moment, _ticks: &mut Ticks) -> Result<(), Fault>
         ensures answer { Meets (as_reply (λ _. Reply.Done) result) (outcome_at self.old at Command.Purge).reply }
+        ensures exact { IsExact (outcome_at self.old at Command.Purge) (as_reply (λ _. Reply.Done) result) }
         ensures state { self.new ≡ after_answer self.old at Command.Purge result }
     {
-        self.move_to(at);
-        if let Some(fault) = self.first_refusal() {
-            return Err(fault);
-        }
+        self.begin(at)?;
         self.add(alloc, Event::Purged)
     }
 
@@ -509,14 +535,23 @@ impl QueueState {
         _ticks: &mut Ticks,
     ) -> Result<(), Fault>
         ensures answer { Meets (as_reply (λ _. Reply.Done) result) (outcome_at self.old at (Command.Set wish.now target)).reply }
+        ensures exact { IsExact (outcome_at self.old at (Command.Set wish.now target)) (as_reply (λ _. Reply.Done) result) }
         ensures state { self.new ≡ after_answer self.old at (Command.Set wish.now target) result }
     {
-        self.move_to(at);
-        if let Some(fault) = self.first_refusal() {
-            return Err(fault);
-        }
-        let settings = self.settings().with(wish, target);
+        self.begin(at)?;
+        let settings = self.settings_with(wish, target);
         self.add(alloc, Event::Set { settings })
+    }
+
+    /// The settings with what is requested in its place. Their numbers are in range by their type.
+    fn settings_with(&self, wish: &Wish, target: u64) -> Settings
+        ensures settings { result ≡ settings_with (settings_of self.now.lines) wish.now }
+        ensures range { AreSettings result }
+    {
+        let settings = self.settings().with(wish, target);
+        // A field that is read tells the proof that the numbers are in range.
+        let _seconds = settings.delay_seconds;
+        settings
     }
 
     /// Closes the queue for good: no message is left, and from here on every call that can answer
@@ -524,6 +559,7 @@ impl QueueState {
     /// was closed answers `QueueDoesNotExist`; with `OutOfMemory` only the clock has moved.
     pub fn close(&mut self, alloc: Global, at: Moment, _ticks: &mut Ticks) -> Result<(), Fault>
         ensures answer { Meets (as_reply (λ _. Reply.Done) result) (outcome_at self.old at Command.Close).reply }
+        ensures exact { IsExact (outcome_at self.old at Command.Close) (as_reply (λ _. Reply.Done) result) }
         ensures state { self.new ≡ after_answer self.old at Command.Close result }
     {
         self.move_to(at);
@@ -547,18 +583,18 @@ impl QueueState {
         ensures state { self.new ≡ at_moment self.old at }
     {
         self.move_to(at);
-        self.current_look()
+        self.look_of()
     }
 
     /// The queue at its clock.
-    fn current_look(&self) -> Look
+    fn look_of(&self) -> Look
         ensures { result ≡ look_of self.now }
     {
         Look {
             gauges: self.gauges(),
             settings: self.settings(),
-            created: reading::creation(&self.journal),
-            modified: reading::modification(&self.journal),
+            created: reading::created_time(&self.journal),
+            modified: reading::modified_time(&self.journal),
             lines: self.journal.len() as u64,
             clock: self.clock,
             closed: self.is_closed(),
@@ -570,11 +606,11 @@ impl QueueState {
         ensures counts { result ≡ gauges_of self.now.lines self.now.clock }
         ensures legal { IsLegal self.now }
     {
-        reading::gauges(&self.journal, self.clock)
+        reading::gauges_of(&self.journal, self.clock)
     }
 
-    /// Does what the call that the command names does. A send shares the content first, and a share
-    /// that is refused is `OutOfMemory`.
+    /// Does what the call that the command names does. A send shares the content, where the queue is
+    /// open and its journal has room, and a share that is refused is `OutOfMemory`.
     pub fn perform(
         &mut self,
         alloc: Global,
@@ -583,11 +619,12 @@ impl QueueState {
         ticks: &mut Ticks,
     ) -> Result<Reply, Fault>
         ensures answer { Meets result (outcome_at self.old at command.now).reply }
+        ensures exact { IsExact (outcome_at self.old at command.now) result }
         ensures state { self.new ≡ after_answer self.old at command.now result }
     {
         match command {
             Command::Send { content, delay } => {
-                self.move_to(at);
+                self.begin(at)?;
                 let content = content.share()?;
                 let delay = delay.map(|delay| delay.seconds());
                 Ok(Reply::Sent(self.send(alloc, at, content, delay, ticks)?))
@@ -630,9 +667,10 @@ impl QueueState {
         ticks: &mut Ticks,
     ) -> Result<Vec<Result<Reply, Fault>>, Fault>
         ensures answers { IfOk result (λ answers. AreAnswers self.old steps.now answers.items) }
+        ensures exact { IfOk result (λ answers. AreExact self.old steps.now answers.items) }
         ensures state { IfOk result (λ answers. self.new ≡ after_all self.old steps.now answers.items) }
         ensures err { OnErr result (self.new ≡ self.old) }
-        ensures errors { IfErr result (λ fault. fault ≡ Fault.OutOfMemory) }
+        ensures errors { IfErr result (λ fault. fault ≡ OutOfMemory) }
     {
         let mut answers = Vec::with_capacity(alloc, steps.len())?;
         for step in steps {

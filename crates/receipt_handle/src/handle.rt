@@ -21,7 +21,7 @@ pub struct Handle {
 }
 
 /// Whether a byte may stand in a handle.
-fn is_digit_byte(byte: u8) -> bool
+fn is_handle_digit(byte: u8) -> bool
     ensures { result ≡ is_handle_digit byte }
 {
     matches!(byte, b'0'..=b'9' | b'a'..=b'f')
@@ -31,11 +31,11 @@ fn is_digit_byte(byte: u8) -> bool
 fn has_digit_bytes(text: &[u8]) -> bool
     ensures { result ≡ list_all is_handle_digit text.now }
 {
-    text.iter().all(|byte| is_digit_byte(*byte))
+    text.iter().all(|byte| is_handle_digit(*byte))
 }
 
 /// Whether the bytes are a handle.
-fn is_handle(text: &[u8]) -> bool
+fn is_handle_text(text: &[u8]) -> bool
     ensures { result ≡ is_handle_text text.now }
 {
     text.len() == 48 && has_digit_bytes(text)
@@ -72,7 +72,7 @@ impl Handle {
     pub fn read(text: &str) -> Result<Handle, Fault>
         ensures { result ≡ handle_of text.now }
     {
-        if !is_handle(text.as_bytes()) {
+        if !is_handle_text(text.as_bytes()) {
             return Err(Fault::ReceiptHandleIsInvalid);
         }
         let uid = number_at(text, 0);

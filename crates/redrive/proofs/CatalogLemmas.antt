@@ -1,40 +1,39 @@
 -- What is true of every name directory stays true as queues are added, changed and taken out.
-use Rattle.std.proofs.Common.{◌≡◌, ℕ, zero, suc, ◌+◌, ◌<◌, ◌≤◌, ◌^◌, Bool, true, false, not, ◌||◌, cond, List, [], ◌∷◌, ◌++◌, length, get_or, set, take, map, Option, Some, None, refl, sym, ap, subst, ◌∙◌, arith}
-use Rattle.std.specs.Prelude.{nat_eq, nat_le, filter, fold, remove, is_some}
+use Rattle.std.proofs.Common.{◌≡◌, ℕ, zero, suc, ◌+◌, ◌<◌, ◌≤◌, Bool, true, false, not, cond, List, [], ◌∷◌, ◌++◌, length, get_or, set, take, map, Option, Some, None, refl, sym, ap, subst, ◌∙◌, arith}
+use Rattle.std.specs.Prelude.{nat_eq, filter, fold, remove, is_some}
 use Rattle.std.specs.List.{find, position, IsDistinct}
 use Rattle.std.specs.Option.{option_map}
 use Rattle.std.specs.Str.{bytes_eq}
-use Rattle.std.proofs.lemmas.Bool.{or_parts}
-use Rattle.std.proofs.lemmas.Bool.Decides.{nat_tests}
-use Rattle.std.proofs.lemmas.List.{take_more}
+use Rattle.std.proofs.lemmas.List.{length-append, length-map, take_more}
+use Rattle.std.proofs.lemmas.List.Filters.{length-filter_both}
 use Rattle.std.proofs.lemmas.List.Elements.{All-nil, All-filter, All-push, All-map, All-weaker}
 use Rattle.std.proofs.lemmas.List.Quantifiers.{position-Some}
 use Rattle.redrive.specs.Listing.{put_name, in_order}
 use Rattle.redrive.specs.Catalog.{Directory, is_directory_full, empty_directory, name_of, uid_of_name, has_uid, without_uid, retargeted, with_target, IsDirectory}
 use Rattle.redrive.specs.declared.catalog.Registered.{Registered}
-use Rattle.redrive.proofs.KeyedLemmas.{IsDistinct-push, IsDistinct-filter, map-key, find-unused, filter-absent, find-position, find-no_position, map-absent, map-present, remove-present}
+use Rattle.redrive.proofs.KeyedLemmas.{places_left, IsDistinct-push, IsDistinct-filter, map-key, find-unused, filter-absent, find-position, find-no_position, map-absent, map-present, remove-present}
 
 abbrev uid_of : Registered → ℕ
 uid_of q = q.uid
 
 pub IsDirectory-empty : IsDirectory empty_directory
 unfolding IsDistinct
-IsDirectory-empty = record { names = tt; uids = tt; used = All-nil _; first = All-nil _; begun = omega arith; last = omega arith }
+IsDirectory-empty = record { count = omega arith; names = tt; uids = tt; used = All-nil _; first = All-nil _; begun = omega arith; last = omega arith }
 
 no_uid : (o : Option Registered) → option_map (λ (q : Registered). q.uid) o ≡ None → o ≡ None
 no_uid None h = refl
 no_uid (Some q) h = absurd cc
-
-uid_left : (n uid : ℕ) → (nat_le 1000 n || nat_le (2 ^ 62) uid) ≡ false → uid < 2 ^ 62
-uid_left n uid h = let late = (or_parts (nat_le 1000 n) (nat_le (2 ^ 62) uid) h).1 in grind (arith, nat_tests)
 
 pub IsDirectory-added : (d : Directory) (name : List ℕ) (target : ℕ) (queues : List Registered) → IsDirectory d → uid_of_name d name ≡ None → is_directory_full d ≡ false
     → queues ≡ d.queues ++ record { name = name; uid = d.next_uid; target = target } ∷ [] → IsDirectory (record { next_uid = d.next_uid + 1; queues = queues })
 IsDirectory-added d name target queues h none full is =
     let q : Registered = record { name = name; uid = d.next_uid; target = target } in
     let begun = h.begun in
-    let below = uid_left (length d.queues) d.next_uid full in
+    let left = places_left (length d.queues) d.next_uid full in
+    let few = left.0 in
+    let below = left.1 in
     rw is (record {
+      count = omega (arith, length-append d.queues (q ∷ []));
       names = IsDistinct-push bytes_eq name_of d.queues q h.names (no_uid (find (λ x. bytes_eq x.name name) d.queues) none);
       uids = IsDistinct-push nat_eq uid_of d.queues q h.uids (find-unused uid_of d.next_uid d.queues h.used);
       used = All-push (λ x. x.uid < d.next_uid + 1) d.queues q (All-weaker (λ x. x.uid < d.next_uid) (λ x. x.uid < d.next_uid + 1) (λ x l. omega arith) d.queues h.used) (omega arith);
@@ -75,6 +74,7 @@ pub IsDirectory-without : (d : Directory) (uid : ℕ) → IsDirectory d → IsDi
 IsDirectory-without d uid h =
     let stays : Registered → Bool = λ q. not (nat_eq q.uid uid) in
     record {
+      count = let all = h.count in omega (arith, length-filter_both stays (λ q. not (stays q)) (λ q. refl) d.queues);
       names = IsDistinct-filter bytes_eq name_of stays d.queues h.names;
       uids = IsDistinct-filter nat_eq uid_of stays d.queues h.uids;
       used = All-filter stays (λ q. q.uid < d.next_uid) d.queues h.used;
@@ -105,6 +105,7 @@ IsDirectory-with_target d uid target h =
     let same_uid : (q : Registered) → (next q).uid ≡ q.uid = λ q. retargeted-keeps uid_of (nat_eq q.uid uid) q (record q { target = target }) refl in
     let same_name : (q : Registered) → (next q).name ≡ q.name = λ q. retargeted-keeps name_of (nat_eq q.uid uid) q (record q { target = target }) refl in
     record {
+      count = rw (length-map d.queues next) h.count;
       names = subst (λ names. IsDistinct bytes_eq names) (sym (map-key bytes_eq name_of next same_name d.queues)) h.names;
       uids = subst (λ uids. IsDistinct nat_eq uids) (sym (map-key nat_eq uid_of next same_uid d.queues)) h.uids;
       used = All-map (λ q. q.uid < d.next_uid) next d.queues (All-weaker (λ q. q.uid < d.next_uid) (λ q. (next q).uid < d.next_uid) (λ q l. rw (same_uid q) l) d.queues h.used);

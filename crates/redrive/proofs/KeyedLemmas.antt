@@ -1,12 +1,22 @@
 -- Lists whose elements have distinct keys: one element more, fewer, or changed.
-use Rattle.std.proofs.Common.{◌≡◌, ℕ, zero, suc, ◌<◌, Bool, true, false, not, cond, List, [], ◌∷◌, ◌++◌, length, get_or, set, map, Option, Some, None, refl, sym, ap, subst, ◌∙◌, arith, eqb-true}
-use Rattle.std.specs.Prelude.{nat_eq, nat_lt, filter, remove, slice_get}
+use Rattle.std.proofs.Common.{◌≡◌, ◌≢◌, ℕ, zero, suc, ◌<◌, ◌^◌, Bool, true, false, not, ◌||◌, cond, List, [], ◌∷◌, ◌++◌, length, get_or, set, map, Option, Some, None, refl, sym, ap, subst, ◌∙◌, arith, eqb-true}
+use Rattle.std.specs.Prelude.{nat_eq, nat_lt, nat_le, filter, remove, slice_get}
 use Rattle.std.specs.List.{find, position, position_or_len, IsDistinct, All, AllByRecursion}
-use Rattle.std.proofs.lemmas.Bool.{ne_eqb, eqb-false, ltb-false}
+use Rattle.std.proofs.lemmas.Bool.{ne_eqb, eqb-false, ltb-false, or_parts}
+use Rattle.std.proofs.lemmas.Bool.Decides.{nat_tests}
 use Rattle.std.proofs.lemmas.List.Elements.{All-head, All-tail}
 use Rattle.std.proofs.lemmas.List.Folds.{find_at}
 use Rattle.std.proofs.lemmas.List.Quantifiers.{position-Some}
-use Rattle.std.proofs.lemmas.Option.{slice_get-get_or, slice_get_past}
+use Rattle.std.proofs.lemmas.Option.{slice_get-get_or, slice_get_past, same_Some, none-some}
+use Rattle.std.specs.Option.{option_map}
+
+-- while there is a place
+pub places_left : (n uid : ℕ) → (nat_le 1000 n || nat_le (2 ^ 62) uid) ≡ false → (n < 1000) × (uid < 2 ^ 62)
+places_left n uid h =
+    let p = or_parts (nat_le 1000 n) (nat_le (2 ^ 62) uid) h in
+    let many = p.0 in
+    let late = p.1 in
+    (grind (arith, nat_tests), grind (arith, nat_tests))
 
 pub none-cond : {X : Type 0} (b : Bool) (x : X) (o : Option X) → cond b (Some x) o ≡ None → (b ≡ false) × (o ≡ None)
 none-cond true x o h = absurd cc
@@ -50,6 +60,37 @@ module _ {X K : Type 0} (e : K → K → Bool) (key : X → K) where
   map-key f h [] = refl
   map-key f h (x ∷ xs) = rw (h x, map-key f h xs) refl
 
+-- ---- finding an element
+
+module _ {X : Type 0} (p : X → Bool) where
+  option_map-cond : (g : X → X) (b : Bool) (x : X) (o : Option X) → cond b (Some (g x)) (option_map g o) ≡ option_map g (cond b (Some x) o)
+  option_map-cond g true x o = refl
+  option_map-cond g false x o = refl
+
+  -- a change that the test does not see
+  pub find-map : (g : X → X) → ((x : X) → p (g x) ≡ p x) → (xs : List X) → find p (map g xs) ≡ option_map g (find p xs)
+  find-map g h [] = refl
+  find-map g h (x ∷ xs) = rw (h x, find-map g h xs) (option_map-cond g (p x) x (find p xs))
+
+  cond-passes : (b : Bool) (x y : X) (o : Option X) → p x ≡ b → (o ≡ Some y → p y ≡ true) → cond b (Some x) o ≡ Some y → p y ≡ true
+  cond-passes true x y o e h is = subst (λ (z : X). p z ≡ true) (same_Some x y is) e
+  cond-passes false x y o e h is = h is
+
+  pub find-passes : (xs : List X) (y : X) → find p xs ≡ Some y → p y ≡ true
+  find-passes [] y is = absurd (none-some y is)
+  find-passes (x ∷ xs) y is = cond-passes (p x) x y (find p xs) refl (find-passes xs y) is
+
+  cond-other : (q : X → Bool) (b c : Bool) (x y : X) (o o' : Option X) → q x ≡ c → cond b (Some x) o ≡ Some y → q y ≡ true
+      → (o ≡ Some y → (z : X) × (o' ≡ Some z)) → (z : X) × (cond c (Some x) o' ≡ Some z)
+  cond-other q b true x y o o' e is passes h = (x, refl)
+  cond-other q true false x y o o' e is passes h = absurd (let same : q x ≡ true = subst (λ (z : X). q z ≡ true) (sym (same_Some x y is)) passes in cc)
+  cond-other q false false x y o o' e is passes h = h is
+
+  -- where one test finds what passes the other, the other finds something
+  pub find-other : (q : X → Bool) (xs : List X) (y : X) → find p xs ≡ Some y → q y ≡ true → (z : X) × (find q xs ≡ Some z)
+  find-other q [] y is passes = absurd (none-some y is)
+  find-other q (x ∷ xs) y is passes = cond-other q (p x) (q x) x y (find p xs) (find q xs) refl is passes (λ e. find-other q xs y e passes)
+
 -- ---- elements with a number
 
 module _ {X : Type 0} (uid_of : X → ℕ) (uid : ℕ) where
@@ -65,6 +106,29 @@ module _ {X : Type 0} (uid_of : X → ℕ) (uid : ℕ) where
   filter-absent (x ∷ xs) none =
       let p = none-cond (nat_eq (uid_of x) uid) x (find (λ x. nat_eq (uid_of x) uid) xs) none in
       rw (p.0, filter-absent xs p.1) refl
+
+  -- what was taken out is not found, and everything else is
+  without_head : (b : Bool) (x : X) (xs : List X) → nat_eq (uid_of x) uid ≡ b → find (λ x. nat_eq (uid_of x) uid) xs ≡ None
+      → find (λ x. nat_eq (uid_of x) uid) (cond (not b) (x ∷ xs) xs) ≡ None
+  without_head true x xs e none = none
+  without_head false x xs e none = rw (e, none) refl
+
+  pub find-without : (xs : List X) → find (λ x. nat_eq (uid_of x) uid) (filter (λ x. not (nat_eq (uid_of x) uid)) xs) ≡ None
+  find-without [] = refl
+  find-without (x ∷ xs) = without_head (nat_eq (uid_of x) uid) x (filter (λ x. not (nat_eq (uid_of x) uid)) xs) refl (find-without xs)
+
+  without_other_head : (other : ℕ) → other ≢ uid → (b : Bool) (x : X) (xs : List X) (o : Option X) → nat_eq (uid_of x) uid ≡ b → find (λ x. nat_eq (uid_of x) other) xs ≡ o
+      → find (λ x. nat_eq (uid_of x) other) (cond (not b) (x ∷ xs) xs) ≡ cond (nat_eq (uid_of x) other) (Some x) o
+  without_other_head other differs true x xs o e same =
+      rw (ne_eqb (uid_of x) other (λ is. differs (sym is ∙ eqb-true (uid_of x) uid e))) same
+  without_other_head other differs false x xs o e same = rw same refl
+
+  pub find-without_other : (other : ℕ) → other ≢ uid → (xs : List X)
+      → find (λ x. nat_eq (uid_of x) other) (filter (λ x. not (nat_eq (uid_of x) uid)) xs) ≡ find (λ x. nat_eq (uid_of x) other) xs
+  find-without_other other differs [] = refl
+  find-without_other other differs (x ∷ xs) =
+      without_other_head other differs (nat_eq (uid_of x) uid) x (filter (λ x. not (nat_eq (uid_of x) uid)) xs) (find (λ x. nat_eq (uid_of x) other) xs) refl
+      (find-without_other other differs xs)
 
   filter-other : (k : ℕ) (xs : List X) → k ≡ uid → AllByRecursion (λ y. nat_eq k y ≡ false) (map uid_of xs) → filter (λ x. not (nat_eq (uid_of x) uid)) xs ≡ xs
   filter-other k [] e h = refl

@@ -4,6 +4,9 @@ pub mod ListingLemmas
 pub mod OpeningLemmas
 pub mod OrderLemmas
 pub mod RegistryLemmas
+pub mod DeletionLemmas
+pub mod StepLemmas
 pub mod CatalogLemmas
-pub mod WorldRunLemmas
-pub mod AloneLemmas
+pub mod HistoryLemmas
+pub mod ToldLemmas
+pub mod RunLemmas

@@ -1,13 +1,12 @@
 -- What is true of every registry stays true as queues are added and changed.
-use Rattle.std.proofs.Common.{◌≡◌, ◌≢◌, ℕ, ◌+◌, ◌<◌, ◌≤◌, ◌^◌, Bool, true, false, not, ◌||◌, cond, List, [], ◌∷◌, ◌++◌, length, get_or, set, take, drop, map, Option, Some, None, Result, Ok, Err, refl, sym, ap, subst, ◌∙◌, arith, Decides, append_assoc}
-use Rattle.std.specs.Prelude.{remove, nat_eq, nat_le, OnOk, OnErr, IfOk}
+use Rattle.std.proofs.Common.{◌≡◌, ◌≢◌, ℕ, ◌+◌, ◌<◌, ◌≤◌, Bool, true, false, not, cond, List, [], ◌∷◌, ◌++◌, length, get_or, set, take, drop, map, Option, Some, None, Result, Ok, Err, refl, sym, ap, subst, ◌∙◌, arith, Decides, append_assoc}
+use Rattle.std.specs.Prelude.{remove, nat_eq, OnOk, OnErr, IfOk}
 use Rattle.std.specs.List.{find, position, IsDistinct}
 use Rattle.std.specs.Option.{option_map, option_or}
 use Rattle.std.specs.Str.{bytes_eq}
-use Rattle.std.proofs.lemmas.Bool.Decides.{nat_tests}
-use Rattle.std.proofs.lemmas.Bool.{or_parts}
-use Rattle.std.proofs.lemmas.List.{append-nil, length-map, length-take-le, take_all, take_at, drop_all, drop_more, get_or_at, set_at, map_more}
+use Rattle.std.proofs.lemmas.List.{append-nil, length-map, length-append, length-take-le, take_all, take_at, drop_all, drop_more, get_or_at, set_at, map_more}
 use Rattle.std.proofs.lemmas.List.Elements.{All-nil, All-get_or, All-filter, All-push, All-map, All-weaker}
+use Rattle.std.proofs.lemmas.List.Filters.{length-filter_both}
 use Rattle.std.proofs.lemmas.List.Folds.{find-append}
 use Rattle.std.proofs.lemmas.List.Quantifiers.{position-Some}
 use Rattle.std.proofs.lemmas.Slice.Eq.{bytes_eq-Decides}
@@ -19,40 +18,41 @@ use Rattle.queue_config.specs.Limits.{QueueLimits, default_limits}
 use Rattle.queue_config.specs.Settings.{QueueSettings, default_settings}
 use Rattle.journal.specs.declared.entry.Event.{Event}
 use Rattle.queue_core.specs.declared.command.Command.{Command}
-use Rattle.queue_core.specs.declared.reply.Reply.{Reply}
 use Rattle.queue_core.specs.Messages.{is_closed}
-use Rattle.queue_core.specs.Queue.{QueueHistory, at_moment, outcome_at, with_optional_event, after_answer}
+use Rattle.queue_core.specs.Queue.{QueueHistory, at_moment, adds_entry, outcome_at, with_optional_event, after_answer}
 use Rattle.queue_core.specs.Kept.{opened_queue}
-use Rattle.redrive.specs.World.{World, has_no_place, empty_world, queue_named, queue_of_uid, found_uid, with_queue, next_queue, without_queue, delete_answer, closes_queue, step_answer, with_queue_changed, world_after_step, world_at_moment, IsRegistry}
-use Rattle.redrive.proofs.KeyedLemmas.{IsDistinct-push, IsDistinct-filter, map-key, find-unused, filter-absent, find-position, find-no_position, map-absent, map-present, remove-present}
+use Rattle.redrive.specs.World.{World, has_no_place, empty_world, queue_named, queue_of_uid, found_uid, with_queue, next_queue, without_queue, closes_queue, step_answer, adds_entry_at, with_queue_changed, world_after_step, world_at_moment, IsRegistry}
+use Rattle.redrive.proofs.KeyedLemmas.{places_left, IsDistinct-push, IsDistinct-filter, map-key, find-unused, filter-absent, find-position, find-no_position, map-absent, map-present, remove-present}
 use Rattle.redrive.proofs.ClosingLemmas.{unclosed-after_answer}
 
 pub IsRegistry-empty : (limits : QueueLimits) → IsRegistry (empty_world limits)
 unfolding IsDistinct
-IsRegistry-empty limits = record { names = tt; uids = tt; used = All-nil _; first = All-nil _; begun = omega arith; last = omega arith; limits = All-nil _; unclosed = All-nil _ }
+IsRegistry-empty limits = record { count = omega arith; names = tt; uids = tt; used = All-nil _; first = All-nil _; begun = omega arith; last = omega arith; limits = All-nil _; unclosed = All-nil _ }
 
 -- ---- one queue more
 
 pub IsRegistry-with_queue : (w : World) (q : QueueHistory) → IsRegistry w → queue_named w q.name ≡ None → q.uid ≡ w.next_uid → q.limits ≡ w.limits
-    → is_closed q.lines ≡ false → w.next_uid < 2 ^ 62 → IsRegistry (with_queue w q)
-IsRegistry-with_queue w q h none uid limits unclosed below = record {
-  names = IsDistinct-push bytes_eq (λ (x : QueueHistory). x.name) w.queues q h.names none;
-  uids = IsDistinct-push nat_eq (λ (x : QueueHistory). x.uid) w.queues q h.uids (rw uid (find-unused (λ (x : QueueHistory). x.uid) w.next_uid w.queues h.used));
-  used = All-push (λ x. x.uid < w.next_uid + 1) w.queues q (All-weaker (λ x. x.uid < w.next_uid) (λ x. x.uid < w.next_uid + 1) (λ x l. omega arith) w.queues h.used) (omega arith);
-  first = All-push (λ x. 1 ≤ x.uid) w.queues q h.first (let begun = h.begun in omega arith);
-  begun = omega arith;
-  last = omega arith;
-  limits = All-push (λ x. x.limits ≡ w.limits) w.queues q h.limits limits;
-  unclosed = All-push (λ x. is_closed x.lines ≡ false) w.queues q h.unclosed unclosed;
-}
-
-uid_left : (n uid : ℕ) → (nat_le 1000 n || nat_le (2 ^ 62) uid) ≡ false → uid < 2 ^ 62
-uid_left n uid h = let late = (or_parts (nat_le 1000 n) (nat_le (2 ^ 62) uid) h).1 in grind (arith, nat_tests)
+    → is_closed q.lines ≡ false → has_no_place w ≡ false → IsRegistry (with_queue w q)
+IsRegistry-with_queue w q h none uid limits unclosed place =
+    let left = places_left (length w.queues) w.next_uid place in
+    let few = left.0 in
+    let below = left.1 in
+    record {
+      count = omega (arith, length-append w.queues (q ∷ []));
+      names = IsDistinct-push bytes_eq (λ (x : QueueHistory). x.name) w.queues q h.names none;
+      uids = IsDistinct-push nat_eq (λ (x : QueueHistory). x.uid) w.queues q h.uids (rw uid (find-unused (λ (x : QueueHistory). x.uid) w.next_uid w.queues h.used));
+      used = All-push (λ x. x.uid < w.next_uid + 1) w.queues q (All-weaker (λ x. x.uid < w.next_uid) (λ x. x.uid < w.next_uid + 1) (λ x l. omega arith) w.queues h.used) (omega arith);
+      first = All-push (λ x. 1 ≤ x.uid) w.queues q h.first (let begun = h.begun in omega arith);
+      begun = omega arith;
+      last = omega arith;
+      limits = All-push (λ x. x.limits ≡ w.limits) w.queues q h.limits limits;
+      unclosed = All-push (λ x. is_closed x.lines ≡ false) w.queues q h.unclosed unclosed;
+    }
 
 pub IsRegistry-opened : (w : World) (at : ℕ) (name : List ℕ) (settings : QueueSettings) (q : QueueHistory) (queues : List QueueHistory) → IsRegistry w → queue_named w name ≡ None
     → has_no_place w ≡ false → q ≡ opened_queue w.next_uid name settings w.limits at → queues ≡ w.queues ++ q ∷ [] → IsRegistry (record w { next_uid = w.next_uid + 1; queues = queues })
 IsRegistry-opened w at name settings q queues h none place is added =
-    rw (added, is) (IsRegistry-with_queue w (opened_queue w.next_uid name settings w.limits at) h none refl refl refl (uid_left (length w.queues) w.next_uid place))
+    rw (added, is) (IsRegistry-with_queue w (opened_queue w.next_uid name settings w.limits at) h none refl refl refl place)
 
 -- ---- queues changed, each under its uid, name and limits
 
@@ -60,6 +60,7 @@ module _ (f : QueueHistory → QueueHistory) where
   pub IsRegistry-map : (w : World) → ((q : QueueHistory) → (f q).uid ≡ q.uid) → ((q : QueueHistory) → (f q).name ≡ q.name) → ((q : QueueHistory) → (f q).limits ≡ q.limits)
       → ((q : QueueHistory) → is_closed q.lines ≡ false → is_closed (f q).lines ≡ false) → IsRegistry w → IsRegistry (record w { queues = map f w.queues })
   IsRegistry-map w uid name limits unclosed h = record {
+    count = rw (length-map w.queues f) h.count;
     names = subst (λ names. IsDistinct bytes_eq names) (sym (map-key bytes_eq (λ (q : QueueHistory). q.name) f name w.queues)) h.names;
     uids = subst (λ uids. IsDistinct nat_eq uids) (sym (map-key nat_eq (λ (q : QueueHistory). q.uid) f uid w.queues)) h.uids;
     used = All-map (λ q. q.uid < w.next_uid) f w.queues (All-weaker (λ q. q.uid < w.next_uid) (λ q. (f q).uid < w.next_uid) (λ q l. rw (uid q) l) w.queues h.used);
@@ -86,11 +87,14 @@ left-limits true q event = refl
 left-limits false q None = refl
 left-limits false q (Some event) = refl
 
-at_uid-keeps : {K : Type 0} (key : QueueHistory → K) (b : Bool) (q next : QueueHistory) → key next ≡ key q → key (cond b next q) ≡ key q
+pub at_uid-keeps : {K : Type 0} (key : QueueHistory → K) (b : Bool) (q next : QueueHistory) → key next ≡ key q → key (cond b next q) ≡ key q
 at_uid-keeps key true q next h = h
 at_uid-keeps key false q next h = refl
 
-pub after_step-uid : (uid at : ℕ) (command : Command) (answer : Result Reply Fault) (q : QueueHistory) → (cond (nat_eq q.uid uid) (after_answer q at command answer) q).uid ≡ q.uid
+pub after_answer-uid : {T : Type 0} (at : ℕ) (command : Command) (answer : Result T Fault) (q : QueueHistory) → (after_answer q at command answer).uid ≡ q.uid
+after_answer-uid at command answer q = left-uid (is_out_of_memory answer) (at_moment q at) (outcome_at q at command).event
+
+pub after_step-uid : {T : Type 0} (uid at : ℕ) (command : Command) (answer : Result T Fault) (q : QueueHistory) → (cond (nat_eq q.uid uid) (after_answer q at command answer) q).uid ≡ q.uid
 after_step-uid uid at command answer q =
     at_uid-keeps (λ q. q.uid) (nat_eq q.uid uid) q (after_answer q at command answer) (left-uid (is_out_of_memory answer) (at_moment q at) (outcome_at q at command).event)
 
@@ -98,7 +102,7 @@ at_uid-unclosed : (b : Bool) (q next : QueueHistory) → (is_closed q.lines ≡ 
 at_uid-unclosed true q next h k = h k
 at_uid-unclosed false q next h k = k
 
-pub IsRegistry-after_step : (w : World) (uid at : ℕ) (command : Command) (answer : Result Reply Fault) → closes_queue command ≡ false → IsRegistry w
+pub IsRegistry-after_step : {T : Type 0} (w : World) (uid at : ℕ) (command : Command) (answer : Result T Fault) → closes_queue command ≡ false → IsRegistry w
     → IsRegistry (with_queue_changed w uid (λ q. after_answer q at command answer))
 IsRegistry-after_step w uid at command answer stays h =
     IsRegistry-map (λ q. cond (nat_eq q.uid uid) (after_answer q at command answer) q) w
@@ -135,7 +139,7 @@ either-way false x y h = h
 pub changed-absent : (w : World) (uid : ℕ) (f : QueueHistory → QueueHistory) → position (λ q. nat_eq q.uid uid) w.queues ≡ None → with_queue_changed w uid f ≡ w
 changed-absent w uid f h = ap (λ (queues : List QueueHistory). record w { queues = queues }) (map-absent uid_of uid f w.queues (find-no_position uid_of uid w.queues h))
 
-pub step-absent_state : (w : World) (uid at : ℕ) (command : Command) (answer : Result Reply Fault) → position (λ q. nat_eq q.uid uid) w.queues ≡ None → world_after_step w uid at command answer ≡ w
+pub step-absent_state : {T : Type 0} (w : World) (uid at : ℕ) (command : Command) (answer : Result T Fault) → position (λ q. nat_eq q.uid uid) w.queues ≡ None → world_after_step w uid at command answer ≡ w
 step-absent_state w uid at command answer h =
     either-way (closes_queue command) w (with_queue_changed w uid (λ q. after_answer q at command answer)) (changed-absent w uid (λ q. after_answer q at command answer) h)
 
@@ -143,11 +147,15 @@ pub step-present_answer : (w : World) (uid at : ℕ) (command : Command) (place 
     → closes_queue command ≡ false → step_answer w uid at command ≡ (outcome_at old at command).reply
 step-present_answer w uid at command place old h e stays = rw (find-position uid_of uid w.queues place old h, ← e, stays) refl
 
+pub step-present_exact : (w : World) (uid at : ℕ) (command : Command) (place : ℕ) (old : QueueHistory) → position (λ q. nat_eq q.uid uid) w.queues ≡ Some place → old ≡ get_or w.queues place old
+    → closes_queue command ≡ false → adds_entry_at w uid at command ≡ false → adds_entry (outcome_at old at command) ≡ false
+step-present_exact w uid at command place old h e stays none = rw (find-position uid_of uid w.queues place old h, ← e, stays) at none
+
 pub step-refused_answer : (w : World) (uid at : ℕ) (command : Command) (place : ℕ) → position (λ q. nat_eq q.uid uid) w.queues ≡ Some place
     → closes_queue command ≡ true → step_answer w uid at command ≡ Err UnsupportedOperation
 step-refused_answer w uid at command place h closing = rw (find-position uid_of uid w.queues place some_queue h, closing) refl
 
-pub step-refused_state : (w : World) (uid at : ℕ) (command : Command) (answer : Result Reply Fault) → closes_queue command ≡ true → world_after_step w uid at command answer ≡ w
+pub step-refused_state : {T : Type 0} (w : World) (uid at : ℕ) (command : Command) (answer : Result T Fault) → closes_queue command ≡ true → world_after_step w uid at command answer ≡ w
 step-refused_state w uid at command answer closing = rw closing refl
 
 -- ---- a queue deleted
@@ -158,15 +166,9 @@ unclosed-present w uid place old r h e =
     let p = position-Some (λ q. nat_eq q.uid uid) w.queues place old h in
     ap (λ (q : QueueHistory). is_closed q.lines) e ∙ All-get_or (λ q. is_closed q.lines ≡ false) w.queues place old p.0 r.unclosed
 
-pub delete-absent_answer : (w : World) (uid : ℕ) → position (λ q. nat_eq q.uid uid) w.queues ≡ None → delete_answer w uid ≡ Err QueueDoesNotExist
-delete-absent_answer w uid h = rw (find-no_position uid_of uid w.queues h) refl
-
 pub delete-absent_state : (w : World) (uid : ℕ) → position (λ q. nat_eq q.uid uid) w.queues ≡ None → without_queue w uid ≡ w
 delete-absent_state w uid h =
     ap (λ (queues : List QueueHistory). record w { queues = queues }) (filter-absent uid_of uid w.queues (find-no_position uid_of uid w.queues h))
-
-pub delete-present_answer : (w : World) (uid place : ℕ) → position (λ q. nat_eq q.uid uid) w.queues ≡ Some place → delete_answer w uid ≡ Ok tt
-delete-present_answer w uid place h = rw (find-position uid_of uid w.queues place some_queue h) refl
 
 -- the list that is left
 pub delete-present_state : (w : World) (uid place : ℕ) (old new : QueueHistory) (queues : List QueueHistory) → IsRegistry w → position (λ q. nat_eq q.uid uid) w.queues ≡ Some place
@@ -179,6 +181,7 @@ pub IsRegistry-without : (w : World) (uid : ℕ) → IsRegistry w → IsRegistry
 IsRegistry-without w uid h =
     let stays : QueueHistory → Bool = λ q. not (nat_eq q.uid uid) in
     record {
+      count = let all = h.count in omega (arith, length-filter_both stays (λ q. not (stays q)) (λ q. refl) w.queues);
       names = IsDistinct-filter bytes_eq (λ (q : QueueHistory). q.name) stays w.queues h.names;
       uids = IsDistinct-filter nat_eq (λ (q : QueueHistory). q.uid) stays w.queues h.uids;
       used = All-filter stays (λ q. q.uid < w.next_uid) w.queues h.used;
@@ -207,7 +210,7 @@ moved-present_state w uid at place old new r h e after =
     (ap (λ (q : QueueHistory). set w.queues place q) (after ∙ ap (λ (q : QueueHistory). at_moment q at) e)
     ∙ map-present uid_of uid (λ q. at_moment q at) w.queues place old r.uids p.0 p.1)
 
-pub step-present_state : (w : World) (uid at : ℕ) (command : Command) (answer : Result Reply Fault) (place : ℕ) (old new : QueueHistory) → IsRegistry w
+pub step-present_state : {T : Type 0} (w : World) (uid at : ℕ) (command : Command) (answer : Result T Fault) (place : ℕ) (old new : QueueHistory) → IsRegistry w
     → position (λ q. nat_eq q.uid uid) w.queues ≡ Some place → old ≡ get_or w.queues place old → new ≡ after_answer old at command answer
     → record w { queues = set w.queues place new } ≡ with_queue_changed w uid (λ q. after_answer q at command answer)
 step-present_state w uid at command answer place old new r h e after =

@@ -62,8 +62,9 @@ source_names d uid = in_order (map name_of (filter (λ q. q.target == uid) d.que
 abbrev pub sources_answer : Directory → ℕ → Result (List (List ℕ)) Fault
 sources_answer d uid = if has_uid d uid then Ok (source_names d uid) else Err QueueDoesNotExist
 
--- no two queues have one name or one uid, no uid is used twice, and uids are from 1 and below 2^62
+-- at most 1,000 queues, no two of one name or one uid, no uid used twice, and uids from 1 and below 2^62
 pub record IsDirectory (d : Directory) : Type 0 where
+  pub count : length d.queues ≤ 1000
   pub names : IsDistinct bytes_eq (map name_of d.queues)
   pub uids : IsDistinct nat_eq (map (λ q. q.uid) d.queues)
   pub used : All (λ q. q.uid < d.next_uid) d.queues

@@ -8,12 +8,13 @@ use Rattle.message.specs.declared.fault.Fault.TheVariants.{QueueDoesNotExist, Qu
 use Rattle.message.specs.Fault.{is_out_of_memory}
 use Rattle.queue_config.specs.Config.{Configuration}
 use Rattle.queue_config.specs.Limits.{QueueLimits}
-use Rattle.queue_config.specs.Settings.{QueueSettings, RequestedAttributes, default_settings, settings_with}
+use Rattle.queue_config.specs.Settings.{QueueSettings, RequestedAttributes, default_settings, settings_with, same_settings}
+use Rattle.journal.specs.declared.entry.Event.TheVariants.{Closed}
 use Rattle.queue_core.specs.declared.command.Command.{Command}
-use Rattle.queue_core.specs.declared.command.Command.TheVariants as commands
+use Rattle.queue_core.specs.declared.command.Command.TheVariants.{Close}
 use Rattle.queue_core.specs.declared.reply.Reply.{Reply}
 use Rattle.queue_core.specs.Messages.{settings_of, is_closed}
-use Rattle.queue_core.specs.Queue.{QueueHistory, at_moment, outcome_at, after_answer}
+use Rattle.queue_core.specs.Queue.{QueueHistory, at_moment, outcome_at, adds_entry, with_event, after_answer}
 use Rattle.queue_core.specs.Kept.{opened_queue}
 use Rattle.redrive.specs.Listing.{listed_names}
 
@@ -55,11 +56,6 @@ queue_of_uid w uid = find (λ q. q.uid == uid) w.queues
 
 -- ---- creating a queue
 
-abbrev pub same_settings : QueueSettings → QueueSettings → Bool
-same_settings s t =
-    (s.delay_seconds == t.delay_seconds) && (s.visibility_timeout == t.visibility_timeout) && (s.retention_seconds == t.retention_seconds)
-    && (s.wait_seconds == t.wait_seconds) && (s.maximum_message_size == t.maximum_message_size)
-
 -- whether the queue's settings in force already are as requested
 abbrev pub has_all_requested : RequestedAttributes → QueueHistory → Bool
 has_all_requested wish q = same_settings (settings_with (settings_of q.lines) wish) (settings_of q.lines)
@@ -88,7 +84,7 @@ abbrev pub new_queue : World → ℕ → List ℕ → RequestedAttributes → Qu
 new_queue w at name wish = next_queue w at name (settings_with default_settings wish)
 
 -- what a create leaves: one queue more where it opens one, and else the world as it was
-abbrev pub world_after_create : World → ℕ → List ℕ → RequestedAttributes → Result ℕ Fault → World
+abbrev pub world_after_create : {T : Type 0} → World → ℕ → List ℕ → RequestedAttributes → Result T Fault → World
 world_after_create w at name wish answer =
     if is_out_of_memory answer then w
     else option_map_or (λ q. w) (queue_named w name) (if has_no_place w then w else with_queue w (new_queue w at name wish))
@@ -97,14 +93,8 @@ world_after_create w at name wish answer =
 
 -- whether a command closes a queue, which the registry alone does, where it deletes one
 abbrev pub closes_queue : Command → Bool
-closes_queue (commands.Send content delay) = false
-closes_queue (commands.Receive maximum timeout) = false
-closes_queue (commands.Change handle timeout) = false
-closes_queue (commands.Delete handle) = false
-closes_queue commands.Purge = false
-closes_queue (commands.Set wish target) = false
-closes_queue commands.Close = true
-closes_queue commands.Look = false
+closes_queue Close = true
+closes_queue _ = false
 
 -- the answer of a queue that is there
 abbrev pub answer_of_queue : QueueHistory → ℕ → Command → Result Reply Fault
@@ -114,16 +104,28 @@ answer_of_queue q at command = if closes_queue command then Err UnsupportedOpera
 abbrev pub step_answer : World → ℕ → ℕ → Command → Result Reply Fault
 step_answer w uid at command = option_map_or (λ q. answer_of_queue q at command) (queue_of_uid w uid) (Err QueueDoesNotExist)
 
+-- whether a command adds an entry to a queue; where none is added, no memory is needed
+abbrev pub adds_entry_at : World → ℕ → ℕ → Command → Bool
+adds_entry_at w uid at command = option_map_or (λ q. not (closes_queue command) && adds_entry (outcome_at q at command)) (queue_of_uid w uid) false
+
 -- the world with the queue of a uid changed, and every other queue as it was
 abbrev pub with_queue_changed : World → ℕ → (QueueHistory → QueueHistory) → World
 with_queue_changed w uid change = record w { queues = map (λ q. if q.uid == uid then change q else q) w.queues }
 
 -- what a command leaves
-abbrev pub world_after_step : World → ℕ → ℕ → Command → Result Reply Fault → World
+abbrev pub world_after_step : {T : Type 0} → World → ℕ → ℕ → Command → Result T Fault → World
 world_after_step w uid at command answer =
     if closes_queue command then w else with_queue_changed w uid (λ q. after_answer q at command answer)
 
 -- ---- deleting a queue
+
+-- a queue as its deletion leaves it: at that moment, with the entry that closes it
+abbrev pub closed_queue : QueueHistory → ℕ → QueueHistory
+closed_queue q at = with_event (at_moment q at) Closed
+
+-- the queue of the uid, closed
+abbrev pub take_answer : World → ℕ → ℕ → Result QueueHistory Fault
+take_answer w uid at = option_map_or (λ q. Ok (closed_queue q at)) (queue_of_uid w uid) (Err QueueDoesNotExist)
 
 abbrev pub delete_answer : World → ℕ → Result (Unit {0}) Fault
 delete_answer w uid = option_map_or (λ q. Ok tt) (queue_of_uid w uid) (Err QueueDoesNotExist)
@@ -151,8 +153,9 @@ world_at_moment w at = record w { queues = map (λ q. at_moment q at) w.queues }
 
 -- ---- what is true of every registry
 
--- no two queues have one name or one uid, no uid is used twice, uids are from 1 and below 2^62, all queues have the same limits, and none is closed
+-- at most 1,000 queues, no two of one name or one uid, no uid used twice, uids from 1 and below 2^62, the same limits for all queues, and none closed
 pub record IsRegistry (w : World) : Type 0 where
+  pub count : length w.queues ≤ 1000
   pub names : IsDistinct bytes_eq (map (λ q. q.name) w.queues)
   pub uids : IsDistinct nat_eq (map (λ q. q.uid) w.queues)
   pub used : All (λ q. q.uid < w.next_uid) w.queues

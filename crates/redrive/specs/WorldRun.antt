@@ -1,51 +1,144 @@
--- The queue registry over a list of commands.
-use Rattle.std.specs.Prelude.{◌≡◌, ℕ, ◌==◌, ◌&&◌, Bool, not, if◌then◌else◌, List, [], ◌∷◌, map, Some, Result}
-use Rattle.std.specs.List.{filter}
+-- The queue registry over a list of steps: queues created and deleted, commands for one queue, and time that passes for all.
+use Rattle.std.specs.Prelude.{◌≡◌, ℕ, ◌==◌, ◌&&◌, Bool, false, not, if◌then◌else◌, is_some, IfSome, List, [], ◌∷◌, map, Option, Some, None, unwrap_or, Result, Ok, Err}
+use Rattle.std.specs.Option.{option_map, option_map_or}
 use Rattle.message.specs.declared.fault.Fault.{Fault}
-use Rattle.message.specs.Fault.{Meets}
-use Rattle.queue_core.specs.declared.command.Step.{Step}
+use Rattle.message.specs.declared.fault.Fault.TheVariants.{QueueDoesNotExist}
+use Rattle.message.specs.Fault.{is_out_of_memory, Meets}
+use Rattle.queue_config.specs.Limits.{QueueLimits}
+use Rattle.queue_config.specs.Settings.{default_settings, settings_with}
+use Rattle.queue_core.specs.declared.command.Command.{Command}
+use Rattle.queue_core.specs.declared.command.Command.TheVariants as commands
 use Rattle.queue_core.specs.declared.reply.Reply.{Reply}
-use Rattle.queue_core.specs.Queue.{QueueHistory}
-use Rattle.queue_core.specs.Run.{AreAnswers, after_all}
-use Rattle.redrive.specs.declared.house.QueueStep.{QueueStep}
-use Rattle.redrive.specs.World.{World, queue_of_uid, closes_queue, step_answer, world_after_step}
+use Rattle.queue_core.specs.declared.reply.Reply.TheVariants as replies
+use Rattle.queue_core.specs.States.{gauges_of}
+use Rattle.queue_core.specs.Queue.{QueueHistory, at_moment, after_answer, offered_candidates, offers_of}
+use Rattle.queue_core.specs.Kept.{opened_queue}
+use Rattle.redrive.specs.declared.steps.HouseReply.{HouseReply}
+use Rattle.redrive.specs.declared.steps.HouseReply.TheVariants.{Created, Deleted, Performed, Advanced}
+use Rattle.redrive.specs.declared.steps.HouseStep.{HouseStep}
+use Rattle.redrive.specs.declared.steps.HouseStep.TheVariants as steps
+use Rattle.redrive.specs.declared.steps.QueueGauges.{QueueGauges}
+use Rattle.redrive.specs.World.{World, queue_of_uid, opens_queue, closes_queue, closed_queue, create_answer, world_after_create, take_answer, world_after_delete, answer_of_queue, step_answer, adds_entry_at, world_after_step, world_at_moment}
+use Rattle.redrive.specs.History.{AllQueues}
 
--- each answer is that of the world which the answers before it leave, unless memory ran out
-abbrev pub AreWorldAnswers : World → List QueueStep → List (Result Reply Fault) → Type 0
-AreWorldAnswers w [] [] = Unit {0}
-AreWorldAnswers w [] (answer ∷ answers) = ⊥
-AreWorldAnswers w (step ∷ steps) [] = ⊥
-AreWorldAnswers w (step ∷ steps) (answer ∷ answers) =
-    Meets answer (step_answer w step.uid step.at step.command)
-    × AreWorldAnswers (world_after_step w step.uid step.at step.command answer) steps answers
+abbrev pub Answer : Type 0
+Answer = Result HouseReply Fault
 
--- the world that the answers leave
-abbrev pub world_after_all : World → List QueueStep → List (Result Reply Fault) → World
+abbrev pub as_house_reply : {T : Type 0} → (T → HouseReply) → Result T Fault → Answer
+as_house_reply reply (Ok x) = Ok (reply x)
+as_house_reply reply (Err fault) = Err fault
+
+-- ---- one step
+
+abbrev pub answer_of_step : World → HouseStep → Answer
+answer_of_step w (steps.Create at name wish) = as_house_reply Created (create_answer w name wish)
+answer_of_step w (steps.Delete at uid) = as_house_reply Deleted (take_answer w uid at)
+answer_of_step w (steps.Perform at uid command) = as_house_reply Performed (step_answer w uid at command)
+answer_of_step w (steps.Advance at) = Ok Advanced
+
+-- whether a step needs memory: where it opens a queue, or adds to the journal of one
+abbrev pub needs_memory : World → HouseStep → Bool
+needs_memory w (steps.Create at name wish) = opens_queue w name
+needs_memory w (steps.Delete at uid) = is_some (queue_of_uid w uid)
+needs_memory w (steps.Perform at uid command) = adds_entry_at w uid at command
+needs_memory w (steps.Advance at) = false
+
+-- the registry that a step leaves which is answered so
+abbrev pub world_after : World → HouseStep → Answer → World
+world_after w (steps.Create at name wish) answer = world_after_create w at name wish answer
+world_after w (steps.Delete at uid) answer = world_after_delete w uid at answer
+world_after w (steps.Perform at uid command) answer = world_after_step w uid at command answer
+world_after w (steps.Advance at) answer = world_at_moment w at
+
+-- a queue that was deleted is handed over closed
+abbrev pub with_deleted : Answer → List QueueHistory → List QueueHistory
+with_deleted (Ok (Deleted q)) deleted = q ∷ deleted
+with_deleted _ deleted = deleted
+
+-- everything after a step
+abbrev pub all_after : AllQueues → HouseStep → Answer → AllQueues
+all_after all step answer = record { world = world_after all.world step answer; deleted = with_deleted answer all.deleted }
+
+-- ---- a list of steps
+
+-- the answer is that of the registry; only a step that needs memory may find none
+pub record IsAnswerOf (w : World) (step : HouseStep) (answer : Answer) : Type 0 where
+  pub meets : Meets answer (answer_of_step w step)
+  pub exact : needs_memory w step ≡ false → answer ≡ answer_of_step w step
+
+-- each answer is that of the registry which the answers before it leave
+abbrev pub AreHouseAnswers : World → List HouseStep → List Answer → Type 0
+AreHouseAnswers w [] [] = Unit {0}
+AreHouseAnswers w [] (answer ∷ answers) = ⊥
+AreHouseAnswers w (step ∷ steps) [] = ⊥
+AreHouseAnswers w (step ∷ steps) (answer ∷ answers) = IsAnswerOf w step answer × AreHouseAnswers (world_after w step answer) steps answers
+
+-- the registry that the answers leave
+abbrev pub world_after_all : World → List HouseStep → List Answer → World
 world_after_all w [] answers = w
 world_after_all w (step ∷ steps) [] = w
-world_after_all w (step ∷ steps) (answer ∷ answers) =
-    world_after_all (world_after_step w step.uid step.at step.command answer) steps answers
+world_after_all w (step ∷ steps) (answer ∷ answers) = world_after_all (world_after w step answer) steps answers
+
+-- everything that the answers leave
+abbrev pub history_after : AllQueues → List HouseStep → List Answer → AllQueues
+history_after all [] answers = all
+history_after all (step ∷ steps) [] = all
+history_after all (step ∷ steps) (answer ∷ answers) = history_after (all_after all step answer) steps answers
 
 -- ---- one queue of many
 
--- whether a command reaches the queue of a uid
-abbrev pub is_own : ℕ → QueueStep → Bool
-is_own uid s = not (closes_queue s.command) && (s.uid == uid)
+-- whether a create answers the uid
+abbrev pub answers_uid : ℕ → Answer → Bool
+answers_uid uid (Ok (Created given)) = given == uid
+answers_uid uid _ = false
 
--- the commands of a list that reach the queue of a uid
-abbrev pub own_steps : ℕ → List QueueStep → List Step
-own_steps uid steps = map (λ s. record { at = s.at; command = s.command }) (filter (λ s. is_own uid s) steps)
+-- what a step leaves of the queue of a uid, if there is one: it sees its own creation, commands and deletion, and time, and nothing else
+abbrev pub queue_after : QueueLimits → ℕ → Option QueueHistory → HouseStep → Answer → Option QueueHistory
+queue_after limits uid q (steps.Create at name wish) answer =
+    if answers_uid uid answer then Some (unwrap_or q (opened_queue uid name (settings_with default_settings wish) limits at)) else q
+queue_after limits uid q (steps.Delete at own) answer =
+    if own == uid then (if is_out_of_memory answer then option_map (λ q. at_moment q at) q else None) else q
+queue_after limits uid q (steps.Perform at own command) answer =
+    if (own == uid) && not (closes_queue command) then option_map (λ q. after_answer q at command answer) q else q
+queue_after limits uid q (steps.Advance at) answer = option_map (λ q. at_moment q at) q
 
--- the answers to them
-abbrev pub own_answers : ℕ → List QueueStep → List (Result Reply Fault) → List (Result Reply Fault)
-own_answers uid [] answers = []
-own_answers uid (step ∷ steps) [] = []
-own_answers uid (step ∷ steps) (answer ∷ answers) =
-    if is_own uid step then answer ∷ own_answers uid steps answers else own_answers uid steps answers
+-- its own commands and its own deletion are answered by it alone
+abbrev pub IsOwnAnswer : ℕ → Option QueueHistory → HouseStep → Answer → Type 0
+IsOwnAnswer uid q (steps.Create at name wish) answer = Unit {0}
+IsOwnAnswer uid q (steps.Delete at own) answer =
+    own ≡ uid → Meets answer (as_house_reply Deleted (option_map_or (λ q. Ok (closed_queue q at)) q (Err QueueDoesNotExist)))
+IsOwnAnswer uid q (steps.Perform at own command) answer =
+    own ≡ uid → Meets answer (as_house_reply Performed (option_map_or (λ q. answer_of_queue q at command) q (Err QueueDoesNotExist)))
+IsOwnAnswer uid q (steps.Advance at) answer = Unit {0}
 
--- each queue answers its own commands, and becomes what they leave, as if no other queue were there
-abbrev pub IsAsIfAlone : World → World → List QueueStep → List (Result Reply Fault) → Type 0
-IsAsIfAlone old new steps answers =
-    (uid : ℕ) (q : QueueHistory) → queue_of_uid old uid ≡ Some q
-    → AreAnswers q (own_steps uid steps) (own_answers uid steps answers)
-    × (queue_of_uid new uid ≡ Some (after_all q (own_steps uid steps) (own_answers uid steps answers)))
+-- the queue of a uid answers its own steps, and becomes what they leave, as if no other queue were there
+abbrev pub IsAsIfAlone : QueueLimits → ℕ → Option QueueHistory → List HouseStep → List Answer → Option QueueHistory → Type 0
+IsAsIfAlone limits uid q [] answers new = new ≡ q
+IsAsIfAlone limits uid q (step ∷ steps) [] new = new ≡ q
+IsAsIfAlone limits uid q (step ∷ steps) (answer ∷ answers) new =
+    IsOwnAnswer uid q step answer × IsAsIfAlone limits uid (queue_after limits uid q step answer) steps answers new
+
+-- ---- what is told of the queues is recomputed from their journals
+
+-- a look tells the counts and the age, and a receive offers the first messages of the order, that the whole journal gives
+abbrev pub IsTold : QueueHistory → Command → Reply → Type 0
+IsTold q commands.Look (replies.Looked look) = look.gauges ≡ gauges_of q.lines q.clock
+IsTold q (commands.Receive maximum timeout) (replies.Received offers) = offers ≡ offers_of q (offered_candidates q maximum)
+IsTold q _ _ = Unit {0}
+
+abbrev pub IsToldBy : World → HouseStep → Answer → Type 0
+IsToldBy w (steps.Perform at uid command) (Ok (Performed reply)) = IfSome (queue_of_uid w uid) (λ q. IsTold (at_moment q at) command reply)
+IsToldBy w _ _ = Unit {0}
+
+abbrev pub AreTold : World → List HouseStep → List Answer → Type 0
+AreTold w [] answers = Unit {0}
+AreTold w (step ∷ steps) [] = Unit {0}
+AreTold w (step ∷ steps) (answer ∷ answers) = IsToldBy w step answer × AreTold (world_after w step answer) steps answers
+
+abbrev pub measured_queue : QueueHistory → QueueGauges
+measured_queue q = record { uid = q.uid; gauges = gauges_of q.lines q.clock }
+
+-- the main theorem of the registry: each look, each receive, and the counts and the age of every queue at the end are what the whole journal of the queue gives
+pub record AreRecomputed (old new : World) (steps : List HouseStep) (answers : List Answer) (gauges : List QueueGauges) : Type 0 where
+  pub told : AreTold old steps answers
+  pub counted : gauges ≡ map measured_queue new.queues

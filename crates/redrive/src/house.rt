@@ -1,28 +1,21 @@
 //! The queue registry.
 
-ghost use Rattle.std.specs.Prelude.{◌≡◌, ◌≢◌, ℕ, ◌==◌, List, IfOk, OnOk, OnErr, IfErr, true, false};
+ghost use Rattle.std.specs.Prelude.{◌≡◌, ◌≢◌, ℕ, ◌<◌, ◌≤◌, ◌==◌, List, [], ◌∷◌, map, remove, slice_get, vec_len, vec_capacity, IfSome, IfOk, OnOk, OnErr, IfErr, true, false};
 ghost use Rattle.std.specs.List.{position};
-ghost use Rattle.std.specs.Option.{option_copied};
+ghost use Rattle.std.specs.Option.{option_copied, option_map};
 ghost use Rattle.message.specs.Fault.{Meets};
 ghost use Rattle.queue_core.specs.Messages.{is_closed};
-ghost use Rattle.queue_core.specs.Queue.{at_moment};
+ghost use Rattle.queue_core.specs.Queue.{QueueHistory, at_moment};
 
 use crate::catalog::UID_LIMIT;
 use crate::listing::list_name;
+use crate::steps::QueueGauges;
 use journal::{Moment, Ticks};
 use message::{Fault, QueueName};
 use queue_config::{Config, Limits, QUEUE_LIMIT, Settings, Wish};
 use queue_core::{Command, QueueState, Reply};
 use std::alloc::Global;
 use std::marker::Model;
-
-/// A command for the queue of a uid, and the moment that it comes at.
-#[derive(Debug, Drop)]
-pub struct QueueStep {
-    pub uid: u64,
-    pub at: Moment,
-    pub command: Command,
-}
 
 /// The queue registry: all queues, each under a name of its own and a uid of its own. Contracts see
 /// the limits that every queue gets, the uid of the next queue, and the queues in the order in which
@@ -44,7 +37,7 @@ impl Model for House {
     ghost invariant = { λ h. IsRegistry (record { limits = h.limits; next_uid = h.next_uid; queues = h.queues.items }) };
 }
 
-ghost use Rattle.redrive.specs.World.{has_all_requested, existing_answer, closes_queue};
+ghost use Rattle.redrive.specs.World.{has_all_requested, existing_answer, closes_queue, closed_queue};
 
 /// Whether a command closes a queue.
 fn is_closing(command: &Command) -> bool
@@ -75,15 +68,27 @@ fn existing_answer(queue: &QueueState, wish: &Wish) -> Result<u64, Fault>
 /// moved.
 fn close(queue: &mut QueueState, alloc: Global, at: Moment, ticks: &mut Ticks) -> Result<(), Fault>
     requires { is_closed queue.old.lines ≡ false }
+    ensures closed { OnOk result (queue.new ≡ closed_queue queue.old at) }
     ensures moved { OnErr result (queue.new ≡ at_moment queue.old at) }
     ensures errors { IfErr result (λ fault. fault ≡ Fault.OutOfMemory) }
 {
     queue.close(alloc, at, ticks)
 }
 
+/// Takes out the queue at a place, which is closed. Nothing else takes a queue out of the list.
+fn take_out(queues: &mut Vec<QueueState>, place: usize) -> QueueState
+    requires within { place < vec_len queues.old }
+    requires closed { IfSome (slice_get queues.old.items place) (λ q. is_closed q.lines ≡ true) }
+    ensures queue { slice_get queues.old.items place ≡ Some result }
+    ensures rest { queues.new.items ≡ remove queues.old.items place }
+{
+    queues.remove(place)
+}
+
 impl House {
-    ghost use Rattle.redrive.specs.World.{empty_world, new_world, next_queue, queue_named, queue_of_uid, found_uid, has_no_place, opens_queue, create_answer, with_queue, world_after_create, step_answer, world_after_step, delete_answer, world_after_delete, names_in_world, world_at_moment, IsRegistry};
-    ghost use Rattle.redrive.specs.WorldRun.{AreWorldAnswers, IsAsIfAlone, world_after_all};
+    ghost use Rattle.redrive.specs.World.{empty_world, new_world, next_queue, queue_named, queue_of_uid, found_uid, has_no_place, opens_queue, create_answer, with_queue, world_after_create, step_answer, adds_entry_at, world_after_step, take_answer, delete_answer, world_after_delete, names_in_world, world_at_moment, IsRegistry};
+    ghost use Rattle.redrive.specs.History.{journal_of, closed_journal};
+    ghost use Rattle.redrive.specs.WorldRun.{measured_queue};
 
     /// A registry with these limits and no queue.
     fn empty(alloc: Global, limits: Limits) -> House
@@ -196,7 +201,7 @@ impl House {
     }
 
     /// Does a command in the queue of a uid, if there is one.
-    fn perform_in(
+    pub(crate) fn perform_in(
         &mut self,
         alloc: Global,
         uid: u64,
@@ -207,6 +212,7 @@ impl House {
         ensures answer { Meets result (step_answer self.old uid at command.now) }
         ensures absent { queue_of_uid self.old uid ≡ None → result ≡ Err Fault.QueueDoesNotExist }
         ensures closing { closes_queue command.now ≡ true → result ≡ step_answer self.old uid at command.now }
+        ensures exact { adds_entry_at self.old uid at command.now ≡ false → result ≡ step_answer self.old uid at command.now }
         ensures state { self.new ≡ world_after_step self.old uid at command.now result }
     {
         let Some(place) = self.place_of(uid) else {
@@ -233,14 +239,44 @@ impl House {
         ensures answer { Meets result (step_answer self.old uid at command) }
         ensures absent { queue_of_uid self.old uid ≡ None → result ≡ Err Fault.QueueDoesNotExist }
         ensures closing { closes_queue command ≡ true → result ≡ step_answer self.old uid at command }
+        ensures exact { adds_entry_at self.old uid at command ≡ false → result ≡ step_answer self.old uid at command }
         ensures state { self.new ≡ world_after_step self.old uid at command result }
     {
         self.perform_in(alloc, uid, at, &command, ticks)
     }
 
-    /// Deletes the queue of a uid: it is closed, and its name is free. The uid is never used again.
-    /// Where no queue has the uid it is `QueueDoesNotExist`, and changes nothing; with `OutOfMemory`
-    /// only the queue's clock has moved.
+    /// Closes the queue of a uid, takes it out and hands it over; its name is free. Its journal has
+    /// one entry more, which closes it. The uid is never used again. Where no queue has the uid it is
+    /// `QueueDoesNotExist`, and changes nothing; with `OutOfMemory` only the queue's clock has moved.
+    pub fn take_queue(
+        &mut self,
+        alloc: Global,
+        uid: u64,
+        at: Moment,
+        ticks: &mut Ticks,
+    ) -> Result<QueueState, Fault>
+        ensures answer { Meets result (take_answer self.old uid at) }
+        ensures absent { queue_of_uid self.old uid ≡ None → result ≡ Err Fault.QueueDoesNotExist }
+        ensures state { self.new ≡ world_after_delete self.old uid at result }
+        ensures journal { IfOk result (λ q. (deleted : List QueueHistory)
+            → journal_of (record { world = self.new; deleted = q ∷ deleted }) uid
+            ≡ option_map (λ old. closed_journal old at) (queue_of_uid self.old uid)) }
+        ensures others { IfOk result (λ q. (deleted : List QueueHistory) (other : ℕ) → other ≢ uid
+            → journal_of (record { world = self.new; deleted = q ∷ deleted }) other
+            ≡ journal_of (record { world = self.old; deleted = deleted }) other) }
+    {
+        match self.place_of(uid) {
+            Some(place) => match close(&mut self.queues[place], alloc, at, ticks) {
+                Ok(()) => Ok(take_out(&mut self.queues, place)),
+                Err(_) => Err(Fault::OutOfMemory),
+            },
+            None => Err(Fault::QueueDoesNotExist),
+        }
+    }
+
+    /// Deletes the queue of a uid, so that its name is free. This is
+    /// [`take_queue`](House::take_queue), which closes it, with the queue let go. Where no queue has the uid it is
+    /// `QueueDoesNotExist`, and changes nothing; with `OutOfMemory` only the queue's clock has moved.
     pub fn delete_queue(
         &mut self,
         alloc: Global,
@@ -252,16 +288,8 @@ impl House {
         ensures absent { queue_of_uid self.old uid ≡ None → result ≡ Err Fault.QueueDoesNotExist }
         ensures state { self.new ≡ world_after_delete self.old uid at result }
     {
-        match self.place_of(uid) {
-            Some(place) => match close(&mut self.queues[place], alloc, at, ticks) {
-                Ok(()) => {
-                    self.queues.remove(place);
-                    Ok(())
-                }
-                Err(_) => Err(Fault::OutOfMemory),
-            },
-            None => Err(Fault::QueueDoesNotExist),
-        }
+        self.take_queue(alloc, uid, at, ticks)?;
+        Ok(())
     }
 
     /// The names that begin with a prefix, in the order of their bytes. `OutOfMemory` is the only
@@ -287,26 +315,26 @@ impl House {
         }
     }
 
-    /// Does commands one after another, and gives their answers in order. To each queue it is as if
-    /// it were alone with its own commands. The list holds commands alone: queues are created and
-    /// deleted between lists. Where the list of answers finds no memory, nothing is done.
-    pub fn run(
-        &mut self,
-        alloc: Global,
-        steps: &[QueueStep],
-        ticks: &mut Ticks,
-    ) -> Result<Vec<Result<Reply, Fault>>, Fault>
-        ensures answers { IfOk result (λ answers. AreWorldAnswers self.old steps.now answers.items) }
-        ensures state { IfOk result (λ answers. self.new ≡ world_after_all self.old steps.now answers.items) }
-        ensures alone { IfOk result (λ answers. IsAsIfAlone self.old self.new steps.now answers.items) }
-        ensures err { OnErr result (self.new ≡ self.old) }
-        ensures errors { IfErr result (λ fault. fault ≡ Fault.OutOfMemory) }
+    /// What is true of every registry. Nothing runs here.
+    pub(crate) fn keep_registry(&self)
+        ensures { IsRegistry self.now }
     {
-        let mut answers = Vec::with_capacity(alloc, steps.len())?;
-        for step in steps {
-            let answer = self.perform_in(alloc, step.uid, step.at, &step.command, ticks);
-            answers.push_reserved(answer);
+        let _queues = &self.queues;
+    }
+
+    /// Counts every queue, into an empty list that has room for 1,000.
+    pub(crate) fn measure(&self, gauges: &mut Vec<QueueGauges>)
+        requires empty { gauges.old.items ≡ [] }
+        requires room { 1000 ≤ vec_capacity gauges.old }
+        ensures { gauges.new.items ≡ map measured_queue self.now.queues }
+    {
+        for queue in self.queues.as_slice() {
+            let uid = queue.uid();
+            let counts = queue.gauges();
+            gauges.push_reserved(QueueGauges {
+                uid,
+                gauges: counts,
+            });
         }
-        Ok(answers)
     }
 }

@@ -4,18 +4,22 @@
 //!   and lists them by name, and hands each command to the queue that it is for.
 //! - [`Catalog`]: the name directory, for queues that are kept elsewhere: names, uids and targets.
 //!
-//! `World` in `specs/` is the registry as a value, and each call is one transition of it. `Listing` is
-//! the order of names, of which [`listed_names_ascend`] is a law; `WorldRun` is the registry over a list of commands, of which each queue sees
-//! only its own.
+//! `World` in `specs/` is the registry as a value, and each call is one transition of it. `History` has
+//! the deleted queues beside it, whose journals the program does not keep: [`House::take_queue`] hands
+//! a deleted queue over, closed. `WorldRun` is the registry over a list of steps, of which each queue
+//! sees only its own; [`House::run`] is the main theorem for the whole registry. `Listing` is the order
+//! of names, of which [`listed_names_ascend`] is a law.
 #![tactic(auto)]
 
 mod catalog;
 mod house;
 mod laws;
 mod listing;
+mod steps;
 #[cfg(test)]
 mod tests;
 
 pub use catalog::{Catalog, Registered, UID_LIMIT};
-pub use house::{House, QueueStep};
-pub use laws::listed_names_ascend;
+pub use house::House;
+pub use laws::{histories_begin, listed_names_ascend};
+pub use steps::{HouseReply, HouseRun, HouseStep, QueueGauges};

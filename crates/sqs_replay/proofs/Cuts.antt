@@ -11,7 +11,9 @@ use Rattle.sqs_replay.specs.Cutting.{HasNoFeed, whole_from, last_from, whole_pie
 pub whole_from-append : (begun xs ys : List ℕ) → whole_from begun (xs ++ ys) ≡ whole_from begun xs ++ whole_from (last_from begun xs) ys
 whole_from-append begun [] ys = refl
 whole_from-append begun (x ∷ xs) ys =
-    elim (x == 10) as (λ b. (if b then begun ∷ whole_from [] (xs ++ ys) else whole_from (begun ++ x ∷ []) (xs ++ ys)) ≡ (if b then begun ∷ whole_from [] xs else whole_from (begun ++ x ∷ []) xs) ++ whole_from (if b then last_from [] xs else last_from (begun ++ x ∷ []) xs) ys) [
+    elim (x == 10) as (λ b. (if b then begun ∷ whole_from [] (xs ++ ys) else whole_from (begun ++ x ∷ []) (xs ++ ys)) ≡
+    (if b then begun ∷ whole_from [] xs else whole_from (begun ++ x ∷ []) xs) ++ whole_from
+    (if b then last_from [] xs else last_from (begun ++ x ∷ []) xs) ys) [
       | true ↦ ap (λ l. begun ∷ l) (whole_from-append [] xs ys)
       | false ↦ whole_from-append (begun ++ x ∷ []) xs ys
     ]
@@ -19,13 +21,15 @@ whole_from-append begun (x ∷ xs) ys =
 pub last_from-append : (begun xs ys : List ℕ) → last_from begun (xs ++ ys) ≡ last_from (last_from begun xs) ys
 last_from-append begun [] ys = refl
 last_from-append begun (x ∷ xs) ys =
-    elim (x == 10) as (λ b. (if b then last_from [] (xs ++ ys) else last_from (begun ++ x ∷ []) (xs ++ ys)) ≡ last_from (if b then last_from [] xs else last_from (begun ++ x ∷ []) xs) ys) [
+    elim (x == 10) as (λ b. (if b then last_from [] (xs ++ ys) else last_from (begun ++ x ∷ []) (xs ++ ys)) ≡ last_from
+    (if b then last_from [] xs else last_from (begun ++ x ∷ []) xs) ys) [
       | true ↦ last_from-append [] xs ys
       | false ↦ last_from-append (begun ++ x ∷ []) xs ys
     ]
 
 pub lines_among-append : (ps qs : List (List ℕ)) → lines_among (ps ++ qs) ≡ lines_among ps ++ lines_among qs
-lines_among-append ps qs = ap (filter (λ line. nat_lt 0 (length line))) (map-append line_of ps qs) ∙ filter-append (λ line. nat_lt 0 (length line)) (map line_of ps) (map line_of qs)
+lines_among-append ps qs = ap (filter (λ line. nat_lt 0 (length line))) (map-append line_of ps qs)
+    ∙ filter-append (λ line. nat_lt 0 (length line)) (map line_of ps) (map line_of qs)
 
 pub whole_lines-append : (xs ys : List ℕ) → whole_lines (xs ++ ys) ≡ whole_lines xs ++ lines_among (whole_from (last_piece xs) ys)
 whole_lines-append xs ys = ap lines_among (whole_from-append [] xs ys) ∙ lines_among-append (whole_pieces xs) (whole_from (last_piece xs) ys)
@@ -85,11 +89,13 @@ whole_from-joined begun [] = sym (append-nil begun)
 whole_from-joined begun (x ∷ xs) =
     elim (eqb_tells x 10) [
       | inl same ↦
-          subst (λ (t : Bool). flat_map (λ piece. piece ++ 10 ∷ []) (if t then begun ∷ whole_from [] xs else whole_from (begun ++ x ∷ []) xs) ++ (if t then last_from [] xs else last_from (begun ++ x ∷ []) xs) ≡ begun ++ x ∷ xs) (sym same.0)
+          subst (λ (t : Bool). flat_map (λ piece. piece ++ 10 ∷ []) (if t then begun ∷ whole_from [] xs else whole_from (begun ++ x ∷ []) xs) ++
+          (if t then last_from [] xs else last_from (begun ++ x ∷ []) xs) ≡ begun ++ x ∷ xs) (sym same.0)
           (append_assoc (begun ++ 10 ∷ []) (flat_map (λ piece. piece ++ 10 ∷ []) (whole_from [] xs)) (last_from [] xs)
           ∙ (ap (λ l. (begun ++ 10 ∷ []) ++ l) (whole_from-joined [] xs) ∙ (append_assoc begun (10 ∷ []) xs ∙ ap (λ (b : ℕ). begun ++ b ∷ xs) (sym same.1))))
       | inr other ↦
-          subst (λ (t : Bool). flat_map (λ piece. piece ++ 10 ∷ []) (if t then begun ∷ whole_from [] xs else whole_from (begun ++ x ∷ []) xs) ++ (if t then last_from [] xs else last_from (begun ++ x ∷ []) xs) ≡ begun ++ x ∷ xs) (sym other.0)
+          subst (λ (t : Bool). flat_map (λ piece. piece ++ 10 ∷ []) (if t then begun ∷ whole_from [] xs else whole_from (begun ++ x ∷ []) xs) ++
+          (if t then last_from [] xs else last_from (begun ++ x ∷ []) xs) ≡ begun ++ x ∷ xs) (sym other.0)
           (whole_from-joined (begun ++ x ∷ []) xs ∙ append_assoc begun (x ∷ []) xs)
     ]
 
@@ -101,8 +107,10 @@ pub whole_from-no_feed : (begun bytes : List ℕ) → HasNoFeed begun → AllByR
 whole_from-no_feed begun [] h = tt
 whole_from-no_feed begun (x ∷ xs) h =
     elim (eqb_tells x 10) [
-      | inl same ↦ subst (λ (t : Bool). AllByRecursion HasNoFeed (if t then begun ∷ whole_from [] xs else whole_from (begun ++ x ∷ []) xs)) (sym same.0) (h, whole_from-no_feed [] xs tt)
-      | inr other ↦ subst (λ (t : Bool). AllByRecursion HasNoFeed (if t then begun ∷ whole_from [] xs else whole_from (begun ++ x ∷ []) xs)) (sym other.0) (whole_from-no_feed (begun ++ x ∷ []) xs (HasNoFeed-push begun x h other.1))
+      | inl same ↦ subst (λ (t : Bool). AllByRecursion HasNoFeed (if t then begun ∷ whole_from [] xs else whole_from (begun ++ x ∷ []) xs)) (sym same.0)
+          (h, whole_from-no_feed [] xs tt)
+      | inr other ↦ subst (λ (t : Bool). AllByRecursion HasNoFeed (if t then begun ∷ whole_from [] xs else whole_from (begun ++ x ∷ []) xs)) (sym other.0)
+          (whole_from-no_feed (begun ++ x ∷ []) xs (HasNoFeed-push begun x h other.1))
     ]
 
 pub last_from-no_feed : (begun bytes : List ℕ) → HasNoFeed begun → HasNoFeed (last_from begun bytes)
@@ -110,7 +118,8 @@ last_from-no_feed begun [] h = h
 last_from-no_feed begun (x ∷ xs) h =
     elim (eqb_tells x 10) [
       | inl same ↦ subst (λ (t : Bool). HasNoFeed (if t then last_from [] xs else last_from (begun ++ x ∷ []) xs)) (sym same.0) (last_from-no_feed [] xs tt)
-      | inr other ↦ subst (λ (t : Bool). HasNoFeed (if t then last_from [] xs else last_from (begun ++ x ∷ []) xs)) (sym other.0) (last_from-no_feed (begun ++ x ∷ []) xs (HasNoFeed-push begun x h other.1))
+      | inr other ↦ subst (λ (t : Bool). HasNoFeed (if t then last_from [] xs else last_from (begun ++ x ∷ []) xs)) (sym other.0)
+          (last_from-no_feed (begun ++ x ∷ []) xs (HasNoFeed-push begun x h other.1))
     ]
 
 -- ---- a byte or some bytes in the middle
@@ -118,7 +127,8 @@ last_from-no_feed begun (x ∷ xs) h =
 -- what a slice from n on holds, after what stands before it
 pub cut_on : (bytes front rest : List ℕ) (n : ℕ) → bytes ≡ front ++ rest → bytes ≡ (front ++ take n rest) ++ take (length rest - n) (drop n rest)
 cut_on bytes front rest n e =
-    e ∙ (ap (λ l. front ++ l) (sym (take-append-drop n rest) ∙ ap (λ l. take n rest ++ l) (sym (take_rest rest n))) ∙ sym (append_assoc front (take n rest) _))
+    e ∙ (ap (λ l. front ++ l) (sym (take-append-drop n rest) ∙ ap (λ l. take n rest ++ l) (sym (take_rest rest n)))
+    ∙ sym (append_assoc front (take n rest) _))
 
 pub read_more : (read bytes : List ℕ) (i : ℕ) → i < length bytes → (read ++ take i bytes) ++ get_or bytes i 0 ∷ [] ≡ read ++ take (i + 1) bytes
 read_more read bytes i h = append_assoc read (take i bytes) (get_or bytes i 0 ∷ []) ∙ ap (λ l. read ++ l) (sym (take_more bytes i 0 h))
@@ -141,7 +151,8 @@ last_from-piece begun (x ∷ xs) h =
     ap (λ (t : Bool). if t then last_from [] xs else last_from (begun ++ x ∷ []) xs) (other_byte x h.0)
     ∙ (last_from-piece (begun ++ x ∷ []) xs h.1 ∙ append_assoc begun (x ∷ []) xs)
 
-pub whole_pieces-joined : (pieces : List (List ℕ)) (last : List ℕ) → AllByRecursion HasNoFeed pieces → HasNoFeed last → whole_pieces (flat_map (λ piece. piece ++ 10 ∷ []) pieces ++ last) ≡ pieces
+pub whole_pieces-joined : (pieces : List (List ℕ)) (last : List ℕ) → AllByRecursion HasNoFeed pieces → HasNoFeed last
+    → whole_pieces (flat_map (λ piece. piece ++ 10 ∷ []) pieces ++ last) ≡ pieces
 whole_pieces-joined [] last h free = whole_from-piece [] last free
 whole_pieces-joined (p ∷ ps) last h free =
     let rest = flat_map (λ (piece : List ℕ). piece ++ 10 ∷ []) ps ++ last in
@@ -151,7 +162,8 @@ whole_pieces-joined (p ∷ ps) last h free =
     ∙ (ap (λ (l : List ℕ). l ∷ whole_from [] rest) (last_from-piece [] p h.0)
     ∙ ap (λ l. p ∷ l) (whole_pieces-joined ps last h.1 free))))
 
-pub last_piece-joined : (pieces : List (List ℕ)) (last : List ℕ) → AllByRecursion HasNoFeed pieces → HasNoFeed last → last_piece (flat_map (λ piece. piece ++ 10 ∷ []) pieces ++ last) ≡ last
+pub last_piece-joined : (pieces : List (List ℕ)) (last : List ℕ) → AllByRecursion HasNoFeed pieces → HasNoFeed last
+    → last_piece (flat_map (λ piece. piece ++ 10 ∷ []) pieces ++ last) ≡ last
 last_piece-joined [] last h free = last_from-piece [] last free
 last_piece-joined (p ∷ ps) last h free =
     let rest = flat_map (λ (piece : List ℕ). piece ++ 10 ∷ []) ps ++ last in

@@ -65,13 +65,15 @@ input_line_of-form line parts h =
 
 -- ---- parts with a space between are cut there
 
-position_or_len-seam : (test : ℕ → Bool) → ((c : ℕ) → test c ≡ true → is_space c ≡ false) → (front rest : List ℕ) → list_all test front ≡ true → position_or_len is_space (front ++ space ∷ rest) ≡ length front
+position_or_len-seam : (test : ℕ → Bool) → ((c : ℕ) → test c ≡ true → is_space c ≡ false) → (front rest : List ℕ) → list_all test front ≡ true
+    → position_or_len is_space (front ++ space ∷ rest) ≡ length front
 position_or_len-seam test apart [] rest h = refl
 position_or_len-seam test apart (c ∷ front) rest h =
     let here = both (test c) (list_all test front) h in
     rw (apart c here.0, position_or_len-seam test apart front rest here.1) (omega arith)
 
-cut-seam : (test : ℕ → Bool) → ((c : ℕ) → test c ≡ true → is_space c ≡ false) → (front rest : List ℕ) → list_all test front ≡ true → cut (front ++ space ∷ rest) ≡ Ok (front, rest)
+cut-seam : (test : ℕ → Bool) → ((c : ℕ) → test c ≡ true → is_space c ≡ false) → (front rest : List ℕ) → list_all test front ≡ true
+    → cut (front ++ space ∷ rest) ≡ Ok (front, rest)
 cut-seam test apart front rest h =
     let seam : position_or_len is_space (front ++ space ∷ rest) ≡ length front = position_or_len-seam test apart front rest h in
     let size : length (front ++ space ∷ rest) ≡ length front + length (space ∷ rest) = length-append front (space ∷ rest) in
@@ -79,7 +81,8 @@ cut-seam test apart front rest h =
     let inside : nat_lt (length front) (length (front ++ space ∷ rest)) ≡ true = grind (arith, nat_tests) in
     let before : take (length front) (front ++ space ∷ rest) ≡ front = take_at front (space ∷ rest) (length front) refl in
     let after : drop (length front + 1) (front ++ space ∷ rest) ≡ rest =
-    ap (λ (text : List ℕ). drop (length front + 1) text) (sym (append_assoc front (space ∷ []) rest)) ∙ drop_at (front ++ space ∷ []) rest (length front + 1) (length-append front (space ∷ [])) in
+    ap (λ (text : List ℕ). drop (length front + 1) text) (sym (append_assoc front (space ∷ []) rest))
+    ∙ drop_at (front ++ space ∷ []) rest (length front + 1) (length-append front (space ∷ [])) in
     rw (seam, inside, before, after)
 
 digit_apart : (c : ℕ) → is_ascii_digit c ≡ true → is_space c ≡ false

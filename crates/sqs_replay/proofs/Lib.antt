@@ -3,4 +3,7 @@ pub mod Cuts
 pub mod LineLemmas
 pub mod GrammarLemmas
 pub mod AnswerLemmas
+pub mod Stages
+pub mod Stops
+pub mod Counts
 pub mod BatchLemmas

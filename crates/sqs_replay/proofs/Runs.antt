@@ -33,11 +33,14 @@ AppendsPart-whole a b bytes p = (bytes, [], sym (append-nil bytes), p)
 
 -- ---- texts and states of lines one after another
 
-pub texts-append : {S : Type 0} (text : S → List ℕ → List ℕ) (after : S → List ℕ → S) (state : S) (ls ms : List (List ℕ)) → texts text after state (ls ++ ms) ≡ texts text after state ls ++ texts text after (state_after after state ls) ms
+pub texts-append : {S : Type 0} (text : S → List ℕ → List ℕ) (after : S → List ℕ → S) (state : S) (ls ms : List (List ℕ))
+    → texts text after state (ls ++ ms) ≡ texts text after state ls ++ texts text after (state_after after state ls) ms
 texts-append text after state [] ms = refl
-texts-append text after state (l ∷ ls) ms = ap (λ t. text state l ++ t) (texts-append text after (after state l) ls ms) ∙ sym (append_assoc (text state l) _ _)
+texts-append text after state (l ∷ ls) ms = ap (λ t. text state l ++ t) (texts-append text after (after state l) ls ms)
+    ∙ sym (append_assoc (text state l) _ _)
 
-pub state_after-append : {S : Type 0} (after : S → List ℕ → S) (state : S) (ls ms : List (List ℕ)) → state_after after state (ls ++ ms) ≡ state_after after (state_after after state ls) ms
+pub state_after-append : {S : Type 0} (after : S → List ℕ → S) (state : S) (ls ms : List (List ℕ))
+    → state_after after state (ls ++ ms) ≡ state_after after (state_after after state ls) ms
 state_after-append after state [] ms = refl
 state_after-append after state (l ∷ ls) ms = state_after-append after (after state l) ls ms
 
@@ -47,7 +50,8 @@ state_after-append after state (l ∷ ls) ms = state_after-append after (after s
 abbrev pub SameBeyond : {A : Type 0} → ℕ → (List ℕ → A) → Type 0
 SameBeyond limit f = (first second : List ℕ) → limit < length first → limit < length second → f first ≡ f second
 
-pub kept_alike : {A : Type 0} (limit : ℕ) (f : List (List ℕ) → A) → SameBeyond limit (λ line. f (line ∷ [])) → (p : List ℕ) → f (lines_among (take (limit + 2) p ∷ [])) ≡ f (lines_among (p ∷ []))
+pub kept_alike : {A : Type 0} (limit : ℕ) (f : List (List ℕ) → A) → SameBeyond limit (λ line. f (line ∷ [])) → (p : List ℕ)
+    → f (lines_among (take (limit + 2) p ∷ [])) ≡ f (lines_among (p ∷ []))
 kept_alike limit f same p =
     elim (cases_lt (limit + 2) (length p)) [
       | inl long ↦
@@ -66,8 +70,10 @@ module _ {S : Type 0} (text : S → List ℕ → List ℕ) (after : S → List �
   same_texts state first second p q = ap (λ t. t ++ []) (same_text state first second p q)
 
   -- the text of what is kept, after that of the whole lines, is that of the whole lines and the piece
-  pub texts-piece : (start : S) (before : Option (List ℕ)) (read : List ℕ) (state : S) (kept : List ℕ) (taken : Option (List ℕ)) → HasRead text after start before read state kept taken
-      → texts text after start (whole_lines read ++ lines_among (last_piece read ∷ [])) ≡ texts text after start (whole_lines read) ++ texts text after state (lines_among (kept ∷ []))
+  pub texts-piece : (start : S) (before : Option (List ℕ)) (read : List ℕ) (state : S) (kept : List ℕ) (taken : Option (List ℕ))
+      → HasRead text after start before read state kept taken
+      → texts text after start (whole_lines read ++ lines_among (last_piece read ∷ [])) ≡ texts text after start (whole_lines read) ++ texts text after state
+      (lines_among (kept ∷ []))
   texts-piece start before read state kept taken h =
       let now = state_after after start (whole_lines read) in
       texts-append text after start (whole_lines read) (lines_among (last_piece read ∷ []))
@@ -76,7 +82,8 @@ module _ {S : Type 0} (text : S → List ℕ → List ℕ) (after : S → List �
       ∙ (ap (λ (k : List ℕ). texts text after now (lines_among (k ∷ []))) (sym h.kept_is)
       ∙ ap (λ (s : S). texts text after s (lines_among (kept ∷ []))) (sym h.state_is)))
 
-  pub state_after-piece : (start : S) (before : Option (List ℕ)) (read : List ℕ) (state : S) (kept : List ℕ) (taken : Option (List ℕ)) → HasRead text after start before read state kept taken
+  pub state_after-piece : (start : S) (before : Option (List ℕ)) (read : List ℕ) (state : S) (kept : List ℕ) (taken : Option (List ℕ))
+      → HasRead text after start before read state kept taken
       → state_after after start (whole_lines read ++ lines_among (last_piece read ∷ [])) ≡ state_after after state (lines_among (kept ∷ []))
   state_after-piece start before read state kept taken h =
       let now = state_after after start (whole_lines read) in
@@ -86,7 +93,8 @@ module _ {S : Type 0} (text : S → List ℕ → List ℕ) (after : S → List �
       ∙ ap (λ (s : S). state_after after s (lines_among (kept ∷ []))) (sym h.state_is)))
 
   -- a line feed, and the piece was answered
-  pub feed_read : (start : S) (before : Option (List ℕ)) (read : List ℕ) (state : S) (kept : List ℕ) (taken : Option (List ℕ)) → HasRead text after start before read state kept taken
+  pub feed_read : (start : S) (before : Option (List ℕ)) (read : List ℕ) (state : S) (kept : List ℕ) (taken : Option (List ℕ))
+      → HasRead text after start before read state kept taken
       → (byte : ℕ) → byte ≡ 10 → (state' : S) (kept' : List ℕ) (taken' : Option (List ℕ))
       → Appends taken taken' (texts text after state (lines_among (kept ∷ []))) → state' ≡ state_after after state (lines_among (kept ∷ [])) → kept' ≡ []
       → HasRead text after start before (read ++ byte ∷ []) state' kept' taken'
@@ -95,18 +103,22 @@ module _ {S : Type 0} (text : S → List ℕ → List ℕ) (after : S → List �
       record {
         state_is = state_is ∙ (sym (state_after-piece start before read state kept taken h) ∙ sym (ap (state_after after start) lines));
         kept_is = none ∙ ap (take (LINE_LIMIT + 2)) (sym (last_piece-feed read byte e));
-        appended = subst (Appends before taken') (sym (ap (texts text after start) lines ∙ texts-piece start before read state kept taken h)) (Appends-trans before taken taken' _ _ h.appended written);
+        appended = subst (Appends before taken') (sym (ap (texts text after start) lines ∙ texts-piece start before read state kept taken h))
+            (Appends-trans before taken taken' _ _ h.appended written);
       }
 
   -- a line feed, and the answer of the piece stopped
-  pub feed_stopped : (start : S) (before : Option (List ℕ)) (read : List ℕ) (state : S) (kept : List ℕ) (taken : Option (List ℕ)) → HasRead text after start before read state kept taken
+  pub feed_stopped : (start : S) (before : Option (List ℕ)) (read : List ℕ) (state : S) (kept : List ℕ) (taken : Option (List ℕ))
+      → HasRead text after start before read state kept taken
       → (byte : ℕ) → byte ≡ 10 → (taken' : Option (List ℕ)) → AppendsPart taken taken' (texts text after state (lines_among (kept ∷ [])))
       → AppendsPart before taken' (texts text after start (whole_lines (read ++ byte ∷ [])))
   feed_stopped start before read state kept taken h byte e taken' written =
-      subst (AppendsPart before taken') (sym (ap (texts text after start) (whole_lines-feed read byte e) ∙ texts-piece start before read state kept taken h)) (AppendsPart-before before taken taken' _ _ h.appended written)
+      subst (AppendsPart before taken') (sym (ap (texts text after start) (whole_lines-feed read byte e) ∙ texts-piece start before read state kept taken h))
+      (AppendsPart-before before taken taken' _ _ h.appended written)
 
   -- the end of the input, and the last piece was answered
-  pub end_read : (start : S) (read : List ℕ) (state : S) (kept : List ℕ) (left_before left_after before taken : Option (List ℕ)) → HasRead text after start before read state kept taken
+  pub end_read : (start : S) (read : List ℕ) (state : S) (kept : List ℕ) (left_before left_after before taken : Option (List ℕ))
+      → HasRead text after start before read state kept taken
       → Consumes left_before left_after read → IsAtEnd left_after → (state' : S) (taken' : Option (List ℕ))
       → Appends taken taken' (texts text after state (lines_among (kept ∷ []))) → state' ≡ state_after after state (lines_among (kept ∷ []))
       → AnswersAll text after start state' left_before left_after before taken' read
@@ -114,54 +126,67 @@ module _ {S : Type 0} (text : S → List ℕ → List ℕ) (after : S → List �
       record {
         consumed = consumed;
         ended = ended;
-        appended = subst (Appends before taken') (sym (ap (texts text after start) (lines_of-split read) ∙ texts-piece start before read state kept taken h)) (Appends-trans before taken taken' _ _ h.appended written);
+        appended = subst (Appends before taken') (sym (ap (texts text after start) (lines_of-split read) ∙ texts-piece start before read state kept taken h))
+            (Appends-trans before taken taken' _ _ h.appended written);
         state_is = state_is ∙ (sym (state_after-piece start before read state kept taken h) ∙ sym (ap (state_after after start) (lines_of-split read)));
       }
 
   -- the end of the input, and the answer of the last piece stopped
-  pub end_stopped : (start : S) (read : List ℕ) (state : S) (kept : List ℕ) (left_before left_after before taken : Option (List ℕ)) → HasRead text after start before read state kept taken
-      → Consumes left_before left_after read → IsAtEnd left_after → (taken' : Option (List ℕ)) → AppendsPart taken taken' (texts text after state (lines_among (kept ∷ [])))
+  pub end_stopped : (start : S) (read : List ℕ) (state : S) (kept : List ℕ) (left_before left_after before taken : Option (List ℕ))
+      → HasRead text after start before read state kept taken
+      → Consumes left_before left_after read → IsAtEnd left_after → (taken' : Option (List ℕ)) → AppendsPart taken taken'
+      (texts text after state (lines_among (kept ∷ [])))
       → AnswersPart text after start left_before left_after before taken' read
   end_stopped start read state kept left_before left_after before taken h consumed ended taken' written =
       record {
         consumed = consumed;
-        appended = inr (ended, subst (AppendsPart before taken') (sym (ap (texts text after start) (lines_of-split read) ∙ texts-piece start before read state kept taken h)) (AppendsPart-before before taken taken' _ _ h.appended written));
+        appended = inr (
+          ended,
+          subst (AppendsPart before taken') (sym (ap (texts text after start) (lines_of-split read)
+              ∙ texts-piece start before read state kept taken h)) (AppendsPart-before before taken taken' _ _ h.appended written),
+        );
       }
 
 -- ---- steps that answer nothing
 
 -- a copy of what is kept
-pub kept_as : {S : Type 0} {text : S → List ℕ → List ℕ} {after : S → List ℕ → S} {start : S} {before : Option (List ℕ)} {read : List ℕ} {state : S} {kept : List ℕ} {taken : Option (List ℕ)} (piece : List ℕ)
+pub kept_as : {S : Type 0} {text : S → List ℕ → List ℕ} {after : S → List ℕ
+    → S} {start : S} {before : Option (List ℕ)} {read : List ℕ} {state : S} {kept : List ℕ} {taken : Option (List ℕ)} (piece : List ℕ)
     → piece ≡ kept → HasRead text after start before read state kept taken → HasRead text after start before read state piece taken
 kept_as piece e h = record { state_is = h.state_is; kept_is = e ∙ h.kept_is; appended = h.appended }
 
 module _ {S : Type 0} (text : S → List ℕ → List ℕ) (after : S → List ℕ → S) where
   -- another byte that is kept
-  pub other_read : (start : S) (before : Option (List ℕ)) (read : List ℕ) (state : S) (kept : List ℕ) (taken : Option (List ℕ)) → HasRead text after start before read state kept taken
+  pub other_read : (start : S) (before : Option (List ℕ)) (read : List ℕ) (state : S) (kept : List ℕ) (taken : Option (List ℕ))
+      → HasRead text after start before read state kept taken
       → (byte : ℕ) → byte ≢ 10 → length kept < LINE_LIMIT + 2 → (kept' : List ℕ) → kept' ≡ kept ++ byte ∷ []
       → HasRead text after start before (read ++ byte ∷ []) state kept' taken
   other_read start before read state kept taken h byte e room kept' k =
       let fits : length (take (LINE_LIMIT + 2) (last_piece read)) < LINE_LIMIT + 2 = omega (arith, ap length h.kept_is) in
       record {
         state_is = h.state_is ∙ ap (state_after after start) (sym (whole_lines-other read byte e));
-        kept_is = k ∙ (ap (λ l. l ++ byte ∷ []) h.kept_is ∙ (sym (kept_push (LINE_LIMIT + 2) (last_piece read) byte fits) ∙ ap (take (LINE_LIMIT + 2)) (sym (last_piece-other read byte e))));
+        kept_is = k ∙ (ap (λ l. l ++ byte ∷ []) h.kept_is ∙ (sym (kept_push (LINE_LIMIT + 2) (last_piece read) byte fits)
+            ∙ ap (take (LINE_LIMIT + 2)) (sym (last_piece-other read byte e))));
         appended = subst (Appends before taken) (ap (texts text after start) (sym (whole_lines-other read byte e))) h.appended;
       }
 
   -- another byte of a line that is too long
-  pub other_dropped : (start : S) (before : Option (List ℕ)) (read : List ℕ) (state : S) (kept : List ℕ) (taken : Option (List ℕ)) → HasRead text after start before read state kept taken
+  pub other_dropped : (start : S) (before : Option (List ℕ)) (read : List ℕ) (state : S) (kept : List ℕ) (taken : Option (List ℕ))
+      → HasRead text after start before read state kept taken
       → (byte : ℕ) → byte ≢ 10 → LINE_LIMIT + 2 ≤ length kept
       → HasRead text after start before (read ++ byte ∷ []) state kept taken
   other_dropped start before read state kept taken h byte e full =
       let is_full : LINE_LIMIT + 2 ≤ length (take (LINE_LIMIT + 2) (last_piece read)) = omega (arith, ap length h.kept_is) in
       record {
         state_is = h.state_is ∙ ap (state_after after start) (sym (whole_lines-other read byte e));
-        kept_is = h.kept_is ∙ (sym (kept_full (LINE_LIMIT + 2) (last_piece read) byte is_full) ∙ ap (take (LINE_LIMIT + 2)) (sym (last_piece-other read byte e)));
+        kept_is = h.kept_is ∙ (sym (kept_full (LINE_LIMIT + 2) (last_piece read) byte is_full)
+            ∙ ap (take (LINE_LIMIT + 2)) (sym (last_piece-other read byte e)));
         appended = subst (Appends before taken) (ap (texts text after start) (sym (whole_lines-other read byte e))) h.appended;
       }
 
   -- the text of the whole lines goes on when more is read
-  pub part_of_more : (start : S) (before taken : Option (List ℕ)) (read more : List ℕ) → AppendsPart before taken (texts text after start (whole_lines read)) → AppendsPart before taken (texts text after start (whole_lines (read ++ more)))
+  pub part_of_more : (start : S) (before taken : Option (List ℕ)) (read more : List ℕ) → AppendsPart before taken (texts text after start (whole_lines read))
+      → AppendsPart before taken (texts text after start (whole_lines (read ++ more)))
   part_of_more start before taken read more p =
       let next = lines_among (whole_from (last_piece read) more) in
       subst (AppendsPart before taken)
@@ -169,7 +194,8 @@ module _ {S : Type 0} (text : S → List ℕ → List ℕ) (after : S → List �
       (AppendsPart-longer before taken _ (texts text after (state_after after start (whole_lines read)) next) p)
 
   -- what was appended so far
-  pub stopped_here : (start : S) (before : Option (List ℕ)) (read : List ℕ) (state : S) (kept : List ℕ) (taken : Option (List ℕ)) (more : List ℕ) → HasRead text after start before read state kept taken
+  pub stopped_here : (start : S) (before : Option (List ℕ)) (read : List ℕ) (state : S) (kept : List ℕ) (taken : Option (List ℕ)) (more : List ℕ)
+      → HasRead text after start before read state kept taken
       → AppendsPart before taken (texts text after start (whole_lines (read ++ more)))
   stopped_here start before read state kept taken more h = part_of_more start before taken read more (AppendsPart-whole before taken _ h.appended)
 
@@ -191,17 +217,20 @@ Consumes-none a b c read buffer n p q e =
 
 module _ {S : Type 0} (text : S → List ℕ → List ℕ) (after : S → List ℕ → S) where
   -- a run that stopped between two pieces
-  pub stopped_between : (start : S) (read : List ℕ) (state : S) (kept : List ℕ) (left_before left_after before taken : Option (List ℕ)) → HasRead text after start before read state kept taken
+  pub stopped_between : (start : S) (read : List ℕ) (state : S) (kept : List ℕ) (left_before left_after before taken : Option (List ℕ))
+      → HasRead text after start before read state kept taken
       → Consumes left_before left_after read → AnswersPart text after start left_before left_after before taken read
   stopped_between start read state kept left_before left_after before taken h consumed =
       record { consumed = consumed; appended = inl (AppendsPart-whole before taken _ h.appended) }
 
-  pub known_text : (start end : S) (left_before left_after before taken : Option (List ℕ)) (input : List ℕ) → AnswersAll text after start end left_before left_after before taken input
+  pub known_text : (start end : S) (left_before left_after before taken : Option (List ℕ)) (input : List ℕ)
+      → AnswersAll text after start end left_before left_after before taken input
       → IfSome left_before (λ all. Appends before taken (replay_text text after start all))
   known_text start end left_before left_after before taken input h =
       Consumes-whole left_before left_after input (λ all. Appends before taken (replay_text text after start all)) h.consumed h.ended h.appended
 
-  pub known_state : (start end : S) (left_before left_after before taken : Option (List ℕ)) (input : List ℕ) → AnswersAll text after start end left_before left_after before taken input
+  pub known_state : (start end : S) (left_before left_after before taken : Option (List ℕ)) (input : List ℕ)
+      → AnswersAll text after start end left_before left_after before taken input
       → IfSome left_before (λ all. end ≡ replay_state after start all)
   known_state start end left_before left_after before taken input h =
       Consumes-whole left_before left_after input (λ all. end ≡ replay_state after start all) h.consumed h.ended h.state_is
@@ -218,19 +247,23 @@ front_of_nothing (Some input) taken f = AppendsPart-nothing taken (f input)
 
 module _ {S : Type 0} (text : S → List ℕ → List ℕ) (after : S → List ℕ → S) where
   -- the text of the whole lines is a front of the text of all lines
-  part_of_all : (start : S) (before taken : Option (List ℕ)) (input : List ℕ) → AppendsPart before taken (texts text after start (whole_lines input)) → AppendsPart before taken (replay_text text after start input)
+  part_of_all : (start : S) (before taken : Option (List ℕ)) (input : List ℕ) → AppendsPart before taken (texts text after start (whole_lines input))
+      → AppendsPart before taken (replay_text text after start input)
   part_of_all start before taken input p =
       let last = lines_among (last_piece input ∷ []) in
       subst (AppendsPart before taken)
       (sym (ap (texts text after start) (lines_of-split input) ∙ texts-append text after start (whole_lines input) last))
       (AppendsPart-longer before taken _ (texts text after (state_after after start (whole_lines input)) last) p)
 
-  pub front_of_all : (start end : S) (left_before left_after before taken : Option (List ℕ)) (input : List ℕ) → AnswersAll text after start end left_before left_after before taken input
+  pub front_of_all : (start end : S) (left_before left_after before taken : Option (List ℕ)) (input : List ℕ)
+      → AnswersAll text after start end left_before left_after before taken input
       → IfSome left_before (λ all. AppendsPart before taken (replay_text text after start all))
   front_of_all start end left_before left_after before taken input h =
-      Consumes-whole left_before left_after input (λ all. AppendsPart before taken (replay_text text after start all)) h.consumed h.ended (AppendsPart-whole before taken _ h.appended)
+      Consumes-whole left_before left_after input (λ all. AppendsPart before taken (replay_text text after start all)) h.consumed h.ended
+      (AppendsPart-whole before taken _ h.appended)
 
-  pub front_of_part : (start : S) (left_before left_after before taken : Option (List ℕ)) (read : List ℕ) → AnswersPart text after start left_before left_after before taken read
+  pub front_of_part : (start : S) (left_before left_after before taken : Option (List ℕ)) (read : List ℕ)
+      → AnswersPart text after start left_before left_after before taken read
       → IfSome left_before (λ all. AppendsPart before taken (replay_text text after start all))
   front_of_part start None left_after before taken read h = tt
   front_of_part start (Some input) None before taken read h = absurd h.consumed

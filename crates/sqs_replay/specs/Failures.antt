@@ -1,14 +1,14 @@
--- How often a device has failed, and what a failed write leaves.
-use Rattle.std.specs.Prelude.{◌≡◌, ℕ, ◌+◌, ◌-◌, ◌^◌, min, Bool, if◌then◌else◌, List, ◌++◌, Option, Result, is_err}
+-- How devices count, and what a failed write leaves.
+use Rattle.std.specs.Prelude.{◌≡◌, ℕ, ◌+◌, ◌-◌, ◌^◌, min, Bool, if◌then◌else◌, List, ◌++◌, Option}
 use Rattle.std.specs.Io.KnownBytes.{Appends}
 
--- a count of failures, with one more where there was one; it stops at 2^64 - 1
-abbrev pub failures_with : Bool → ℕ → ℕ
-failures_with failed count = if failed then min (count + 1) (2 ^ 64 - 1) else count
+-- a count with n more; it stops at 2^64 - 1
+abbrev pub counted : ℕ → ℕ → ℕ
+counted n count = min (count + n) (2 ^ 64 - 1)
 
--- the count after a call: one more where the call failed
-abbrev pub failures_after : {T E : Type 0} → ℕ → Result T E → ℕ
-failures_after count result = failures_with (is_err result) count
+-- a count with one more where something happened
+abbrev pub counted_if : Bool → ℕ → ℕ
+counted_if happened count = if happened then counted 1 count else count
 
 -- known bytes grow by a part of these, from the front
 abbrev pub AppendsPart : Option (List ℕ) → Option (List ℕ) → List ℕ → Type 0

@@ -8,4 +8,5 @@ pub mod InputLine
 pub mod Served
 pub mod Replay
 pub mod LongLines
+pub mod Program
 pub mod Toy

@@ -1,11 +1,10 @@
 -- What a line of the input asks, and what a world answers it.
-use Rattle.std.specs.Prelude.{◌≡◌, ℕ, ⊤, nat_lt, if◌then◌else◌, List, [], ◌∷◌, ◌++◌, length, codes, decimal, Option, Result, Ok, Err, ok_or, MatchBool}
+use Rattle.std.specs.Prelude.{◌≡◌, ℕ, ⊤, nat_lt, if◌then◌else◌, List, [], ◌∷◌, ◌++◌, length, codes, decimal, Option, Result, Ok, Err, MatchBool}
 use Rattle.std.specs.Option.{option_map_or}
 use Rattle.std.specs.Str.{bytes_eq}
 use Rattle.message.specs.declared.fault.Fault.{Fault}
-use Rattle.message.specs.declared.fault.Fault.TheVariants.{QueueDoesNotExist, SerializationException}
+use Rattle.message.specs.declared.fault.Fault.TheVariants.{QueueDoesNotExist, SerializationException, OutOfMemory}
 use Rattle.message.specs.Fault.{is_out_of_memory}
-use Rattle.message.specs.Content.{ContentText}
 use Rattle.queue_core.specs.declared.command.Command.{Command}
 use Rattle.queue_core.specs.declared.command.Command.TheVariants as commands
 use Rattle.queue_core.specs.declared.reply.Reply.{Reply}
@@ -31,7 +30,7 @@ use Rattle.sqs_replay.specs.declared.answer.Asked.{Asked}
 use Rattle.sqs_replay.specs.declared.answer.Asked.TheVariants.{Client, Tick}
 use Rattle.sqs_replay.specs.declared.answer.Timed.{Timed}
 use Rattle.sqs_replay.specs.InputLine.{input_line_of}
-use Rattle.redrive.specs.World.{World, found_uid, create_answer, world_after_create, step_answer, world_after_step, delete_answer, without_queue, names_in_world, world_at_moment}
+use Rattle.redrive.specs.World.{World, found_uid, create_answer, world_after_create, step_answer, world_after_step, delete_answer, world_after_delete, names_in_world, world_at_moment}
 
 -- ---- what a line asks
 
@@ -45,137 +44,131 @@ asked_of line =
     if nat_lt LINE_LIMIT (length line) then Err SerializationException
     else (input_line_of line >>= λ parts. result_map (λ asked. record { at = parts.at; asked = asked }) (asked_by parts.action parts.body))
 
--- ---- what a queue answers by its name
+-- ---- what an action answers, and what it leaves
 
-abbrev pub named_uid : World → List ℕ → Result ℕ Fault
-named_uid w name = ok_or (found_uid w name) QueueDoesNotExist
+-- the answer, the world after it, and the worlds that it goes through: where memory runs out, one of these may be left
+pub record Served (T : Type 0) : Type 0 where
+  pub answer : T
+  pub world : World
+  pub stages : List World
 
-abbrev pub command_answer : World → ℕ → List ℕ → Command → Result Reply Fault
-command_answer w at name command = named_uid w name >>= λ uid. step_answer w uid at command
+-- nothing changes
+abbrev pub unchanged : {T : Type 0} → World → T → Served T
+unchanged w answer = record { answer = answer; world = w; stages = [] }
 
-abbrev pub command_world : World → ℕ → List ℕ → Command → World
-command_world w at name command = option_map_or (λ uid. world_after_step w uid at command (step_answer w uid at command)) (found_uid w name) w
+-- a call of the queue registry, by its answer and what it leaves with an answer
+abbrev pub called : {T : Type 0} → Result T Fault → (Result T Fault → World) → Served (Result T Fault)
+called answer after = record { answer = answer; world = after answer; stages = after (Err OutOfMemory) ∷ after answer ∷ [] }
+
+-- the same with another form of its answer
+abbrev pub told : {A B : Type 0} → (A → B) → Served A → Served B
+told form s = record { answer = form s.answer; world = s.world; stages = s.stages }
+
+-- what is done in the queue of a name; nothing where no queue has it
+abbrev pub in_queue : {T : Type 0} → World → List ℕ → (ℕ → Served (Result T Fault)) → Served (Result T Fault)
+in_queue w name serve = option_map_or serve (found_uid w name) (unchanged w (Err QueueDoesNotExist))
+
+-- a command in the queue of a uid
+abbrev pub command_served : World → ℕ → ℕ → Command → Served (Result Reply Fault)
+command_served w uid at command = called (step_answer w uid at command) (world_after_step w uid at command)
+
+-- the deletion of the queue of a uid
+abbrev pub delete_served : World → ℕ → ℕ → Served (Result (Unit {0}) Fault)
+delete_served w uid at = called (delete_answer w uid) (world_after_delete w uid at)
 
 -- ---- a queue's reply as a client sees it. A queue answers each command by its own kind of reply, so the equations for other kinds never apply
 
-abbrev pub sent_shape : ContentText → Reply → ReplyShape
-sent_shape content (replies.Sent posted) = Sent content posted.id
-sent_shape content (replies.Received offers) = Nothing
-sent_shape content (replies.Looked look) = Nothing
-sent_shape content replies.Done = Nothing
+-- what a client is told of a command that was done: of a send the message, of any other that it succeeded
+abbrev pub done_reply : Command → Reply → EntryReply
+done_reply (commands.Send content delay) (replies.Sent posted) = entries.Sent content posted.id
+done_reply _ _ = entries.Done
+
+abbrev pub done_shape : EntryReply → ReplyShape
+done_shape (entries.Sent content id) = Sent content id
+done_shape _ = Nothing
 
 abbrev pub attributes_shape : Option AttributeNames → List ℕ → Reply → ReplyShape
-attributes_shape names queue (replies.Sent posted) = Nothing
-attributes_shape names queue (replies.Received offers) = Nothing
 attributes_shape names queue (replies.Looked look) = Attributes names queue look
-attributes_shape names queue replies.Done = Nothing
+attributes_shape names queue _ = Nothing
 
 abbrev pub messages_shape : ReceiveNames → List (List ℕ) → ℕ → Reply → ReplyShape
-messages_shape names patterns uid (replies.Sent posted) = Nothing
 messages_shape names patterns uid (replies.Received offers) = Messages uid names patterns offers
-messages_shape names patterns uid (replies.Looked look) = Nothing
-messages_shape names patterns uid replies.Done = Nothing
+messages_shape names patterns uid _ = Nothing
 
-abbrev pub done_shape : Reply → ReplyShape
-done_shape reply = Nothing
+-- ---- commands whose success a client is told, one by itself or as an entry of a batch
 
--- ---- batches: the entries are done one after another, each by itself
-
--- what a client is told of an entry's command that was done. Entries only send, change and delete, so the other equations never apply
-abbrev pub entry_reply : Command → Reply → EntryReply
-entry_reply (commands.Send content delay) (replies.Sent posted) = entries.Sent content posted.id
-entry_reply (commands.Send content delay) (replies.Received offers) = entries.Done
-entry_reply (commands.Send content delay) (replies.Looked look) = entries.Done
-entry_reply (commands.Send content delay) replies.Done = entries.Done
-entry_reply (commands.Receive maximum timeout) reply = entries.Done
-entry_reply (commands.Change handle timeout) reply = entries.Done
-entry_reply (commands.Delete handle) reply = entries.Done
-entry_reply commands.Purge reply = entries.Done
-entry_reply (commands.Set wish target) reply = entries.Done
-entry_reply commands.Close reply = entries.Done
-entry_reply commands.Look reply = entries.Done
+abbrev pub done_served : World → ℕ → ℕ → Command → Served (Result EntryReply Fault)
+done_served w uid at command = told (result_map (done_reply command)) (command_served w uid at command)
 
 -- an entry with a fault of its own reaches no queue
-abbrev pub entry_answer : World → ℕ → ℕ → Result Command Fault → Result EntryReply Fault
-entry_answer w uid at (Ok command) = result_map (entry_reply command) (step_answer w uid at command)
-entry_answer w uid at (Err fault) = Err fault
+abbrev pub entry_served : World → ℕ → ℕ → Result Command Fault → Served (Result EntryReply Fault)
+entry_served w uid at (Ok command) = done_served w uid at command
+entry_served w uid at (Err fault) = unchanged w (Err fault)
 
-abbrev pub entry_world : World → ℕ → ℕ → Result Command Fault → World
-entry_world w uid at (Ok command) = world_after_step w uid at command (step_answer w uid at command)
-entry_world w uid at (Err fault) = w
+-- the answer of the first entry, and then those of the rest
+abbrev pub followed : BatchAnswer → Served (Result EntryReply Fault) → Served (List BatchAnswer) → Served (List BatchAnswer)
+followed answer first rest = record { answer = answer ∷ rest.answer; world = rest.world; stages = first.stages ++ rest.stages }
 
-abbrev pub batch_answers : World → ℕ → ℕ → List BatchEntry → List BatchAnswer
-batch_answers w uid at [] = []
-batch_answers w uid at (e ∷ es) =
-    record { id = e.id; answer = entry_answer w uid at e.command } ∷ batch_answers (entry_world w uid at e.command) uid at es
-
-abbrev pub batch_world : World → ℕ → ℕ → List BatchEntry → World
-batch_world w uid at [] = w
-batch_world w uid at (e ∷ es) = batch_world (entry_world w uid at e.command) uid at es
+-- the entries of a batch are done one after another, each by itself
+abbrev pub batch_served : World → ℕ → ℕ → List BatchEntry → Served (List BatchAnswer)
+batch_served w uid at [] = unchanged w []
+batch_served w uid at (e ∷ es) =
+    followed (record { id = e.id; answer = (entry_served w uid at e.command).answer }) (entry_served w uid at e.command)
+    (batch_served (entry_served w uid at e.command).world uid at es)
 
 -- ---- requests; no queue has a dead-letter target, which the 0 of a Set says
 
-abbrev pub request_answer : World → ℕ → Request → Result ReplyShape Fault
-request_answer w at (requests.CreateQueue name wish) = result_map (λ uid. QueueUrl name) (create_answer w name wish)
-request_answer w at (requests.SendMessage queue content delay) = result_map (sent_shape content) (command_answer w at queue (commands.Send content delay))
-request_answer w at (requests.GetQueueAttributes queue names) = result_map (attributes_shape names queue) (command_answer w at queue commands.Look)
-request_answer w at (requests.SetQueueAttributes queue wish) = result_map done_shape (command_answer w at queue (commands.Set wish 0))
-request_answer w at (requests.PurgeQueue queue) = result_map done_shape (command_answer w at queue commands.Purge)
-request_answer w at (requests.DeleteQueue queue) = named_uid w queue >>= λ uid. result_map (λ deleted. Nothing) (delete_answer w uid)
-request_answer w at (requests.GetQueueUrl name) = result_map (λ uid. QueueUrl name) (named_uid w name)
-request_answer w at (requests.ListQueues prefix) = Ok (QueueUrls (names_in_world w prefix))
-request_answer w at (requests.ReceiveMessage queue maximum timeout wait names patterns) =
-    named_uid w queue >>= λ uid. result_map (messages_shape names patterns uid) (step_answer w uid at (commands.Receive maximum timeout))
-request_answer w at (requests.DeleteMessage queue handle) = result_map done_shape (command_answer w at queue (commands.Delete handle))
-request_answer w at (requests.ChangeMessageVisibility queue handle timeout) = result_map done_shape (command_answer w at queue (commands.Change handle timeout))
-request_answer w at (requests.Batch queue entries) = result_map (λ uid. Batch (batch_answers w uid at entries)) (named_uid w queue)
+-- a command in the queue of a name, whose success a client is told
+abbrev pub request_done : World → ℕ → List ℕ → Command → Served (Result ReplyShape Fault)
+request_done w at queue command = in_queue w queue (λ uid. told (result_map done_shape) (done_served w uid at command))
 
-abbrev pub request_world : World → ℕ → Request → World
-request_world w at (requests.CreateQueue name wish) = world_after_create w at name wish (create_answer w name wish)
-request_world w at (requests.SendMessage queue content delay) = command_world w at queue (commands.Send content delay)
-request_world w at (requests.GetQueueAttributes queue names) = command_world w at queue commands.Look
-request_world w at (requests.SetQueueAttributes queue wish) = command_world w at queue (commands.Set wish 0)
-request_world w at (requests.PurgeQueue queue) = command_world w at queue commands.Purge
-request_world w at (requests.DeleteQueue queue) = option_map_or (λ uid. without_queue w uid) (found_uid w queue) w
-request_world w at (requests.GetQueueUrl name) = w
-request_world w at (requests.ListQueues prefix) = w
-request_world w at (requests.ReceiveMessage queue maximum timeout wait names patterns) = command_world w at queue (commands.Receive maximum timeout)
-request_world w at (requests.DeleteMessage queue handle) = command_world w at queue (commands.Delete handle)
-request_world w at (requests.ChangeMessageVisibility queue handle timeout) = command_world w at queue (commands.Change handle timeout)
-request_world w at (requests.Batch queue entries) = option_map_or (λ uid. batch_world w uid at entries) (found_uid w queue) w
+-- a receive's command in the queue of a name. The replay does not wait for messages
+abbrev pub receive_served : World → ℕ → List ℕ → Command → ReceiveNames → List (List ℕ) → Served (Result ReplyShape Fault)
+receive_served w at queue command names patterns = in_queue w queue (λ uid. told (result_map (messages_shape names patterns uid))
+    (command_served w uid at command))
+
+abbrev pub served : World → ℕ → Request → Served (Result ReplyShape Fault)
+served w at (requests.CreateQueue name wish) = told (result_map (λ uid. QueueUrl name))
+    (called (create_answer w name wish) (world_after_create w at name wish))
+served w at (requests.DeleteQueue queue) = in_queue w queue (λ uid. told (result_map (λ deleted. Nothing)) (delete_served w uid at))
+served w at (requests.GetQueueUrl name) = in_queue w name (λ uid. unchanged w (Ok (QueueUrl name)))
+served w at (requests.ListQueues prefix) = unchanged w (Ok (QueueUrls (names_in_world w prefix)))
+served w at (requests.GetQueueAttributes queue names) = in_queue w queue
+    (λ uid. told (result_map (attributes_shape names queue)) (command_served w uid at commands.Look))
+served w at (requests.ReceiveMessage queue maximum timeout wait names patterns) = receive_served w at queue (commands.Receive maximum timeout) names patterns
+served w at (requests.SendMessage queue content delay) = request_done w at queue (commands.Send content delay)
+served w at (requests.DeleteMessage queue handle) = request_done w at queue (commands.Delete handle)
+served w at (requests.ChangeMessageVisibility queue handle timeout) = request_done w at queue (commands.Change handle timeout)
+served w at (requests.SetQueueAttributes queue wish) = request_done w at queue (commands.Set wish 0)
+served w at (requests.PurgeQueue queue) = request_done w at queue commands.Purge
+served w at (requests.Batch queue entries) = in_queue w queue (λ uid. told (λ answers. Ok (Batch answers)) (batch_served w uid at entries))
 
 -- ---- lines
 
-abbrev pub asked_answer : World → ℕ → Asked → Result ReplyShape Fault
-asked_answer w at (Client request) = request_answer w at request
-asked_answer w at Tick = Ok Nothing
+-- the replay's own action moves every queue's clock
+abbrev pub asked_served : World → ℕ → Asked → Served (Result ReplyShape Fault)
+asked_served w at (Client request) = served w at request
+asked_served w at Tick = record { answer = Ok Nothing; world = world_at_moment w at; stages = world_at_moment w at ∷ [] }
 
-abbrev pub asked_world : World → ℕ → Asked → World
-asked_world w at (Client request) = request_world w at request
-asked_world w at Tick = world_at_moment w at
-
-abbrev pub line_answer : World → Result Timed Fault → Result ReplyShape Fault
-line_answer w (Ok timed) = asked_answer w timed.at timed.asked
-line_answer w (Err fault) = Err fault
-
-abbrev pub line_world : World → Result Timed Fault → World
-line_world w (Ok timed) = asked_world w timed.at timed.asked
-line_world w (Err fault) = w
-
-abbrev pub line_feed : ℕ
-line_feed = 10
+-- a line that cannot be read changes nothing
+abbrev pub line_served : World → Result Timed Fault → Served (Result ReplyShape Fault)
+line_served w (Ok timed) = asked_served w timed.at timed.asked
+line_served w (Err fault) = unchanged w (Err fault)
 
 -- the status, a space, the JSON text and a line feed
 abbrev pub answer_text : Result ReplyShape Fault → List ℕ
 answer_text (Ok shape) = decimal 200 ++ codes " " ++ compact_text (reply_data shape) ++ codes "\n"
 answer_text (Err fault) = decimal (fault_status fault) ++ codes " " ++ fault_body fault ++ codes "\n"
 
--- what answers a line, and the world after it
+-- what answers a line, the world after it, and the worlds that it goes through
 abbrev pub text_of_line : World → List ℕ → List ℕ
-text_of_line w line = answer_text (line_answer w (asked_of line))
+text_of_line w line = answer_text (line_served w (asked_of line)).answer
 
 abbrev pub world_of_line : World → List ℕ → World
-world_of_line w line = line_world w (asked_of line)
+world_of_line w line = (line_served w (asked_of line)).world
+
+abbrev pub stages_of_line : World → List ℕ → List World
+stages_of_line w line = (line_served w (asked_of line)).stages
 
 -- ---- for private clauses
 

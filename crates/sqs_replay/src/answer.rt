@@ -1,25 +1,24 @@
 //! What a line of the input asks, and its answer.
 
-ghost use Rattle.std.specs.Prelude.{◌≡◌, ◌<◌, ℕ, ◌++◌, length, codes, decimal, Option, IfOk, IfErr, OnOk, Ok, false};
+ghost use Rattle.std.specs.Prelude.{◌≡◌, ◌∷◌, ◌++◌, codes, decimal, IfOk, IfErr, OnOk, Ok, false};
 ghost use Rattle.message.specs.Fault.{Meets, is_out_of_memory};
-ghost use Rattle.aws_json.specs.Steps.{◌>>=◌ as ◌then◌, result_map};
-ghost use Rattle.redrive.specs.World.{step_answer, names_in_world};
+ghost use Rattle.redrive.specs.World.{names_in_world};
 ghost use Rattle.aws_json.specs.declared.reply.ReplyShape.TheVariants.{QueueUrl, QueueUrls};
-ghost use Rattle.sqs_replay.specs.Served.{done_shape, asked_by, asked_of, named_uid, command_answer, command_world, sent_shape, attributes_shape, messages_shape, request_answer, request_world, asked_answer, asked_world, line_answer, line_world, answer_text, text_of_line, world_of_line, Leaves};
+ghost use Rattle.sqs_replay.specs.Answers.{IsOneOf};
+ghost use Rattle.sqs_replay.specs.Served.{asked_by, asked_of, unchanged, in_queue, delete_served, attributes_shape, messages_shape, receive_served, done_shape, request_done, served, asked_served, line_served, answer_text, text_of_line, world_of_line, stages_of_line, Leaves};
 
 use crate::ReplayFault;
-use crate::batch::answer_batch;
+use crate::batch::{serve_batch, serve_command, serve_done};
 use crate::input_line::{InputLine, read_line};
 use crate::lines::{LINE_LIMIT, Lines};
 use aws_json::{
-    AttributeNames, Patterns, Prefix, QueueNames, ReceiveNames, ReplyShape, Request, fault_text,
-    parse, read_object, reply_text, status,
+    AttributeNames, EntryReply, Patterns, Prefix, QueueNames, ReceiveNames, ReplyShape, Request,
+    fault_text, parse, read_object, reply_text, status,
 };
 use journal::{Moment, Ticks};
-use message::{Content, Fault, QueueName};
+use message::{Fault, QueueName};
 use queue_config::Wish;
-use queue_core::{Command, Delay, Reply, Timeout};
-use receipt_handle::Handle;
+use queue_core::{Command, Reply};
 use redrive::House;
 use std::alloc::Global;
 
@@ -66,31 +65,6 @@ fn read_timed(alloc: Global, line: &[u8]) -> Result<Timed, Fault>
     }
 }
 
-/// The uid of the queue of a name.
-fn uid_named(house: &House, queue: &QueueName) -> Result<u64, Fault>
-    ensures { result ≡ named_uid house.now queue.now }
-{
-    house.find(queue).ok_or(Fault::QueueDoesNotExist)
-}
-
-/// Does a command in the queue of a name.
-fn ask(
-    alloc: Global,
-    house: &mut House,
-    at: Moment,
-    queue: &QueueName,
-    command: Command,
-    ticks: &mut Ticks,
-) -> Result<Reply, Fault>
-    ensures answer { Meets result (command_answer house.old at queue.now command) }
-    ensures state { Leaves result house.new (command_world house.old at queue.now command) }
-{
-    match house.find(queue) {
-        Some(uid) => house.step(alloc, uid, at, command, ticks),
-        None => Err(Fault::QueueDoesNotExist),
-    }
-}
-
 /// Creates a queue.
 fn create(
     alloc: Global,
@@ -99,43 +73,64 @@ fn create(
     name: QueueName,
     wish: Wish,
 ) -> Result<ReplyShape, Fault>
-    ensures answer { Meets result (request_answer house.old at (Request.CreateQueue name wish)) }
-    ensures state { Leaves result house.new (request_world house.old at (Request.CreateQueue name wish)) }
+    ensures answer { Meets result (served house.old at (Request.CreateQueue name wish)).answer }
+    ensures state { Leaves result house.new (served house.old at (Request.CreateQueue name wish)).world }
+    ensures stages { IsOneOf house.new (house.old ∷ (served house.old at (Request.CreateQueue name wish)).stages) }
 {
     house.create(alloc, at, name, wish)?;
     Ok(ReplyShape::QueueUrl(name))
 }
 
-/// What a send's reply is to a client.
-fn sent_shape(content: Content, reply: &Reply) -> ReplyShape
-    ensures { result ≡ sent_shape content reply.now }
+/// Deletes the queue of a uid.
+fn delete_of_uid(
+    alloc: Global,
+    house: &mut House,
+    at: Moment,
+    uid: u64,
+    ticks: &mut Ticks,
+) -> Result<(), Fault>
+    ensures answer { Meets result (delete_served house.old uid at).answer }
+    ensures state { Leaves result house.new (delete_served house.old uid at).world }
+    ensures stages { IsOneOf house.new (house.old ∷ (delete_served house.old uid at).stages) }
 {
-    match reply {
-        Reply::Sent(posted) => ReplyShape::Sent {
-            content,
-            id: posted.id,
-        },
-        Reply::Received(_) | Reply::Looked(_) | Reply::Done => ReplyShape::Nothing,
-    }
+    house.delete_queue(alloc, uid, at, ticks)
 }
 
-/// Sends a message.
-fn send(
+/// Deletes a queue.
+fn delete_queue(
     alloc: Global,
     house: &mut House,
     at: Moment,
     queue: &QueueName,
-    content: Content,
-    delay: Option<Delay>,
     ticks: &mut Ticks,
 ) -> Result<ReplyShape, Fault>
-    ensures answer { Meets result (request_answer house.old at (Request.SendMessage queue.now content delay)) }
-    ensures state { Leaves result house.new (request_world house.old at (Request.SendMessage queue.now content delay)) }
+    ensures answer { Meets result (served house.old at (Request.DeleteQueue queue.now)).answer }
+    ensures state { Leaves result house.new (served house.old at (Request.DeleteQueue queue.now)).world }
+    ensures stages { IsOneOf house.new (house.old ∷ (served house.old at (Request.DeleteQueue queue.now)).stages) }
 {
-    let shared = content.share()?;
-    let command = Command::Send { content, delay };
-    let reply = ask(alloc, house, at, queue, command, ticks)?;
-    Ok(sent_shape(shared, &reply))
+    let Some(uid) = house.find(queue) else {
+        return Err(Fault::QueueDoesNotExist);
+    };
+    delete_of_uid(alloc, house, at, uid, ticks)?;
+    Ok(ReplyShape::Nothing)
+}
+
+/// Answers the URL of a queue that is there. No clock moves.
+fn url(house: &House, name: &QueueName) -> Result<ReplyShape, Fault>
+    ensures { result ≡ (in_queue house.now name.now (λ uid. unchanged house.now (Ok (QueueUrl name.now)))).answer }
+{
+    match house.find(name) {
+        Some(_) => Ok(ReplyShape::QueueUrl(*name)),
+        None => Err(Fault::QueueDoesNotExist),
+    }
+}
+
+/// Answers the URLs of the queues whose names begin with a prefix. No clock moves.
+fn urls(alloc: Global, house: &House, prefix: &Prefix) -> Result<ReplyShape, Fault>
+    ensures { Meets result (Ok (QueueUrls (names_in_world house.now prefix.now))) }
+{
+    let names = house.list(alloc, prefix.as_text())?;
+    Ok(ReplyShape::QueueUrls(QueueNames::new(names)))
 }
 
 /// What a look's reply is to a client.
@@ -148,7 +143,7 @@ fn attributes_shape(names: Option<AttributeNames>, queue: &QueueName, reply: &Re
             queue: *queue,
             look: *look,
         },
-        Reply::Sent(_) | Reply::Received(_) | Reply::Done => ReplyShape::Nothing,
+        _ => ReplyShape::Nothing,
     }
 }
 
@@ -161,43 +156,15 @@ fn attributes(
     names: Option<AttributeNames>,
     ticks: &mut Ticks,
 ) -> Result<ReplyShape, Fault>
-    ensures answer { Meets result (request_answer house.old at (Request.GetQueueAttributes queue.now names)) }
-    ensures state { Leaves result house.new (request_world house.old at (Request.GetQueueAttributes queue.now names)) }
+    ensures answer { Meets result (served house.old at (Request.GetQueueAttributes queue.now names)).answer }
+    ensures state { Leaves result house.new (served house.old at (Request.GetQueueAttributes queue.now names)).world }
+    ensures stages { IsOneOf house.new (house.old ∷ (served house.old at (Request.GetQueueAttributes queue.now names)).stages) }
 {
-    let reply = ask(alloc, house, at, queue, Command::Look, ticks)?;
+    let Some(uid) = house.find(queue) else {
+        return Err(Fault::QueueDoesNotExist);
+    };
+    let reply = serve_command(alloc, house, at, uid, Command::Look, ticks)?;
     Ok(attributes_shape(names, queue, &reply))
-}
-
-/// Deletes a queue.
-fn delete_queue(
-    alloc: Global,
-    house: &mut House,
-    at: Moment,
-    queue: &QueueName,
-    ticks: &mut Ticks,
-) -> Result<ReplyShape, Fault>
-    ensures answer { Meets result (request_answer house.old at (Request.DeleteQueue queue.now)) }
-    ensures state { Leaves result house.new (request_world house.old at (Request.DeleteQueue queue.now)) }
-{
-    let uid = uid_named(house, queue)?;
-    house.delete_queue(alloc, uid, at, ticks)?;
-    Ok(ReplyShape::Nothing)
-}
-
-/// Answers the URL of a queue that is there. No clock moves.
-fn url(house: &House, name: &QueueName) -> Result<ReplyShape, Fault>
-    ensures { result ≡ result_map (λ uid. QueueUrl name.now) (named_uid house.now name.now) }
-{
-    uid_named(house, name)?;
-    Ok(ReplyShape::QueueUrl(*name))
-}
-
-/// Answers the URLs of the queues whose names begin with a prefix. No clock moves.
-fn urls(alloc: Global, house: &House, prefix: &Prefix) -> Result<ReplyShape, Fault>
-    ensures { Meets result (Ok (QueueUrls (names_in_world house.now prefix.now))) }
-{
-    let names = house.list(alloc, prefix.as_text())?;
-    Ok(ReplyShape::QueueUrls(QueueNames::new(names)))
 }
 
 /// What a receive's reply tells of a message.
@@ -218,7 +185,7 @@ fn messages_shape(told: Told, uid: u64, reply: Reply) -> ReplyShape
             attributes: told.attributes,
             offers,
         },
-        Reply::Sent(_) | Reply::Looked(_) | Reply::Done => ReplyShape::Nothing,
+        _ => ReplyShape::Nothing,
     }
 }
 
@@ -232,15 +199,28 @@ fn receive(
     told: Told,
     ticks: &mut Ticks,
 ) -> Result<ReplyShape, Fault>
-    ensures answer { Meets result (named_uid house.old queue.now then λ uid. result_map (messages_shape told.names told.attributes uid) (step_answer house.old uid at command)) }
-    ensures state { Leaves result house.new (command_world house.old at queue.now command) }
+    ensures answer { Meets result (receive_served house.old at queue.now command told.names told.attributes).answer }
+    ensures state { Leaves result house.new (receive_served house.old at queue.now command told.names told.attributes).world }
+    ensures stages { IsOneOf house.new (house.old ∷ (receive_served house.old at queue.now command told.names told.attributes).stages) }
 {
-    let uid = uid_named(house, queue)?;
-    let reply = ask(alloc, house, at, queue, command, ticks)?;
+    let Some(uid) = house.find(queue) else {
+        return Err(Fault::QueueDoesNotExist);
+    };
+    let reply = serve_command(alloc, house, at, uid, command, ticks)?;
     Ok(messages_shape(told, uid, reply))
 }
 
-/// Does a command whose success a client is told and nothing more.
+/// What a client is told of a command that was done, by itself.
+fn done_shape(reply: EntryReply) -> ReplyShape
+    ensures { result ≡ done_shape reply }
+{
+    match reply {
+        EntryReply::Sent { content, id } => ReplyShape::Sent { content, id },
+        EntryReply::Done => ReplyShape::Nothing,
+    }
+}
+
+/// Does a command whose success a client is told.
 fn finish(
     alloc: Global,
     house: &mut House,
@@ -249,44 +229,15 @@ fn finish(
     command: Command,
     ticks: &mut Ticks,
 ) -> Result<ReplyShape, Fault>
-    ensures answer { Meets result (result_map done_shape (command_answer house.old at queue.now command)) }
-    ensures state { Leaves result house.new (command_world house.old at queue.now command) }
+    ensures answer { Meets result (request_done house.old at queue.now command).answer }
+    ensures state { Leaves result house.new (request_done house.old at queue.now command).world }
+    ensures stages { IsOneOf house.new (house.old ∷ (request_done house.old at queue.now command).stages) }
 {
-    ask(alloc, house, at, queue, command, ticks)?;
-    Ok(ReplyShape::Nothing)
-}
-
-/// Gives a queue the requested settings.
-fn set(
-    alloc: Global,
-    house: &mut House,
-    at: Moment,
-    queue: &QueueName,
-    wish: Wish,
-    ticks: &mut Ticks,
-) -> Result<ReplyShape, Fault>
-    ensures answer { Meets result (request_answer house.old at (Request.SetQueueAttributes queue.now wish)) }
-    ensures state { Leaves result house.new (request_world house.old at (Request.SetQueueAttributes queue.now wish)) }
-{
-    let command = Command::Set { wish, target: 0 };
-    finish(alloc, house, at, queue, command, ticks)
-}
-
-/// Gives a message in flight another timeout.
-fn change(
-    alloc: Global,
-    house: &mut House,
-    at: Moment,
-    queue: &QueueName,
-    handle: Handle,
-    timeout: Timeout,
-    ticks: &mut Ticks,
-) -> Result<ReplyShape, Fault>
-    ensures answer { Meets result (request_answer house.old at (Request.ChangeMessageVisibility queue.now handle timeout)) }
-    ensures state { Leaves result house.new (request_world house.old at (Request.ChangeMessageVisibility queue.now handle timeout)) }
-{
-    let command = Command::Change { handle, timeout };
-    finish(alloc, house, at, queue, command, ticks)
+    let Some(uid) = house.find(queue) else {
+        return Err(Fault::QueueDoesNotExist);
+    };
+    let reply = serve_done(alloc, house, at, uid, command, ticks)?;
+    Ok(done_shape(reply))
 }
 
 /// Answers a client's request.
@@ -297,24 +248,18 @@ fn serve(
     request: Request,
     ticks: &mut Ticks,
 ) -> Result<ReplyShape, Fault>
-    ensures answer { Meets result (request_answer house.old at request) }
-    ensures state { Leaves result house.new (request_world house.old at request) }
+    ensures answer { Meets result (served house.old at request).answer }
+    ensures state { Leaves result house.new (served house.old at request).world }
+    ensures stages { IsOneOf house.new (house.old ∷ (served house.old at request).stages) }
 {
     match request {
         Request::CreateQueue { name, wish } => create(alloc, house, at, name, wish),
-        Request::SendMessage {
-            queue,
-            content,
-            delay,
-        } => send(alloc, house, at, &queue, content, delay, ticks),
-        Request::GetQueueAttributes { queue, names } => {
-            attributes(alloc, house, at, &queue, names, ticks)
-        }
         Request::DeleteQueue { queue } => delete_queue(alloc, house, at, &queue, ticks),
         Request::GetQueueUrl { name } => url(house, &name),
         Request::ListQueues { prefix } => urls(alloc, house, &prefix),
-        Request::SetQueueAttributes { queue, wish } => set(alloc, house, at, &queue, wish, ticks),
-        Request::PurgeQueue { queue } => finish(alloc, house, at, &queue, Command::Purge, ticks),
+        Request::GetQueueAttributes { queue, names } => {
+            attributes(alloc, house, at, &queue, names, ticks)
+        }
         Request::ReceiveMessage {
             queue,
             maximum,
@@ -327,6 +272,14 @@ fn serve(
             let told = Told { names, attributes };
             receive(alloc, house, at, &queue, command, told, ticks)
         }
+        Request::SendMessage {
+            queue,
+            content,
+            delay,
+        } => {
+            let command = Command::Send { content, delay };
+            finish(alloc, house, at, &queue, command, ticks)
+        }
         Request::DeleteMessage { queue, handle } => {
             finish(alloc, house, at, &queue, Command::Delete { handle }, ticks)
         }
@@ -334,20 +287,29 @@ fn serve(
             queue,
             handle,
             timeout,
-        } => change(alloc, house, at, &queue, handle, timeout, ticks),
-        Request::Batch { queue, entries } => answer_batch(alloc, house, at, &queue, entries, ticks),
+        } => {
+            let command = Command::Change { handle, timeout };
+            finish(alloc, house, at, &queue, command, ticks)
+        }
+        Request::SetQueueAttributes { queue, wish } => {
+            let command = Command::Set { wish, target: 0 };
+            finish(alloc, house, at, &queue, command, ticks)
+        }
+        Request::PurgeQueue { queue } => finish(alloc, house, at, &queue, Command::Purge, ticks),
+        Request::Batch { queue, entries } => serve_batch(alloc, house, at, &queue, entries, ticks),
     }
 }
 
 /// Answers what a line asks.
-fn answer_asked(
+fn serve_asked(
     alloc: Global,
     house: &mut House,
     timed: Timed,
     ticks: &mut Ticks,
 ) -> Result<ReplyShape, Fault>
-    ensures answer { Meets result (asked_answer house.old timed.at timed.asked) }
-    ensures state { Leaves result house.new (asked_world house.old timed.at timed.asked) }
+    ensures answer { Meets result (asked_served house.old timed.at timed.asked).answer }
+    ensures state { Leaves result house.new (asked_served house.old timed.at timed.asked).world }
+    ensures stages { IsOneOf house.new (house.old ∷ (asked_served house.old timed.at timed.asked).stages) }
 {
     let Timed { at, asked } = timed;
     match asked {
@@ -360,17 +322,18 @@ fn answer_asked(
 }
 
 /// Answers a line.
-fn answer_line(
+fn serve_line(
     alloc: Global,
     house: &mut House,
     line: &[u8],
     ticks: &mut Ticks,
 ) -> Result<ReplyShape, Fault>
-    ensures answer { Meets result (line_answer house.old (asked_of line.now)) }
-    ensures state { Leaves result house.new (line_world house.old (asked_of line.now)) }
+    ensures answer { Meets result (line_served house.old (asked_of line.now)).answer }
+    ensures state { Leaves result house.new (line_served house.old (asked_of line.now)).world }
+    ensures stages { IsOneOf house.new (house.old ∷ (line_served house.old (asked_of line.now)).stages) }
 {
     let timed = read_timed(alloc, line)?;
-    answer_asked(alloc, house, timed, ticks)
+    serve_asked(alloc, house, timed, ticks)
 }
 
 /// The text of an answer: its status, a space, the JSON text and a line feed.
@@ -411,11 +374,13 @@ fn written(alloc: Global, status: u16, json: &str) -> Result<Vec<u8>, ReplayFaul
 }
 
 impl Lines for House {
-    ghost use Rattle.sqs_replay.specs.LongLines.{text_of_long_line, world_of_long_line};
+    ghost use Rattle.sqs_replay.specs.LongLines.{text_of_long_line, world_of_long_line, stages_of_long_line};
 
     ghost text = { text_of_line };
 
     ghost after = { world_of_line };
+
+    ghost stages = { stages_of_line };
 
     fn answer(
         &mut self,
@@ -423,11 +388,13 @@ impl Lines for House {
         line: &[u8],
         ticks: &mut Ticks,
     ) -> Result<Vec<u8>, ReplayFault> {
-        let answer = answer_line(alloc, self, line, ticks);
+        let answer = serve_line(alloc, self, line, ticks);
         text_of_answer(alloc, &answer)
     }
 
     ghost same_text = { text_of_long_line };
 
     ghost same_after = { world_of_long_line };
+
+    ghost same_stages = { stages_of_long_line };
 }

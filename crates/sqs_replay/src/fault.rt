@@ -1,23 +1,22 @@
 //! Why a replay ends early.
 
-ghost use Rattle.std.specs.Prelude.{◌≡◌};
-ghost use Rattle.sqs_replay.specs.Fault.{fault_code};
+ghost use Rattle.std.specs.Prelude.{◌≡◌, Some};
+ghost use Rattle.sqs_replay.specs.Fault.{fault_code, fault_text};
 ghost use Rattle.sqs_replay.specs.declared.fault.ReplayFault.TheVariants.{OutOfMemory};
 
 use std::alloc::{AllocError, AllocFailed};
+use std::fmt;
 use thiserror::Error;
 
-/// Why a replay ended before all its lines were answered.
+/// Why a replay ended before all its lines were answered. `Display` writes its
+/// [`text`](ReplayFault::text).
 #[derive(Clone, Copy, Debug, PartialEq, Eq, Error)]
 pub enum ReplayFault {
     /// The inlet failed, or was read 2^32 times without coming to its end.
-    #[error("read failed")]
     Read,
     /// The outlet failed.
-    #[error("write failed")]
     Write,
     /// An allocation was refused.
-    #[error("out of memory")]
     OutOfMemory,
 }
 
@@ -31,6 +30,25 @@ impl ReplayFault {
             ReplayFault::Write => 2,
             ReplayFault::OutOfMemory => 3,
         }
+    }
+
+    /// What went wrong, in words.
+    pub fn text(self) -> &'static str
+        ensures { result.now ≡ fault_text self }
+    {
+        match self {
+            ReplayFault::Read => "read failed",
+            ReplayFault::Write => "write failed",
+            ReplayFault::OutOfMemory => "out of memory",
+        }
+    }
+}
+
+impl fmt::Display for ReplayFault {
+    ghost output = { λ fault. Some (fault_text fault) };
+
+    fn fmt<W: fmt::Write>(&self, f: &mut fmt::Formatter<W>) -> fmt::Result {
+        f.write_str(self.text())
     }
 }
 

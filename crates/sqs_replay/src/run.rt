@@ -5,8 +5,8 @@ ghost use Rattle.std.specs.Io.KnownBytes.{Appends, IsAtEnd};
 ghost use Rattle.sqs_replay.specs.Fault.{is_read_fault};
 ghost use Rattle.sqs_replay.specs.Failures.{AppendsPart};
 ghost use Rattle.sqs_replay.specs.Cutting.{lines_among, whole_lines};
-ghost use Rattle.sqs_replay.specs.Answers.{texts, state_after, replay_text, replay_state};
-ghost use Rattle.sqs_replay.specs.Progress.{HasRead, AnswersAll, AnswersPart, InletHasCause, OutletHasCause};
+ghost use Rattle.sqs_replay.specs.Answers.{texts, state_after, replay_text, replay_state, StopsAmong};
+ghost use Rattle.sqs_replay.specs.Progress.{HasRead, AnswersAll, AnswersPart, LeavesPart, InletHasCause, OutletHasCause, MemoryHasCause};
 
 use crate::lines::without_return;
 use crate::{Inlet, LINE_LIMIT, Lines, Outlet, ReplayFault};
@@ -25,8 +25,8 @@ const READ_LIMIT: u64 = 1 << 32;
 
 /// Reads the inlet to its end, and appends to the outlet the text that answers each line.
 ///
-/// It reads at most 2^32 times, and then gives up with [`ReplayFault::Read`]. It keeps at most 64 KiB
-/// of the input and 8,388,706 bytes of a line. What the server is after a fault is left open.
+/// It reads at most 2^32 times, and then gives up with [`ReplayFault::Read`]. Of the input it means to
+/// keep 64 KiB and 8,388,706 bytes of a line, which no clause says.
 pub fn run_lines<S: Lines, I: Inlet, O: Outlet>(
     alloc: Global,
     server: &mut S,
@@ -51,10 +51,16 @@ pub fn run_lines<S: Lines, I: Inlet, O: Outlet>(
     ensures err { OnErr result ((read : List ℕ) × AnswersPart S.text S.after server.old
         (I.left inlet.old) (I.left inlet.new) (O.taken outlet.old) (O.taken outlet.new) read) }
 
-    // A fault of a device has its cause, and the counts of failures tell it.
+    // What the server is left as at a fault.
+    ensures stopped { OnErr result ((read : List ℕ) × LeavesPart S.after S.stages server.old server.new
+        (I.left inlet.old) (I.left inlet.new) read) }
+
+    // A fault has its cause, and the counts tell it: where a device failed it is that device's fault.
     ensures read_fault { InletHasCause result (I.failures inlet.old) (I.failures inlet.new)
-        (I.left inlet.old) (I.left inlet.new) }
+        (I.reads inlet.old) (I.reads inlet.new) }
     ensures write_fault { OutletHasCause result (O.failures outlet.old) (O.failures outlet.new) }
+    ensures inlet_memory { MemoryHasCause result (I.refusals inlet.old) (I.refusals inlet.new) }
+    ensures outlet_memory { MemoryHasCause result (O.refusals outlet.old) (O.refusals outlet.new) }
 {
     let mut buffer = read_buffer(alloc)?;
     read_lines(alloc, server, inlet, outlet, ticks, buffer.as_mut_slice())
@@ -81,9 +87,13 @@ fn read_lines<S: Lines, I: Inlet, O: Outlet>(
         (I.left inlet.old) (I.left inlet.new) (O.taken outlet.old) (O.taken outlet.new) input) }
     ensures err { OnErr result ((read : List ℕ) × AnswersPart S.text S.after server.old
         (I.left inlet.old) (I.left inlet.new) (O.taken outlet.old) (O.taken outlet.new) read) }
+    ensures stopped { OnErr result ((read : List ℕ) × LeavesPart S.after S.stages server.old server.new
+        (I.left inlet.old) (I.left inlet.new) read) }
     ensures read_fault { InletHasCause result (I.failures inlet.old) (I.failures inlet.new)
-        (I.left inlet.old) (I.left inlet.new) }
+        (I.reads inlet.old) (I.reads inlet.new) }
     ensures write_fault { OutletHasCause result (O.failures outlet.old) (O.failures outlet.new) }
+    ensures inlet_memory { MemoryHasCause result (I.refusals inlet.old) (I.refusals inlet.new) }
+    ensures outlet_memory { MemoryHasCause result (O.refusals outlet.old) (O.refusals outlet.new) }
 {
     let mut kept = Vec::new(alloc);
     for _turn in 0..READ_LIMIT {
@@ -111,8 +121,12 @@ fn take_bytes<S: Lines, O: Outlet>(
     ensures err { OnErr result ((start : S) (before : Option (List ℕ)) (read : List ℕ) →
         HasRead S.text S.after start before read server.old kept.old.items (O.taken outlet.old) →
         AppendsPart before (O.taken outlet.new) (texts S.text S.after start (whole_lines (read ++ bytes.now)))) }
+    ensures stopped { OnErr result ((start : S) (before : Option (List ℕ)) (read : List ℕ) →
+        HasRead S.text S.after start before read server.old kept.old.items (O.taken outlet.old) →
+        StopsAmong S.after S.stages start (whole_lines (read ++ bytes.now)) server.new) }
     ensures no_read_fault { is_read_fault result ≡ false }
     ensures write_fault { OutletHasCause result (O.failures outlet.old) (O.failures outlet.new) }
+    ensures outlet_memory { MemoryHasCause result (O.refusals outlet.old) (O.refusals outlet.new) }
 {
     for byte in bytes {
         take_byte(alloc, server, kept, *byte, outlet, ticks)?;
@@ -135,8 +149,12 @@ fn take_byte<S: Lines, O: Outlet>(
     ensures err { OnErr result ((start : S) (before : Option (List ℕ)) (read : List ℕ) →
         HasRead S.text S.after start before read server.old kept.old.items (O.taken outlet.old) →
         AppendsPart before (O.taken outlet.new) (texts S.text S.after start (whole_lines (read ++ byte ∷ [])))) }
+    ensures stopped { OnErr result ((start : S) (before : Option (List ℕ)) (read : List ℕ) →
+        HasRead S.text S.after start before read server.old kept.old.items (O.taken outlet.old) →
+        StopsAmong S.after S.stages start (whole_lines (read ++ byte ∷ [])) server.new) }
     ensures no_read_fault { is_read_fault result ≡ false }
     ensures write_fault { OutletHasCause result (O.failures outlet.old) (O.failures outlet.new) }
+    ensures outlet_memory { MemoryHasCause result (O.refusals outlet.old) (O.refusals outlet.new) }
 {
     if byte == b'\n' {
         answer_piece(alloc, server, kept.as_slice(), outlet, ticks)?;
@@ -160,8 +178,10 @@ fn answer_piece<S: Lines, O: Outlet>(
     ensures state { OnOk result (server.new ≡ state_after S.after server.old (lines_among (piece.now ∷ []))) }
     ensures err { OnErr result (AppendsPart (O.taken outlet.old) (O.taken outlet.new)
         (texts S.text S.after server.old (lines_among (piece.now ∷ [])))) }
+    ensures stopped { OnErr result (StopsAmong S.after S.stages server.old (lines_among (piece.now ∷ [])) server.new) }
     ensures no_read_fault { is_read_fault result ≡ false }
     ensures write_fault { OutletHasCause result (O.failures outlet.old) (O.failures outlet.new) }
+    ensures outlet_memory { MemoryHasCause result (O.refusals outlet.old) (O.refusals outlet.new) }
 {
     let line = without_return(piece);
     if line.is_empty() {

@@ -1,6 +1,6 @@
-use Rattle.std.proofs.Common.{◌≡◌, map, drop, string_bytes}
+use Rattle.std.proofs.Common.{◌≡◌, drop}
 use Rattle.aws_json.specs.Attributes.{is_asked}
 use Rattle.aws_json.proofs.selection.is_asked.Given as goal
 
 abbrev pub invariant-loop-text : goal.invariant-loop-text
-invariant-loop-text l = is_asked (map (λ s. string_bytes s) (drop l.text-index l.texts)) l.name ≡ is_asked (map (λ s. string_bytes s) l.texts) l.name
+invariant-loop-text l = is_asked (drop l.text-index l.texts) l.name ≡ is_asked l.texts l.name

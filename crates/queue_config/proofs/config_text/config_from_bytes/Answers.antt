@@ -8,7 +8,7 @@ use Rattle.queue_config.proofs.config_text.config_from_bytes.Goals as goal
 pub returns-in-Ok-clause-config : goal.returns-in-Ok-clause-config
 returns-in-Ok-clause-config c =
     rw (tested_text c.args.bytes.now c.in-Ok.ensures.cases.1)
-    (subst (λ (text : List ℕ). IsReadAs c.config_from_text.result (configuration_of text)) c.in-Ok.ensures.cases.0 c.config_from_text.ensures)
+    (subst (λ (text : List ℕ). IsReadAs c.config_from_text.result (configuration_of text)) c.in-Ok.ensures.cases.0 c.config_from_text.ensures.config)
 
 pub returns-in-Err-clause-config : goal.returns-in-Err-clause-config
 returns-in-Err-clause-config c = rw (tested_no_text c.args.bytes.now c.in-Err.ensures.cases.0) refl

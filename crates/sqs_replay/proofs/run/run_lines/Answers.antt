@@ -22,4 +22,5 @@ pub returns-clause-front : goal.returns-clause-front
 returns-clause-front g c =
     either_way c.read_lines.result
     (on_ok_weaker c.read_lines.result (λ all. front_of_all g.S.Lines.text g.S.Lines.after c.args.server.now _ _ _ _ _ all.0 all.1) c.read_lines.ensures.ok)
-    (on_err_weaker c.read_lines.result (λ part. front_of_part g.S.Lines.text g.S.Lines.after c.args.server.now _ _ _ _ part.0 part.1) c.read_lines.ensures.err)
+    (on_err_weaker c.read_lines.result
+    (λ part. front_of_part g.S.Lines.text g.S.Lines.after c.args.server.now _ _ _ _ part.0 part.1) c.read_lines.ensures.err)

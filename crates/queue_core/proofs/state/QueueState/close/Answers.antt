@@ -4,4 +4,4 @@ use Rattle.queue_core.proofs.LegalLemmas.{event-closed}
 use Rattle.queue_core.proofs.state.QueueState.close.Goals as goal
 
 pub add-requires : goal.add-requires
-add-requires c = (commands.Close, event-closed c.move_to.new.self (sym c.is_closed.ensures ∙ c.if-is_closed.false))
+add-requires c = record { command = commands.Close; allowed = tt; added = event-closed c.move_to.new.self (sym c.is_closed.ensures ∙ c.if-is_closed.false) }

@@ -4,4 +4,4 @@ use Rattle.queue_core.proofs.LegalLemmas.{event-purged}
 use Rattle.queue_core.proofs.state.QueueState.purge.Goals as goal
 
 pub add-requires : goal.add-requires
-add-requires c = (commands.Purge, event-purged c.move_to.new.self (sym c.first_refusal.ensures ∙ c.in_default.is))
+add-requires c = record { command = commands.Purge; allowed = tt; added = event-purged c.begin.new.self c.in_ok-begin.ensures.ok }

@@ -1,4 +1,6 @@
 use Rattle.std.proofs.Common.{◌≡◌, ◌≤◌, drop, length, vec_len, vec_capacity}
+use Rattle.message.specs.Fault.{Meets}
+use Rattle.queue_core.specs.Queue.{IsExact}
 use Rattle.queue_core.proofs.RunLemmas.{Continues}
 use Rattle.queue_core.proofs.state.QueueState.run.Given as goal
 
@@ -6,5 +8,6 @@ abbrev pub invariant-loop-step : goal.invariant-loop-step
 invariant-loop-step l = record {
   counted : vec_len l.answers ≡ l.step-index;
   room : length l.steps ≤ vec_capacity l.answers;
-  continues : Continues l.fn.self l.steps l.answers.items l.self (drop l.step-index l.steps);
+  continues : Continues (λ outcome answer. Meets answer outcome.reply) l.fn.self l.steps l.answers.items l.self (drop l.step-index l.steps);
+  exact : Continues IsExact l.fn.self l.steps l.answers.items l.self (drop l.step-index l.steps);
 }

@@ -3,10 +3,16 @@ use Rattle.queue_core.specs.declared.command.Command.TheVariants as commands
 use Rattle.queue_core.proofs.LegalLemmas.{event-too_large, event-sent}
 use Rattle.queue_core.proofs.state.QueueState.send.Goals as goal
 
-pub add-requires : goal.add-requires
-add-requires c =
-    (commands.Send c.args.content c.args.delay, event-too_large c.move_to.new.self (sym c.first_refusal.ensures ∙ c.in_default.is) c.args.content c.args.delay (sym c.is_too_large.ensures ∙ c.if-is_too_large.true))
+pub refuse-requires-clause-caused : goal.refuse-requires-clause-caused
+refuse-requires-clause-caused c = record {
+  command = commands.Send c.args.content c.args.delay;
+  allowed = (c.is_too_large.ensures.allowed, c.requires);
+  added = event-too_large c.begin.new.self c.in_ok-begin.ensures.ok c.args.content c.args.delay (sym c.is_too_large.ensures.size ∙ c.if-is_too_large.true);
+}
 
-pub add-requires-2 : goal.add-requires-2
-add-requires-2 c =
-    (commands.Send c.args.content c.args.delay, rw c.delay_or_own-delay.ensures (event-sent c.move_to.new.self (sym c.first_refusal.ensures ∙ c.in_default.is) c.args.content c.args.delay (sym c.is_too_large.ensures ∙ c.if-is_too_large.false)))
+pub add-requires : goal.add-requires
+add-requires c = record {
+  command = commands.Send c.args.content c.args.delay;
+  allowed = (c.is_too_large.ensures.allowed, c.requires);
+  added = rw c.delay_or_own-delay.ensures (event-sent c.begin.new.self c.in_ok-begin.ensures.ok c.args.content c.args.delay (sym c.is_too_large.ensures.size ∙ c.if-is_too_large.false));
+}

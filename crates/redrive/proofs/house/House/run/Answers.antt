@@ -1,19 +1,31 @@
 use Rattle.std.proofs.Common.{arith, sym, subst}
-use Rattle.redrive.specs.World.{World}
+use Rattle.redrive.specs.World.{World, queue_of_uid}
 use Rattle.redrive.specs.WorldRun.{IsAsIfAlone}
-use Rattle.redrive.proofs.AloneLemmas.{IsAsIfAlone-run}
-use Rattle.redrive.proofs.WorldRunLemmas.{Continues-end}
+use Rattle.redrive.proofs.RunLemmas.{AreAnswered, Continues-end, AreHouseAnswers-run, IsAsIfAlone-run, IsWholeHistory-run, AreTold-run}
 use Rattle.redrive.proofs.house.House.run.Goals as goal
 
 pub returns-clause-answers : goal.returns-clause-answers
 returns-clause-answers c =
-    (Continues-end c.args.self.now c.args.steps.now c.loop-step.answers.items c.loop-step.self c.loop-step.step-index (omega arith) c.loop-step.invariant.continues).0
+    let h = Continues-end c.args.self.now c.args.steps.now c.loop-step.answers.items c.loop-step.self c.loop-step.step-index (omega arith) c.loop-step.invariant.continues in
+    AreHouseAnswers-run c.args.self.now c.args.steps.now c.loop-step.answers.items h.0
 
 pub returns-clause-state : goal.returns-clause-state
 returns-clause-state c =
     (Continues-end c.args.self.now c.args.steps.now c.loop-step.answers.items c.loop-step.self c.loop-step.step-index (omega arith) c.loop-step.invariant.continues).1
 
 pub returns-clause-alone : goal.returns-clause-alone
-returns-clause-alone c =
+returns-clause-alone c uid =
     let h = Continues-end c.args.self.now c.args.steps.now c.loop-step.answers.items c.loop-step.self c.loop-step.step-index (omega arith) c.loop-step.invariant.continues in
-    subst (λ (w : World). IsAsIfAlone c.args.self.now w c.args.steps.now c.loop-step.answers.items) (sym h.1) (IsAsIfAlone-run c.args.self.now c.args.steps.now c.loop-step.answers.items h.0)
+    subst (λ (w : World). IsAsIfAlone c.args.self.now.limits uid (queue_of_uid c.args.self.now uid) c.args.steps.now c.loop-step.answers.items (queue_of_uid w uid)) (sym h.1)
+    (IsAsIfAlone-run c.args.self.now c.args.steps.now c.loop-step.answers.items uid h.0)
+
+pub returns-clause-history : goal.returns-clause-history
+returns-clause-history c all is whole =
+    let h = Continues-end c.args.self.now c.args.steps.now c.loop-step.answers.items c.loop-step.self c.loop-step.step-index (omega arith) c.loop-step.invariant.continues in
+    IsWholeHistory-run all c.args.steps.now c.loop-step.answers.items
+    (subst (λ (w : World). AreAnswered w c.args.steps.now c.loop-step.answers.items) (sym is) h.0) whole
+
+pub returns-clause-recomputed : goal.returns-clause-recomputed
+returns-clause-recomputed c =
+    let h = Continues-end c.args.self.now c.args.steps.now c.loop-step.answers.items c.loop-step.self c.loop-step.step-index (omega arith) c.loop-step.invariant.continues in
+    record { told = AreTold-run c.args.self.now c.args.steps.now c.loop-step.answers.items h.0; counted = c.measure.ensures }

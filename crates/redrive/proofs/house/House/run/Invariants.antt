@@ -1,5 +1,5 @@
 use Rattle.std.proofs.Common.{◌≡◌, ◌≤◌, drop, length, vec_len, vec_capacity}
-use Rattle.redrive.proofs.WorldRunLemmas.{Continues}
+use Rattle.redrive.proofs.RunLemmas.{Continues}
 use Rattle.redrive.proofs.house.House.run.Given as goal
 
 abbrev pub invariant-loop-step : goal.invariant-loop-step

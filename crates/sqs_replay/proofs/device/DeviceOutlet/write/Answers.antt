@@ -5,7 +5,7 @@ use Rattle.sqs_replay.proofs.device.DeviceOutlet.write.Goals as goal
 
 pub loop-rest-preserved : goal.loop-rest-preserved
 loop-rest-preserved g c =
-    let (front, whole, written, same) = c.loop-rest.invariant in
+    let (front, whole, written, same_failures, same_refusals) = c.loop-rest.invariant in
     let count = c.in-Ok.count in
     let rest = c.loop-rest.rest.now in
-    (front ++ take count rest, cut_on c.args.bytes.now front rest count whole, Appends-trans _ _ _ _ _ written c.in-Ok.ensures.bytes, same)
+    (front ++ take count rest, cut_on c.args.bytes.now front rest count whole, Appends-trans _ _ _ _ _ written c.in-Ok.ensures.bytes, same_failures, same_refusals)

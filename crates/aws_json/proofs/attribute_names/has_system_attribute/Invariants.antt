@@ -1,0 +1,6 @@
+use Rattle.std.proofs.Common.{◌≡◌, drop}
+use Rattle.aws_json.specs.AttributeNames.{has_system_attribute}
+use Rattle.aws_json.proofs.attribute_names.has_system_attribute.Given as goal
+
+abbrev pub invariant-loop-attribute : goal.invariant-loop-attribute
+invariant-loop-attribute l = has_system_attribute l.name (drop l.attribute-index l.attributes) ≡ has_system_attribute l.name l.attributes

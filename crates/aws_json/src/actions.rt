@@ -1,0 +1,285 @@
+//! The actions (Amazon SQS API Reference): each is a function that has the members of its row with
+//! their kinds, and judges them one after another, and a line of [`parse`]. Which fault is which,
+//! and the order in which they are judged, is this project's own choice.
+
+ghost use Rattle.std.specs.Prelude.{◌≡◌, Err, None};
+ghost use Rattle.message.specs.Fault.{Meets};
+ghost use Rattle.serde_json.specs.View.{view};
+ghost use Rattle.aws_json.specs.Request.{row, action_named, has_kinds, asked_of_row, maximum_given, create_queue, set_queue_attributes, purge_queue, delete_queue, get_queue_url, list_queues, send_message, receive_message, delete_message, change_message_visibility, get_queue_attributes, batch, row_of, request_of};
+
+use crate::attribute_names::{asked_attribute_names, asked_names, asked_patterns};
+use crate::batch::{EntryKind, GivenMessage};
+use crate::entries::{
+    HANDLE, TIMEOUT, batch_of, entries_have_kinds, given_handle, has_message_kinds, message_given,
+    required_timeout, timeout_within,
+};
+use crate::members::{
+    Kind, have_kinds, items_in, members_in, number_in, read_object, text_in, within,
+};
+use crate::named_queue::{known_name, named_queue, new_name};
+use crate::request::Request;
+use crate::requested::{request_members, requested_attributes};
+use crate::text::Text;
+use message::Fault;
+use queue_core::Maximum;
+use serde_json::Value;
+use std::alloc::Global;
+
+/// The queue that most actions speak of.
+const URL: (&str, Kind) = ("QueueUrl", Kind::Text);
+
+/// The settings that a creation or a change of settings requests.
+const ATTRIBUTES: (&str, Kind) = ("Attributes", Kind::NamedTexts);
+
+/// The actions that are served.
+#[derive(Clone, Copy, Debug, PartialEq, Eq)]
+enum Action {
+    CreateQueue,
+    SetQueueAttributes,
+    PurgeQueue,
+    DeleteQueue,
+    GetQueueUrl,
+    ListQueues,
+    GetQueueAttributes,
+    SendMessage,
+    ReceiveMessage,
+    DeleteMessage,
+    ChangeMessageVisibility,
+    /// The action on several messages, each an entry of this kind.
+    Batch(EntryKind),
+}
+
+/// Reads a creation: the name first, then the attributes.
+fn create_queue(alloc: Global, body: &Value) -> Result<Request, Fault>
+    ensures { Meets result (create_queue (view body.now)) }
+{
+    let name = new_name(text_in(body, "QueueName"))?;
+    let wish = requested_attributes(alloc, members_in(body, "Attributes"))?;
+    Ok(Request::CreateQueue { name, wish })
+}
+
+/// Reads a change of settings: the queue first, then the attributes, which have to be there.
+fn set_queue_attributes(alloc: Global, body: &Value) -> Result<Request, Fault>
+    ensures { Meets result (set_queue_attributes (view body.now)) }
+{
+    let queue = named_queue(text_in(body, "QueueUrl"))?;
+    let members = members_in(body, "Attributes").ok_or(Fault::InvalidParameterValue)?;
+    let wish = request_members(alloc, members)?;
+    Ok(Request::SetQueueAttributes { queue, wish })
+}
+
+/// Reads a purge.
+fn purge_queue(body: &Value) -> Result<Request, Fault>
+    ensures { result ≡ purge_queue (view body.now) }
+{
+    let queue = named_queue(text_in(body, "QueueUrl"))?;
+    Ok(Request::PurgeQueue { queue })
+}
+
+/// Reads a deletion of a queue.
+fn delete_queue(body: &Value) -> Result<Request, Fault>
+    ensures { result ≡ delete_queue (view body.now) }
+{
+    let queue = named_queue(text_in(body, "QueueUrl"))?;
+    Ok(Request::DeleteQueue { queue })
+}
+
+/// Reads a request for a queue's URL.
+fn get_queue_url(body: &Value) -> Result<Request, Fault>
+    ensures { result ≡ get_queue_url (view body.now) }
+{
+    let name = known_name(text_in(body, "QueueName"))?;
+    Ok(Request::GetQueueUrl { name })
+}
+
+/// Reads a request for the URLs of queues.
+fn list_queues(alloc: Global, body: &Value) -> Result<Request, Fault>
+    ensures { Meets result (list_queues (view body.now)) }
+{
+    let text = text_in(body, "QueueNamePrefix").unwrap_or("");
+    let prefix = Text::new(alloc, text)?;
+    Ok(Request::ListQueues { prefix })
+}
+
+/// Reads a send: the queue first, then what is sent.
+fn send_message(alloc: Global, body: &Value) -> Result<Request, Fault>
+    ensures { Meets result (send_message (view body.now)) }
+{
+    let queue = named_queue(text_in(body, "QueueUrl"))?;
+    let GivenMessage { content, delay } = message_given(alloc, body)?;
+    Ok(Request::SendMessage {
+        queue,
+        content,
+        delay,
+    })
+}
+
+/// How many messages a receive asks for: one where it does not say.
+fn maximum_given(number: Option<Option<u64>>) -> Result<Maximum, Fault>
+    ensures { result ≡ maximum_given number }
+{
+    let messages = within(1, 10, number)?.unwrap_or(1);
+    match Maximum::new(messages as u8) {
+        Some(maximum) => Ok(maximum),
+        None => Err(Fault::InvalidParameterValue),
+    }
+}
+
+/// Reads a receive: the queue first, then the numbers, then the names of attributes.
+fn receive_message(alloc: Global, body: &Value) -> Result<Request, Fault>
+    ensures { Meets result (receive_message (view body.now)) }
+{
+    let queue = named_queue(text_in(body, "QueueUrl"))?;
+    let maximum = maximum_given(number_in(body, "MaxNumberOfMessages"))?;
+    let timeout = timeout_within(number_in(body, "VisibilityTimeout"))?;
+    let wait = within(0, 20, number_in(body, "WaitTimeSeconds"))?;
+    let names = asked_names(alloc, body)?;
+    let attributes = asked_patterns(alloc, items_in(body, "MessageAttributeNames"))?;
+    Ok(Request::ReceiveMessage {
+        queue,
+        maximum,
+        timeout,
+        wait,
+        names,
+        attributes,
+    })
+}
+
+/// Reads a delete: the queue first, then the handle.
+fn delete_message(body: &Value) -> Result<Request, Fault>
+    ensures { result ≡ delete_message (view body.now) }
+{
+    let queue = named_queue(text_in(body, "QueueUrl"))?;
+    let handle = given_handle(text_in(body, "ReceiptHandle"))?;
+    Ok(Request::DeleteMessage { queue, handle })
+}
+
+/// Reads a change of visibility: the queue first, then the handle, then the timeout.
+fn change_message_visibility(body: &Value) -> Result<Request, Fault>
+    ensures { result ≡ change_message_visibility (view body.now) }
+{
+    let queue = named_queue(text_in(body, "QueueUrl"))?;
+    let handle = given_handle(text_in(body, "ReceiptHandle"))?;
+    let timeout = required_timeout(number_in(body, "VisibilityTimeout"))?;
+    Ok(Request::ChangeMessageVisibility {
+        queue,
+        handle,
+        timeout,
+    })
+}
+
+/// Reads a request for attributes: the queue first, then the names.
+fn get_queue_attributes(alloc: Global, body: &Value) -> Result<Request, Fault>
+    ensures { Meets result (get_queue_attributes (view body.now)) }
+{
+    let queue = named_queue(text_in(body, "QueueUrl"))?;
+    let names = asked_attribute_names(alloc, items_in(body, "AttributeNames"))?;
+    Ok(Request::GetQueueAttributes { queue, names })
+}
+
+/// Reads a batch of a kind: the queue first, then the entries.
+fn batch(alloc: Global, kind: EntryKind, body: &Value) -> Result<Request, Fault>
+    ensures { Meets result (batch kind (view body.now)) }
+{
+    let queue = named_queue(text_in(body, "QueueUrl"))?;
+    let items = items_in(body, "Entries").ok_or(Fault::InvalidParameterValue)?;
+    let entries = batch_of(alloc, kind, items)?;
+    Ok(Request::Batch { queue, entries })
+}
+
+/// The action of a name, where it is served.
+fn action_named(name: &str) -> Option<Action>
+    ensures { result ≡ action_named name.now }
+{
+    match name {
+        "CreateQueue" => Some(Action::CreateQueue),
+        "SetQueueAttributes" => Some(Action::SetQueueAttributes),
+        "PurgeQueue" => Some(Action::PurgeQueue),
+        "DeleteQueue" => Some(Action::DeleteQueue),
+        "GetQueueUrl" => Some(Action::GetQueueUrl),
+        "ListQueues" => Some(Action::ListQueues),
+        "GetQueueAttributes" => Some(Action::GetQueueAttributes),
+        "SendMessage" => Some(Action::SendMessage),
+        "ReceiveMessage" => Some(Action::ReceiveMessage),
+        "DeleteMessage" => Some(Action::DeleteMessage),
+        "ChangeMessageVisibility" => Some(Action::ChangeMessageVisibility),
+        "SendMessageBatch" => Some(Action::Batch(EntryKind::Send)),
+        "DeleteMessageBatch" => Some(Action::Batch(EntryKind::Delete)),
+        "ChangeMessageVisibilityBatch" => Some(Action::Batch(EntryKind::Change)),
+        _ => None,
+    }
+}
+
+/// Whether the members that an action knows have their kinds, those of the entries of a batch among
+/// them. A member that is not known is of any kind.
+fn has_kinds(action: Action, body: &Value) -> bool
+    ensures { result ≡ has_kinds (row action) (view body.now) }
+{
+    match action {
+        Action::CreateQueue => have_kinds(body, &[("QueueName", Kind::Text), ATTRIBUTES]),
+        Action::SetQueueAttributes => have_kinds(body, &[URL, ATTRIBUTES]),
+        Action::PurgeQueue | Action::DeleteQueue => have_kinds(body, &[URL]),
+        Action::GetQueueUrl => have_kinds(body, &[("QueueName", Kind::Text)]),
+        Action::ListQueues => have_kinds(body, &[("QueueNamePrefix", Kind::Text)]),
+        Action::GetQueueAttributes => have_kinds(body, &[URL, ("AttributeNames", Kind::Texts)]),
+        Action::SendMessage => have_kinds(body, &[URL]) && has_message_kinds(body),
+        Action::ReceiveMessage => have_kinds(
+            body,
+            &[
+                URL,
+                ("MaxNumberOfMessages", Kind::Number),
+                TIMEOUT,
+                ("WaitTimeSeconds", Kind::Number),
+                ("AttributeNames", Kind::Texts),
+                ("MessageSystemAttributeNames", Kind::Texts),
+                ("MessageAttributeNames", Kind::Texts),
+            ],
+        ),
+        Action::DeleteMessage => have_kinds(body, &[URL, HANDLE]),
+        Action::ChangeMessageVisibility => have_kinds(body, &[URL, HANDLE, TIMEOUT]),
+        Action::Batch(kind) => entries_have_kinds(kind, body) && have_kinds(body, &[URL]),
+    }
+}
+
+/// The request that an action and the members of an object are, or the first fault of the members.
+fn judge(alloc: Global, action: Action, body: &Value) -> Result<Request, Fault>
+    ensures { Meets result ((row action).judge (view body.now)) }
+{
+    match action {
+        Action::CreateQueue => create_queue(alloc, body),
+        Action::SetQueueAttributes => set_queue_attributes(alloc, body),
+        Action::PurgeQueue => purge_queue(body),
+        Action::DeleteQueue => delete_queue(body),
+        Action::GetQueueUrl => get_queue_url(body),
+        Action::ListQueues => list_queues(alloc, body),
+        Action::GetQueueAttributes => get_queue_attributes(alloc, body),
+        Action::SendMessage => send_message(alloc, body),
+        Action::ReceiveMessage => receive_message(alloc, body),
+        Action::DeleteMessage => delete_message(body),
+        Action::ChangeMessageVisibility => change_message_visibility(body),
+        Action::Batch(kind) => batch(alloc, kind, body),
+    }
+}
+
+/// The same, where a member of another kind is a `SerializationException` before all others.
+fn asked_of_row(alloc: Global, action: Action, body: &Value) -> Result<Request, Fault>
+    ensures { Meets result (asked_of_row (row action) (view body.now)) }
+{
+    if has_kinds(action, body) {
+        judge(alloc, action, body)
+    } else {
+        Err(Fault::SerializationException)
+    }
+}
+
+/// The request that an action and a body are, or the first fault. An action that is not served is
+/// `UnsupportedOperation`, whatever the body is.
+pub fn parse(alloc: Global, action: &str, body: &[u8]) -> Result<Request, Fault>
+    ensures request { Meets result (request_of action.now body.now) }
+    ensures unserved { row_of action.now ≡ None → result ≡ Err Fault.UnsupportedOperation }
+{
+    match action_named(action) {
+        Some(action) => asked_of_row(alloc, action, &read_object(alloc, body)?),
+        None => Err(Fault::UnsupportedOperation),
+    }
+}

@@ -1,8 +1,0 @@
-use Rattle.std.proofs.Common.{◌≡◌}
-use Rattle.toml.specs.View.{members_view}
-use Rattle.queue_config.specs.Limits.{default_limits}
-use Rattle.queue_config.specs.ConfigText.{with_limits}
-use Rattle.queue_config.proofs.config_text.with_limits.Given as goal
-
-abbrev pub invariant-loop-key : goal.invariant-loop-key
-invariant-loop-key l = with_limits l.limits (members_view l.key-iterator) ≡ with_limits default_limits (members_view l.table.entries)

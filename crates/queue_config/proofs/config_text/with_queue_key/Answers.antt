@@ -1,0 +1,15 @@
+use Rattle.std.proofs.Common.{◌≡◌, false, sym, ap, ◌∙◌}
+use Rattle.std.specs.Prelude.{codes}
+use Rattle.std.specs.Str.{bytes_eq}
+use Rattle.toml.specs.View.{view}
+use Rattle.queue_config.specs.ConfigText.{with_setting_key}
+use Rattle.queue_config.specs.SettingRows.{all_settings}
+use Rattle.queue_config.proofs.KeyLemmas.{with_key-settings}
+use Rattle.queue_config.proofs.config_text.with_queue_key.Goals as goal
+
+pub returns : goal.returns
+returns c =
+    let other : bytes_eq c.args.key.now (codes "name") ≡ false = sym c.eq.ensures ∙ c.if-eq.false in
+    rw other (c.with_setting_key.ensures
+    ∙ ap (λ setting. with_setting_key setting c.args.queue (view c.args.value.now)) c.setting_with_key.ensures
+    ∙ sym (with_key-settings all_settings c.args.queue c.args.key.now (view c.args.value.now)))

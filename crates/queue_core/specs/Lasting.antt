@@ -1,0 +1,20 @@
+-- Words for what a call leaves as it was, and for what lasts.
+use Rattle.std.specs.Prelude.{◌≡◌, ℕ, List, Option, option_and_then}
+use Rattle.receipt_handle.specs.declared.handle.Handle.{Handle}
+use Rattle.journal.specs.declared.entry.Entry.{Entry}
+use Rattle.queue_core.specs.Messages.{content_of, settings_of}
+use Rattle.queue_core.specs.States.{gauges_of, receive_order, message_numbered}
+use Rattle.queue_core.specs.Queue.{QueueHistory, is_valid_handle, holds_in_flight, holds_live}
+
+-- the counts and the age, the order, the settings, and what each handle may do are those of another queue
+pub record StandsAs (q other : QueueHistory) : Type 0 where
+  pub counts : gauges_of q.lines q.clock ≡ gauges_of other.lines other.clock
+  pub order : receive_order q.lines q.clock ≡ receive_order other.lines other.clock
+  pub settings : settings_of q.lines ≡ settings_of other.lines
+  pub given : (h : Handle) → is_valid_handle q h ≡ is_valid_handle other h
+  pub in_flight : (h : Handle) → holds_in_flight q h ≡ holds_in_flight other h
+  pub live : (h : Handle) → holds_live q h ≡ holds_live other h
+
+-- the content of the message of a number
+abbrev pub content_numbered : {C : Type 0} → List (Entry C) → ℕ → Option C
+content_numbered lines number = option_and_then (λ m. content_of lines m) (message_numbered lines number)

@@ -1,0 +1,130 @@
+//! The queue registry over a list of steps.
+
+ghost use Rattle.std.specs.Prelude.{◌≡◌, ℕ, false, IfOk, OnErr, IfErr};
+ghost use Rattle.message.specs.Fault.{Meets};
+
+use crate::house::House;
+use journal::{Moment, Ticks};
+use message::{Fault, QueueName};
+use queue_config::{QUEUE_LIMIT, Wish};
+use queue_core::{Command, Gauges, QueueState, Reply};
+use std::alloc::Global;
+
+/// A step of the registry, and the moment that it comes at.
+#[derive(Debug, Drop)]
+pub enum HouseStep {
+    /// A queue of a name is created: [`House::create`].
+    Create {
+        at: Moment,
+        name: QueueName,
+        wish: Wish,
+    },
+    /// The queue of a uid is deleted: [`House::take_queue`].
+    Delete {
+        at: Moment,
+        uid: u64,
+    },
+    /// The queue of a uid performs a command: [`House::step`].
+    Perform {
+        at: Moment,
+        uid: u64,
+        command: Command,
+    },
+    /// Time passes for all queues: [`House::advance_all`].
+    Advance {
+        at: Moment,
+    },
+}
+
+/// The answer to a step that was not refused.
+#[derive(Debug, Drop)]
+pub enum HouseReply {
+    /// The uid of the queue that was created, or that has the name.
+    Created(u64),
+    /// The queue that was deleted, closed.
+    Deleted(QueueState),
+    /// What the queue answered.
+    Performed(Reply),
+    Advanced,
+}
+
+/// A queue's uid, with its counts and its age.
+#[derive(Clone, Copy, Debug, PartialEq, Eq)]
+pub struct QueueGauges {
+    pub uid: u64,
+    pub gauges: Gauges,
+}
+
+/// What a list of steps gave: the answers in the order of the steps, and what the queues that are
+/// there after it count, in the order in which they were created.
+#[derive(Debug, Drop)]
+pub struct HouseRun {
+    pub answers: Vec<Result<HouseReply, Fault>>,
+    pub gauges: Vec<QueueGauges>,
+}
+
+impl House {
+    ghost use Rattle.redrive.specs.History.{AllQueues, IsWholeHistory};
+    ghost use Rattle.redrive.specs.World.{queue_of_uid, IsRegistry};
+    ghost use Rattle.redrive.specs.WorldRun.{answer_of_step, needs_memory, world_after, AreHouseAnswers, world_after_all, history_after, IsAsIfAlone, AreRecomputed};
+
+    /// Does one step.
+    fn take_step(
+        &mut self,
+        alloc: Global,
+        step: &HouseStep,
+        ticks: &mut Ticks,
+    ) -> Result<HouseReply, Fault>
+        ensures answer { Meets result (answer_of_step self.old step.now) }
+        ensures exact { needs_memory self.old step.now ≡ false → result ≡ answer_of_step self.old step.now }
+        ensures state { self.new ≡ world_after self.old step.now result }
+        ensures registry { IsRegistry self.old }
+    {
+        self.keep_registry();
+        match step {
+            HouseStep::Create { at, name, wish } => {
+                Ok(HouseReply::Created(self.create(alloc, *at, *name, *wish)?))
+            }
+            HouseStep::Delete { at, uid } => {
+                Ok(HouseReply::Deleted(self.take_queue(alloc, *uid, *at, ticks)?))
+            }
+            HouseStep::Perform { at, uid, command } => {
+                Ok(HouseReply::Performed(self.perform_in(alloc, *uid, *at, command, ticks)?))
+            }
+            HouseStep::Advance { at } => {
+                self.advance_all(*at, ticks);
+                Ok(HouseReply::Advanced)
+            }
+        }
+    }
+
+    /// Does steps one after another: queues are created and deleted, perform commands, and see time
+    /// pass. Then it counts every queue that is there. Whatever the steps are, what is told of a queue
+    /// is what its own whole journal gives, as if no other queue were there. A queue that is deleted is
+    /// handed over closed. Where the two lists find no memory, nothing is done.
+    pub fn run(
+        &mut self,
+        alloc: Global,
+        steps: &[HouseStep],
+        ticks: &mut Ticks,
+    ) -> Result<HouseRun, Fault>
+        ensures answers { IfOk result (λ run. AreHouseAnswers self.old steps.now run.answers.items) }
+        ensures state { IfOk result (λ run. self.new ≡ world_after_all self.old steps.now run.answers.items) }
+        ensures alone { IfOk result (λ run. (uid : ℕ) → IsAsIfAlone self.old.limits uid (queue_of_uid self.old uid)
+            steps.now run.answers.items (queue_of_uid self.new uid)) }
+        ensures history { IfOk result (λ run. (all : AllQueues) → all.world ≡ self.old → IsWholeHistory all
+            → IsWholeHistory (history_after all steps.now run.answers.items)) }
+        ensures recomputed { IfOk result (λ run. AreRecomputed self.old self.new steps.now run.answers.items run.gauges.items) }
+        ensures err { OnErr result (self.new ≡ self.old) }
+        ensures errors { IfErr result (λ fault. fault ≡ Fault.OutOfMemory) }
+    {
+        let mut answers = Vec::with_capacity(alloc, steps.len())?;
+        let mut gauges = Vec::with_capacity(alloc, QUEUE_LIMIT)?;
+        for step in steps {
+            let answer = self.take_step(alloc, step, ticks);
+            answers.push_reserved(answer);
+        }
+        self.measure(&mut gauges);
+        Ok(HouseRun { answers, gauges })
+    }
+}

@@ -1,0 +1,113 @@
+//! Lists of steps.
+
+use super::{at, house, message, timeout};
+use crate::{HouseReply, HouseStep};
+use journal::Ticks;
+use message::{Fault, QueueName};
+use queue_core::{Command, Reply};
+use std::alloc::Global;
+use std::test::Fail;
+
+/// The step of a line: a queue created, deleted or asked, or time that passes.
+fn step(alloc: Global, line: &str) -> Result<HouseStep, Fault> {
+    let mut words = line.split(' ');
+    let call = words.next().unwrap_or("");
+    let name = words.next().unwrap_or("");
+    let uid = name.parse().unwrap_or(0);
+    let at = at(5);
+    if call == "create" {
+        let name = QueueName::read(name)?;
+        let wish = timeout(alloc, "")?;
+        return Ok(HouseStep::Create { at, name, wish });
+    }
+    if call == "delete" {
+        return Ok(HouseStep::Delete { at, uid });
+    }
+    if call == "send" {
+        let command = message(alloc)?;
+        return Ok(HouseStep::Perform { at, uid, command });
+    }
+    if call == "look" {
+        let command = Command::Look;
+        return Ok(HouseStep::Perform { at, uid, command });
+    }
+    Ok(HouseStep::Advance { at })
+}
+
+/// A queue's answer as a text.
+fn performed(alloc: Global, reply: &Reply) -> Result<String, Fault> {
+    Ok(match reply {
+        Reply::Sent(posted) => {
+            let number = posted.number;
+            format!(in alloc; "message {number}")?
+        }
+        Reply::Looked(look) => {
+            let visible = look.gauges.visible;
+            format!(in alloc; "{visible} visible")?
+        }
+        _ => String::from_str(alloc, "done")?,
+    })
+}
+
+/// A reply as a text.
+fn told(alloc: Global, reply: &HouseReply) -> Result<String, Fault> {
+    match reply {
+        HouseReply::Created(uid) => Ok(format!(in alloc; "uid {uid}")?),
+        HouseReply::Deleted(queue) => {
+            let uid = queue.uid();
+            Ok(format!(in alloc; "{uid} deleted")?)
+        }
+        HouseReply::Performed(reply) => performed(alloc, reply),
+        HouseReply::Advanced => Ok(String::from_str(alloc, "done")?),
+    }
+}
+
+/// An answer as a text.
+fn answered(alloc: Global, answer: &Result<HouseReply, Fault>) -> Result<String, Fault> {
+    match answer {
+        Ok(reply) => told(alloc, reply),
+        Err(fault) => Ok(format!(in alloc; "{fault:?}")?),
+    }
+}
+
+/// A list of steps is answered in order, queues are created and deleted in it, and at its end every
+/// queue that is there is counted.
+#[test]
+fn runs_a_list(rt: HostRuntime) -> Result<(), Fail> {
+    let alloc = rt.alloc();
+    let mut ticks = Ticks::new(&rt);
+    let mut house = house(alloc, 3)?;
+    let text = "create jobs = uid 1
+create dead = uid 2
+create jobs = uid 1
+send 1 = message 0
+send 2 = message 0
+send 1 = message 1
+send 1 = JournalFull
+send 3 = QueueDoesNotExist
+look 1 = 2 visible
+advance = done
+delete 2 = 2 deleted
+send 2 = QueueDoesNotExist
+create dead = uid 3
+look 3 = 0 visible
+delete 2 = QueueDoesNotExist";
+    let mut steps = Vec::new(alloc);
+    for line in text.lines() {
+        if let Some((call, _)) = line.split_once(" = ") {
+            steps.push(step(alloc, call)?)?;
+        }
+    }
+    let run = house.run(alloc, &steps, &mut ticks)?;
+    assert_eq!(rt; run.answers.len(), 15);
+    for (answer, line) in run.answers.iter().zip(text.lines()) {
+        if let Some((call, wanted)) = line.split_once(" = ") {
+            assert_eq!(rt; answered(alloc, answer)?.as_str(), wanted, "{call}");
+        }
+    }
+    assert_eq!(rt; run.gauges.len(), 2);
+    let (first, last) = (run.gauges[0], run.gauges[1]);
+    assert_eq!(rt; (first.uid, first.gauges.visible), (1, 2));
+    assert_eq!(rt; (last.uid, last.gauges.visible), (3, 0));
+    Ok(())
+}

@@ -1,0 +1,51 @@
+-- What the program makes of its arguments, and what it tells of how it ended: this project's own choice.
+use Rattle.std.specs.Prelude.{◌≡◌, ℕ, ⊤, Bool, false, List, [], ◌∷◌, ◌++◌, codes, Option, Some, None, Result, Ok, Err, MatchBool}
+use Rattle.std.specs.declared.io.ErrorKind.{ErrorKind}
+use Rattle.std.specs.declared.io.ErrorKind.TheVariants as kinds
+use Rattle.queue_config.specs.Config.{Configuration}
+use Rattle.queue_config.specs.ConfigFault.{config_fault_name, is_want_of_memory}
+use Rattle.queue_config.specs.declared.config_fault.ConfigFault.{ConfigFault}
+use Rattle.queue_config.specs.declared.config_fault.ConfigFault.TheVariants as config_faults
+use Rattle.sqs_replay.specs.declared.fault.ReplayFault.TheVariants as faults
+use Rattle.sqs_replay.specs.declared.program.Refusal.{Refusal}
+use Rattle.sqs_replay.specs.declared.program.Refusal.TheVariants.{Usage, Config, Replay}
+use Rattle.sqs_replay.specs.Fault.{fault_text}
+
+-- the path of the configuration among the arguments, the first of which is the program's own name
+abbrev pub path_among : {X : Type 0} → List X → Result (Option X) Refusal
+path_among [] = Ok None
+path_among (program ∷ []) = Ok None
+path_among (program ∷ path ∷ []) = Ok (Some path)
+path_among (program ∷ path ∷ more ∷ rest) = Err Usage
+
+-- why arguments could not be read: for want of memory, or since one is no text
+abbrev pub refusal_of_arguments : ErrorKind → Refusal
+refusal_of_arguments kinds.OutOfMemory = Replay faults.OutOfMemory
+refusal_of_arguments _ = Usage
+
+-- a configuration, or why there is none
+abbrev pub config_outcome : Result Configuration ConfigFault → Result Configuration Refusal
+config_outcome (Ok config) = Ok config
+config_outcome (Err fault) = Err (Config fault)
+
+-- whether there was no memory for a configuration
+abbrev pub is_starved : Result Configuration Refusal → Bool
+is_starved (Err (Config fault)) = is_want_of_memory {T = ℕ} (Err fault)
+is_starved _ = false
+
+-- the configuration is the wanted one, unless memory ran out
+abbrev pub IsConfigured : Result Configuration Refusal → Result Configuration ConfigFault → Type 0
+IsConfigured outcome wanted = MatchBool (is_starved outcome) ⊤ (outcome ≡ config_outcome wanted)
+
+-- what is told on standard error
+abbrev pub message_of : Refusal → List ℕ
+message_of Usage = codes "usage: sqs_replay [config.toml]"
+message_of (Config config_faults.OutOfMemory) = codes "sqs_replay: out of memory"
+message_of (Config fault) = codes "sqs_replay: config: " ++ config_fault_name fault
+message_of (Replay fault) = codes "sqs_replay: " ++ fault_text fault
+
+-- the status that the program ends with
+abbrev pub status_of : {T : Type 0} → Result T Refusal → ℕ
+status_of (Ok x) = 0
+status_of (Err Usage) = 2
+status_of (Err _) = 1
