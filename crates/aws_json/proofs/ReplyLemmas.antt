@@ -24,7 +24,7 @@ use Rattle.aws_json.specs.declared.attribute_names.QueueAttribute.{QueueAttribut
 use Rattle.aws_json.specs.declared.attribute_names.SystemAttribute.{SystemAttribute}
 use Rattle.aws_json.specs.declared.request.ReceiveNames.{ReceiveNames}
 use Rattle.aws_json.specs.declared.reply.ReplyShape.{ReplyShape}
-use Rattle.aws_json.specs.declared.reply.ReplyShape.TheVariants.{QueueUrl, QueueUrls, Sent, Attributes, Messages, Batch, Nothing}
+use Rattle.aws_json.specs.declared.reply.ReplyShape.TheVariants.{QueueUrl, QueueUrls, SourceQueueUrls, Sent, Attributes, Messages, Batch, Nothing}
 use Rattle.aws_json.specs.Attributes.{asked_attributes}
 use Rattle.aws_json.specs.Reply.{queue_attribute_text, put_queue_attributes, queue_url, url_items, put_given, put_sent, put_attributes_given, put_offer, handle_of_offer, system_attribute_text, put_system_attributes, has_some, attribute_data, put_attributes, message_data, message_items, done_data, done_item, done_items, failed_item, failed_items, reply_data}
 
@@ -172,7 +172,7 @@ offers_float none name items h = either_float none (object no_members) (object (
 
 queue_attributes_float : (queue : List ℕ) (look : Look) (ms : Members) (xs : List QueueAttribute) → members_have_float ms ≡ false → members_have_float (put_queue_attributes queue look ms xs) ≡ false
 queue_attributes_float queue look ms [] h = h
-queue_attributes_float queue look ms (a ∷ xs) h = queue_attributes_float queue look (put (queue_attribute_name a) (string (queue_attribute_text queue look a)) ms) xs (put_float (queue_attribute_name a) (string (queue_attribute_text queue look a)) ms refl h)
+queue_attributes_float queue look ms (a ∷ xs) h = queue_attributes_float queue look (put_given (queue_attribute_name a) (queue_attribute_text queue look a) ms) xs (put_given_float (queue_attribute_name a) (queue_attribute_text queue look a) ms h)
 
 urls_float : (names : List (List ℕ)) → items_have_float (url_items names) ≡ false
 urls_float [] = refl
@@ -202,6 +202,7 @@ pub reply_data-float : (shape : ReplyShape) → has_float (reply_data shape) ≡
 reply_data-float (QueueUrl name) = refl
 reply_data-float (Sent content id) = put_sent_float content id no_members refl
 reply_data-float (QueueUrls names) = or_both _ _ (urls_float names) refl
+reply_data-float (SourceQueueUrls names) = or_both _ _ (urls_float names) refl
 reply_data-float (Attributes None queue look) = refl
 reply_data-float (Attributes (Some names) queue look) = or_both _ _ (queue_attributes_float queue look no_members names.asked refl) refl
 reply_data-float (Messages uid names patterns offers) = offers_float (length offers == 0) _ _ (items_float uid names patterns offers)

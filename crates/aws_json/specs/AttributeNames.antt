@@ -38,6 +38,15 @@ are_known is_known (item d rest) = is_known (name_text d) && are_known is_known 
 abbrev pub or_no_items : Option Items → Items
 or_no_items names = unwrap_or names no_items
 
+-- whether one of these attributes has the name
+abbrev pub has_attribute : {A : Type 0} → (A → List ℕ) → List ℕ → List A → Bool
+has_attribute name_of name [] = false
+has_attribute name_of name (a ∷ rest) = bytes_eq (name_of a) name || has_attribute name_of name rest
+
+-- those of these attributes whose names are asked for
+abbrev pub attributes_for : {A : Type 0} → (A → List ℕ) → (List ℕ → Bool) → List A → List A
+attributes_for name_of is_asked attributes = filter (λ a. is_asked (name_of a)) attributes
+
 -- ---- attributes of queues
 
 abbrev pub queue_attribute_name : QueueAttribute → List ℕ
@@ -51,32 +60,24 @@ queue_attribute_name queues.Size = codes "MaximumMessageSize"
 queue_attribute_name queues.Retention = codes "MessageRetentionPeriod"
 queue_attribute_name queues.Arn = codes "QueueArn"
 queue_attribute_name queues.Wait = codes "ReceiveMessageWaitTimeSeconds"
+queue_attribute_name queues.Redrive = codes "RedrivePolicy"
 queue_attribute_name queues.Timeout = codes "VisibilityTimeout"
 
 unfoldable pub all_queue_attributes : List QueueAttribute
 all_queue_attributes =
     queues.Visible ∷ queues.Delayed ∷ queues.InFlight ∷ queues.Created ∷ queues.Delay ∷ queues.Modified ∷ queues.Size ∷ queues.Retention
-    ∷ queues.Arn ∷ queues.Wait ∷ queues.Timeout ∷ []
+    ∷ queues.Arn ∷ queues.Wait ∷ queues.Redrive ∷ queues.Timeout ∷ []
 
--- whether one of these attributes has the name
-abbrev pub has_queue_attribute : List ℕ → List QueueAttribute → Bool
-has_queue_attribute name [] = false
-has_queue_attribute name (a ∷ rest) = bytes_eq (queue_attribute_name a) name || has_queue_attribute name rest
-
--- names that a client may ask for; what is accepted without effect is not answered, nor is a policy, which no queue has
+-- names that a client may ask for; what is accepted without effect is not answered
 abbrev pub is_queue_name : List ℕ → Bool
 is_queue_name name =
-    bytes_eq name (codes "All") || has_queue_attribute name all_queue_attributes || bytes_eq name (codes "RedrivePolicy")
-    || is_ignored_attribute name
-
--- those of these attributes that a list of names asks for
-abbrev pub queue_attributes_for : Items → List QueueAttribute → List QueueAttribute
-queue_attributes_for names attributes = filter (λ a. asks_for names (queue_attribute_name a)) attributes
+    bytes_eq name (codes "All") || has_attribute queue_attribute_name name all_queue_attributes || is_ignored_attribute name
 
 -- the attributes that a list of names asks for
 abbrev pub asked_attributes_of : Items → Result AttributeNames Fault
 asked_attributes_of names =
-    if are_known is_queue_name names then Ok (record { asked = queue_attributes_for names all_queue_attributes }) else Err InvalidAttributeName
+    if are_known is_queue_name names then Ok (record { asked = attributes_for queue_attribute_name (asks_for names) all_queue_attributes })
+    else Err InvalidAttributeName
 
 -- the same, where it has any name
 abbrev pub asked_attribute_names : Option Items → Result (Option AttributeNames) Fault
@@ -96,10 +97,6 @@ system_attribute_name messages.Sent = codes "SentTimestamp"
 unfoldable pub all_system_attributes : List SystemAttribute
 all_system_attributes = messages.FirstReceive ∷ messages.ReceiveCount ∷ messages.Source ∷ messages.Sender ∷ messages.Sent ∷ []
 
-abbrev pub has_system_attribute : List ℕ → List SystemAttribute → Bool
-has_system_attribute name [] = false
-has_system_attribute name (a ∷ rest) = bytes_eq (system_attribute_name a) name || has_system_attribute name rest
-
 -- names that are accepted and not answered: they speak of what does not exist here
 abbrev pub is_unanswered : List ℕ → Bool
 is_unanswered name =
@@ -108,16 +105,17 @@ is_unanswered name =
 
 -- names that a client may ask for
 abbrev pub is_system_name : List ℕ → Bool
-is_system_name name = bytes_eq name (codes "All") || has_system_attribute name all_system_attributes || is_unanswered name
+is_system_name name = bytes_eq name (codes "All") || has_attribute system_attribute_name name all_system_attributes || is_unanswered name
 
--- those of these attributes that either list of names asks for
-abbrev pub system_attributes_for : Items → Items → List SystemAttribute → List SystemAttribute
-system_attributes_for names more attributes = filter (λ a. asks_for names (system_attribute_name a) || asks_for more (system_attribute_name a)) attributes
+-- whether either list of names asks for what has this name
+abbrev pub either_asks_for : Items → Items → List ℕ → Bool
+either_asks_for names more name = asks_for names name || asks_for more name
 
 -- the attributes that two lists of names ask for
 abbrev pub asked_names_of : Items → Items → Result ReceiveNames Fault
 asked_names_of names more =
-    if are_known is_system_name names && are_known is_system_name more then Ok (record { asked = system_attributes_for names more all_system_attributes })
+    if are_known is_system_name names && are_known is_system_name more
+    then Ok (record { asked = attributes_for system_attribute_name (either_asks_for names more) all_system_attributes })
     else Err InvalidAttributeName
 
 -- the attributes that a receive asks for, in one list or the other

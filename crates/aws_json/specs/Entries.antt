@@ -7,6 +7,7 @@ use Rattle.message.specs.Content.{body_fault, content_of, content_size, unless_f
 use Rattle.message.specs.Name.{queue_name_of}
 use Rattle.message.specs.declared.fault.Fault.{Fault}
 use Rattle.message.specs.declared.fault.Fault.TheVariants.{EmptyBatchRequest, TooManyEntriesInBatchRequest, BatchEntryIdsNotDistinct, InvalidBatchEntryId, BatchRequestTooLong}
+use Rattle.queue_core.specs.Ranges.{longest_delay, longest_timeout}
 use Rattle.queue_core.specs.declared.command.Command.{Command}
 use Rattle.queue_core.specs.declared.command.Command.TheVariants as commands
 use Rattle.receipt_handle.specs.declared.handle.Handle.{Handle}
@@ -37,7 +38,7 @@ given_attributes members = option_map_or attributes_given members []
 abbrev pub message_given : Data → Result GivenMessage Fault
 message_given d = do
   body ← given_body (text_in (codes "MessageBody") d)
-  seconds ← within 0 900 (number_in (codes "DelaySeconds") d)
+  seconds ← within 0 longest_delay (number_in (codes "DelaySeconds") d)
   whole ← content_of body (given_attributes (members_in (codes "MessageAttributes") d))
   Ok (record { content = whole; delay = seconds })
 
@@ -74,7 +75,7 @@ entry_command entries.Send d = result_map (λ m. commands.Send m.content m.delay
 entry_command entries.Delete d = result_map commands.Delete (given_handle (text_in (codes "ReceiptHandle") d))
 entry_command entries.Change d = do
   handle ← given_handle (text_in (codes "ReceiptHandle") d)
-  seconds ← required_within 0 43200 (number_in (codes "VisibilityTimeout") d)
+  seconds ← required_within 0 longest_timeout (number_in (codes "VisibilityTimeout") d)
   Ok (commands.Change handle seconds)
 
 -- an entry's id, which is of the form of a queue's name
@@ -113,8 +114,12 @@ command_size (Ok (commands.Change handle timeout)) = 0
 command_size (Ok (commands.Delete handle)) = 0
 command_size (Ok commands.Purge) = 0
 command_size (Ok (commands.Set wish target)) = 0
+command_size (Ok (commands.Arrive parcel)) = 0
+command_size (Ok (commands.Settle number)) = 0
+command_size (Ok (commands.Orphan target)) = 0
 command_size (Ok commands.Close) = 0
 command_size (Ok commands.Look) = 0
+command_size (Ok commands.FirstParcel) = 0
 command_size (Err fault) = 0
 
 abbrev pub entry_size : BatchEntry → ℕ

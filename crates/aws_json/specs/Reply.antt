@@ -1,5 +1,5 @@
 -- Replies as JSON data (AWS JSON 1.0, Amazon SQS API Reference); keys stand in byte order.
-use Rattle.std.specs.Prelude.{ℕ, nat_le, ◌++◌, ◌==◌, ◌||◌, ◌/◌, [], ◌∷◌, length, Bool, false, is_some, if◌then◌else◌, List, codes, decimal, Option, Some, None, Result, Ok, Err}
+use Rattle.std.specs.Prelude.{ℕ, nat_le, ◌++◌, ◌==◌, ◌||◌, ◌/◌, [], ◌∷◌, length, Bool, false, is_some, if◌then◌else◌, List, codes, decimal, Option, Some, None, option_map, Result, Ok, Err}
 use Rattle.attribute_md5.specs.Digest.{body_digest, attributes_digest}
 use Rattle.base64.specs.Engines.{standard}
 use Rattle.base64.specs.GeneralPurpose.{encode_of}
@@ -11,9 +11,11 @@ use Rattle.message.specs.declared.fault.Fault.{Fault}
 use Rattle.message.specs.declared.id.MessageId.{MessageId}
 use Rattle.receipt_handle.specs.declared.handle.Handle.{Handle}
 use Rattle.receipt_handle.specs.Handle.{handle_text}
+use Rattle.queue_config.specs.declared.policy.RedrivePolicy.{RedrivePolicy}
 use Rattle.queue_core.specs.declared.offers.Offer.{Offer}
 use Rattle.queue_core.specs.declared.reply.Look.{Look}
-use Rattle.serde_json.specs.Data.{Data, boolean, string, array, object, Items, no_items, item, Members, no_members, member, put}
+use Rattle.serde_json.specs.Data.{Data, unsigned, boolean, number, string, array, object, Items, no_items, item, Members, no_members, member, put}
+use Rattle.serde_json.specs.Written.{compact_text}
 use Rattle.aws_json.specs.Attributes.{asked_attributes}
 use Rattle.aws_json.specs.FaultText.{fault_name, fault_message}
 use Rattle.aws_json.specs.AttributeNames.{queue_attribute_name, system_attribute_name}
@@ -27,7 +29,7 @@ use Rattle.aws_json.specs.declared.batch.BatchAnswer.{BatchAnswer}
 use Rattle.aws_json.specs.declared.batch.EntryReply.{EntryReply}
 use Rattle.aws_json.specs.declared.batch.EntryReply.TheVariants as entries
 use Rattle.aws_json.specs.declared.reply.ReplyShape.{ReplyShape}
-use Rattle.aws_json.specs.declared.reply.ReplyShape.TheVariants.{QueueUrl, QueueUrls, Sent, Attributes, Messages, Batch, Nothing}
+use Rattle.aws_json.specs.declared.reply.ReplyShape.TheVariants.{QueueUrl, QueueUrls, SourceQueueUrls, Sent, Attributes, Messages, Batch, Nothing}
 
 -- the URL of a queue: host, port and account are this project's own choice, after ElasticMQ
 abbrev pub queue_url : List ℕ → List ℕ
@@ -37,27 +39,43 @@ queue_url name = codes "http://localhost:9324/000000000000/" ++ name
 abbrev pub queue_arn : List ℕ → List ℕ
 queue_arn name = codes "arn:aws:sqs:elasticmq:000000000000:" ++ name
 
+-- a text put among the members, where there is one
+abbrev pub put_given : List ℕ → Option (List ℕ) → Members → Members
+put_given name None members = members
+put_given name (Some text) members = put name (string text) members
+
 -- ---- attributes of a queue
 
--- a number as a text
-abbrev pub queue_attribute_text : List ℕ → Look → QueueAttribute → List ℕ
-queue_attribute_text queue look queues.Visible = decimal look.gauges.visible
-queue_attribute_text queue look queues.Delayed = decimal look.gauges.delayed
-queue_attribute_text queue look queues.InFlight = decimal look.gauges.in_flight
-queue_attribute_text queue look queues.Created = decimal (look.created / 1000)
-queue_attribute_text queue look queues.Delay = decimal look.settings.delay_seconds
-queue_attribute_text queue look queues.Modified = decimal (look.modified / 1000)
-queue_attribute_text queue look queues.Size = decimal look.settings.maximum_message_size
-queue_attribute_text queue look queues.Retention = decimal look.settings.retention_seconds
-queue_attribute_text queue look queues.Arn = queue_arn queue
-queue_attribute_text queue look queues.Wait = decimal look.settings.wait_seconds
-queue_attribute_text queue look queues.Timeout = decimal look.settings.visibility_timeout
+-- the policy of a queue: the ARN of its dead-letter queue, and after how many receives a message goes there
+abbrev pub policy_data : RedrivePolicy → Data
+policy_data policy =
+    object (member (codes "deadLetterTargetArn") (string (queue_arn policy.name))
+    (member (codes "maxReceiveCount") (number (unsigned policy.max_receive_count)) no_members))
+
+-- the policy as a JSON text
+abbrev pub policy_text : RedrivePolicy → List ℕ
+policy_text policy = compact_text (policy_data policy)
+
+-- a text for each attribute that the queue has; it may have no policy
+abbrev pub queue_attribute_text : List ℕ → Look → QueueAttribute → Option (List ℕ)
+queue_attribute_text queue look queues.Visible = Some (decimal look.gauges.visible)
+queue_attribute_text queue look queues.Delayed = Some (decimal look.gauges.delayed)
+queue_attribute_text queue look queues.InFlight = Some (decimal look.gauges.in_flight)
+queue_attribute_text queue look queues.Created = Some (decimal (look.created / 1000))
+queue_attribute_text queue look queues.Delay = Some (decimal look.settings.delay_seconds)
+queue_attribute_text queue look queues.Modified = Some (decimal (look.modified / 1000))
+queue_attribute_text queue look queues.Size = Some (decimal look.settings.maximum_message_size)
+queue_attribute_text queue look queues.Retention = Some (decimal look.settings.retention_seconds)
+queue_attribute_text queue look queues.Arn = Some (queue_arn queue)
+queue_attribute_text queue look queues.Wait = Some (decimal look.settings.wait_seconds)
+queue_attribute_text queue look queues.Redrive = option_map policy_text look.settings.redrive_policy
+queue_attribute_text queue look queues.Timeout = Some (decimal look.settings.visibility_timeout)
 
 -- these attributes put among the members, each under its name
 abbrev pub put_queue_attributes : List ℕ → Look → Members → List QueueAttribute → Members
 put_queue_attributes queue look members [] = members
 put_queue_attributes queue look members (a ∷ rest) =
-    put_queue_attributes queue look (put (queue_attribute_name a) (string (queue_attribute_text queue look a)) members) rest
+    put_queue_attributes queue look (put_given (queue_attribute_name a) (queue_attribute_text queue look a) members) rest
 
 -- an empty object where no name was asked
 abbrev pub attributes_data : Option AttributeNames → List ℕ → Look → Data
@@ -74,16 +92,11 @@ abbrev pub url_items : List (List ℕ) → Items
 url_items [] = no_items
 url_items (name ∷ names) = item (string (queue_url name)) (url_items names)
 
--- the URLs of queues
-abbrev pub urls_data : List (List ℕ) → Data
-urls_data names = object (member (codes "QueueUrls") (array (url_items names)) no_members)
+-- the URLs of queues, under a key
+abbrev pub urls_data : List ℕ → List (List ℕ) → Data
+urls_data key names = object (member key (array (url_items names)) no_members)
 
 -- ---- sends
-
--- a text put among the members, where there is one
-abbrev pub put_given : List ℕ → Option (List ℕ) → Members → Members
-put_given name None members = members
-put_given name (Some text) members = put name (string text) members
 
 -- the digests of a message's attributes, where it has some, and of its body, and the message's id, put among the members
 abbrev pub put_sent : ContentText → MessageId → Members → Members
@@ -97,11 +110,11 @@ sent_data content id = object (put_sent content id no_members)
 
 -- ---- messages
 
--- an attribute of an offer, where it has it. The sender is always the one account. No message comes from another queue, so none has a source
+-- an attribute of an offer, where it has it. The sender is always the one account. A dead letter alone has a source, the queue that it came from
 abbrev pub system_attribute_text : Offer → SystemAttribute → Option (List ℕ)
 system_attribute_text o messages.FirstReceive = Some (decimal o.first_receive)
 system_attribute_text o messages.ReceiveCount = Some (decimal o.receipt)
-system_attribute_text o messages.Source = None
+system_attribute_text o messages.Source = option_map queue_arn o.source
 system_attribute_text o messages.Sender = Some (codes "000000000000")
 system_attribute_text o messages.Sent = Some (decimal o.sent)
 
@@ -167,7 +180,7 @@ messages_data uid names patterns offers =
 
 -- what a client is told of an entry that was done: its id, and for a send what a send is told
 abbrev pub done_data : List ℕ → EntryReply → Data
-done_data id (entries.Sent content number) = object (put_sent content number (put (codes "Id") (string id) no_members))
+done_data id (entries.Sent content message_id) = object (put_sent content message_id (put (codes "Id") (string id) no_members))
 done_data id entries.Done = object (put (codes "Id") (string id) no_members)
 
 -- what a client is told of an entry that was refused, and whether the fault is the client's
@@ -203,7 +216,8 @@ batch_data answers = object (member (codes "Failed") (array (failed_items answer
 abbrev pub reply_data : ReplyShape → Data
 reply_data (QueueUrl name) = url_data name
 reply_data (Sent content id) = sent_data content id
-reply_data (QueueUrls names) = urls_data names
+reply_data (QueueUrls names) = urls_data (codes "QueueUrls") names
+reply_data (SourceQueueUrls names) = urls_data (codes "queueUrls") names
 reply_data (Attributes names queue look) = attributes_data names queue look
 reply_data (Messages uid names patterns offers) = messages_data uid names patterns offers
 reply_data (Batch answers) = batch_data answers

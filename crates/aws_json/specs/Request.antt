@@ -6,6 +6,7 @@ use Rattle.message.specs.Name.{queue_name_of}
 use Rattle.message.specs.declared.fault.Fault.{Fault}
 use Rattle.message.specs.declared.fault.Fault.TheVariants.{QueueDoesNotExist, UnsupportedOperation, SerializationException}
 use Rattle.queue_config.specs.Settings.{RequestedAttributes, no_requested_attributes, request_attribute}
+use Rattle.queue_core.specs.Ranges.{longest_timeout, most_offers}
 use Rattle.serde_json.specs.Data.{Data, Members, no_members, member}
 use Rattle.serde_json.specs.Find.{as_str}
 use Rattle.aws_json.specs.Steps.{◌>>=◌, result_map, refused_as, required}
@@ -18,7 +19,7 @@ use Rattle.aws_json.specs.declared.actions.Action.TheVariants as actions
 use Rattle.aws_json.specs.declared.batch.EntryKind.TheVariants as entries
 use Rattle.aws_json.specs.declared.members.Kind.TheVariants.{Text, Number, Texts, NamedTexts}
 use Rattle.aws_json.specs.declared.request.Request.{Request}
-use Rattle.aws_json.specs.declared.request.Request.TheVariants.{CreateQueue, SendMessage, GetQueueAttributes, SetQueueAttributes, PurgeQueue, DeleteQueue, GetQueueUrl, ListQueues, ReceiveMessage, DeleteMessage, ChangeMessageVisibility, Batch}
+use Rattle.aws_json.specs.declared.request.Request.TheVariants.{CreateQueue, SendMessage, GetQueueAttributes, SetQueueAttributes, PurgeQueue, DeleteQueue, GetQueueUrl, ListQueues, ListDeadLetterSourceQueues, ReceiveMessage, DeleteMessage, ChangeMessageVisibility, Batch}
 
 -- ---- members
 
@@ -65,7 +66,7 @@ requested_attributes (Some members) = request_members no_requested_attributes me
 
 -- how many messages a receive asks for: 1 where it does not say
 abbrev pub maximum_given : Option (Option ℕ) → Result ℕ Fault
-maximum_given number = result_map (λ n. unwrap_or n 1) (within 1 10 number)
+maximum_given number = result_map (λ n. unwrap_or n 1) (within 1 most_offers number)
 
 -- ---- actions: what each asks, or the first fault in the order in which its members are judged
 
@@ -101,6 +102,11 @@ get_queue_url d = do
 abbrev pub list_queues : Data → Result Request Fault
 list_queues d = Ok (ListQueues (unwrap_or (text_in (codes "QueueNamePrefix") d) []))
 
+abbrev pub list_dead_letter_source_queues : Data → Result Request Fault
+list_dead_letter_source_queues d = do
+  queue ← named_queue (text_in (codes "QueueUrl") d)
+  Ok (ListDeadLetterSourceQueues queue)
+
 abbrev pub get_queue_attributes : Data → Result Request Fault
 get_queue_attributes d = do
   queue ← named_queue (text_in (codes "QueueUrl") d)
@@ -117,7 +123,7 @@ abbrev pub receive_message : Data → Result Request Fault
 receive_message d = do
   queue ← named_queue (text_in (codes "QueueUrl") d)
   most ← maximum_given (number_in (codes "MaxNumberOfMessages") d)
-  seconds ← within 0 43200 (number_in (codes "VisibilityTimeout") d)
+  seconds ← within 0 longest_timeout (number_in (codes "VisibilityTimeout") d)
   wait ← within 0 20 (number_in (codes "WaitTimeSeconds") d)
   names ← asked_names d
   Ok (ReceiveMessage queue most seconds wait names (patterns_of (or_no_items (items_in (codes "MessageAttributeNames") d))))
@@ -132,7 +138,7 @@ abbrev pub change_message_visibility : Data → Result Request Fault
 change_message_visibility d = do
   queue ← named_queue (text_in (codes "QueueUrl") d)
   handle ← given_handle (text_in (codes "ReceiptHandle") d)
-  seconds ← required_within 0 43200 (number_in (codes "VisibilityTimeout") d)
+  seconds ← required_within 0 longest_timeout (number_in (codes "VisibilityTimeout") d)
   Ok (ChangeMessageVisibility queue handle seconds)
 
 abbrev pub batch : EntryKind → Data → Result Request Fault
@@ -163,6 +169,7 @@ row actions.PurgeQueue = single (url ∷ []) purge_queue
 row actions.DeleteQueue = single (url ∷ []) delete_queue
 row actions.GetQueueUrl = single (column (codes "QueueName") Text ∷ []) get_queue_url
 row actions.ListQueues = single (column (codes "QueueNamePrefix") Text ∷ []) list_queues
+row actions.ListDeadLetterSourceQueues = single (url ∷ []) list_dead_letter_source_queues
 row actions.GetQueueAttributes = single (url ∷ column (codes "AttributeNames") Texts ∷ []) get_queue_attributes
 row actions.SendMessage = single (url ∷ message_columns) send_message
 row actions.ReceiveMessage =
@@ -182,6 +189,7 @@ action_named name =
     else if bytes_eq name (codes "DeleteQueue") then Some actions.DeleteQueue
     else if bytes_eq name (codes "GetQueueUrl") then Some actions.GetQueueUrl
     else if bytes_eq name (codes "ListQueues") then Some actions.ListQueues
+    else if bytes_eq name (codes "ListDeadLetterSourceQueues") then Some actions.ListDeadLetterSourceQueues
     else if bytes_eq name (codes "GetQueueAttributes") then Some actions.GetQueueAttributes
     else if bytes_eq name (codes "SendMessage") then Some actions.SendMessage
     else if bytes_eq name (codes "ReceiveMessage") then Some actions.ReceiveMessage

@@ -5,7 +5,7 @@
 ghost use Rattle.std.specs.Prelude.{◌≡◌, Err, None};
 ghost use Rattle.message.specs.Fault.{Meets};
 ghost use Rattle.serde_json.specs.View.{view};
-ghost use Rattle.aws_json.specs.Request.{row, action_named, has_kinds, asked_of_row, maximum_given, create_queue, set_queue_attributes, purge_queue, delete_queue, get_queue_url, list_queues, send_message, receive_message, delete_message, change_message_visibility, get_queue_attributes, batch, row_of, request_of};
+ghost use Rattle.aws_json.specs.Request.{row, action_named, has_kinds, asked_of_row, maximum_given, create_queue, set_queue_attributes, purge_queue, delete_queue, get_queue_url, list_queues, list_dead_letter_source_queues, send_message, receive_message, delete_message, change_message_visibility, get_queue_attributes, batch, row_of, request_of};
 
 use crate::attribute_names::{asked_attribute_names, asked_names, asked_patterns};
 use crate::batch::{EntryKind, GivenMessage};
@@ -21,7 +21,7 @@ use crate::request::Request;
 use crate::requested::{request_members, requested_attributes};
 use crate::text::Text;
 use message::Fault;
-use queue_core::Maximum;
+use queue_core::{MOST_OFFERS, Maximum};
 use serde_json::Value;
 use std::alloc::Global;
 
@@ -40,6 +40,7 @@ enum Action {
     DeleteQueue,
     GetQueueUrl,
     ListQueues,
+    ListDeadLetterSourceQueues,
     GetQueueAttributes,
     SendMessage,
     ReceiveMessage,
@@ -101,6 +102,14 @@ fn list_queues(alloc: Global, body: &Value) -> Result<Request, Fault>
     Ok(Request::ListQueues { prefix })
 }
 
+/// Reads a request for the URLs of the queues that have a queue for their dead letters.
+fn list_dead_letter_source_queues(body: &Value) -> Result<Request, Fault>
+    ensures { result ≡ list_dead_letter_source_queues (view body.now) }
+{
+    let queue = named_queue(text_in(body, "QueueUrl"))?;
+    Ok(Request::ListDeadLetterSourceQueues { queue })
+}
+
 /// Reads a send: the queue first, then what is sent.
 fn send_message(alloc: Global, body: &Value) -> Result<Request, Fault>
     ensures { Meets result (send_message (view body.now)) }
@@ -118,7 +127,7 @@ fn send_message(alloc: Global, body: &Value) -> Result<Request, Fault>
 fn maximum_given(number: Option<Option<u64>>) -> Result<Maximum, Fault>
     ensures { result ≡ maximum_given number }
 {
-    let messages = within(1, 10, number)?.unwrap_or(1);
+    let messages = within(1, u64::from(MOST_OFFERS), number)?.unwrap_or(1);
     match Maximum::new(messages as u8) {
         Some(maximum) => Ok(maximum),
         None => Err(Fault::InvalidParameterValue),
@@ -198,6 +207,7 @@ fn action_named(name: &str) -> Option<Action>
         "DeleteQueue" => Some(Action::DeleteQueue),
         "GetQueueUrl" => Some(Action::GetQueueUrl),
         "ListQueues" => Some(Action::ListQueues),
+        "ListDeadLetterSourceQueues" => Some(Action::ListDeadLetterSourceQueues),
         "GetQueueAttributes" => Some(Action::GetQueueAttributes),
         "SendMessage" => Some(Action::SendMessage),
         "ReceiveMessage" => Some(Action::ReceiveMessage),
@@ -218,7 +228,9 @@ fn has_kinds(action: Action, body: &Value) -> bool
     match action {
         Action::CreateQueue => have_kinds(body, &[("QueueName", Kind::Text), ATTRIBUTES]),
         Action::SetQueueAttributes => have_kinds(body, &[URL, ATTRIBUTES]),
-        Action::PurgeQueue | Action::DeleteQueue => have_kinds(body, &[URL]),
+        Action::PurgeQueue | Action::DeleteQueue | Action::ListDeadLetterSourceQueues => {
+            have_kinds(body, &[URL])
+        }
         Action::GetQueueUrl => have_kinds(body, &[("QueueName", Kind::Text)]),
         Action::ListQueues => have_kinds(body, &[("QueueNamePrefix", Kind::Text)]),
         Action::GetQueueAttributes => have_kinds(body, &[URL, ("AttributeNames", Kind::Texts)]),
@@ -252,6 +264,7 @@ fn judge(alloc: Global, action: Action, body: &Value) -> Result<Request, Fault>
         Action::DeleteQueue => delete_queue(body),
         Action::GetQueueUrl => get_queue_url(body),
         Action::ListQueues => list_queues(alloc, body),
+        Action::ListDeadLetterSourceQueues => list_dead_letter_source_queues(body),
         Action::GetQueueAttributes => get_queue_attributes(alloc, body),
         Action::SendMessage => send_message(alloc, body),
         Action::ReceiveMessage => receive_message(alloc, body),

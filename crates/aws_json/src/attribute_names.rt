@@ -5,7 +5,7 @@
 ghost use Rattle.std.specs.Prelude.{◌≡◌, Ok, option_map};
 ghost use Rattle.message.specs.Fault.{Meets};
 ghost use Rattle.serde_json.specs.View.{view, items_view};
-ghost use Rattle.aws_json.specs.AttributeNames.{name_text, has_name, asks_for, are_known, queue_attribute_name, all_queue_attributes, has_queue_attribute, is_queue_name, queue_attributes_for, asked_attributes_of, asked_attribute_names, system_attribute_name, all_system_attributes, has_system_attribute, is_unanswered, is_system_name, system_attributes_for, asked_names_of, asked_names, patterns_of, or_no_items};
+ghost use Rattle.aws_json.specs.AttributeNames.{name_text, has_name, asks_for, are_known, queue_attribute_name, all_queue_attributes, has_attribute, is_queue_name, attributes_for, asked_attributes_of, asked_attribute_names, system_attribute_name, all_system_attributes, is_unanswered, is_system_name, either_asks_for, asked_names_of, asked_names, patterns_of, or_no_items};
 
 use crate::listed::Listed;
 use crate::members::items_in;
@@ -40,6 +40,8 @@ pub enum QueueAttribute {
     Arn,
     /// How long a receive waits, in seconds.
     Wait,
+    /// Where a message goes that is received too often, and when.
+    Redrive,
     /// How long a received message stays in flight, in seconds.
     Timeout,
 }
@@ -60,6 +62,7 @@ impl QueueAttribute {
             QueueAttribute::Retention => "MessageRetentionPeriod",
             QueueAttribute::Arn => "QueueArn",
             QueueAttribute::Wait => "ReceiveMessageWaitTimeSeconds",
+            QueueAttribute::Redrive => "RedrivePolicy",
             QueueAttribute::Timeout => "VisibilityTimeout",
         }
     }
@@ -81,6 +84,7 @@ fn all_queue_attributes() -> &'static [QueueAttribute]
         QueueAttribute::Retention,
         QueueAttribute::Arn,
         QueueAttribute::Wait,
+        QueueAttribute::Redrive,
         QueueAttribute::Timeout,
     ]
 }
@@ -92,7 +96,7 @@ pub enum SystemAttribute {
     FirstReceive,
     /// How often the message was received.
     ReceiveCount,
-    /// The queue that the message came from.
+    /// The queue that the message came from, where it is a dead letter.
     Source,
     /// Who sent the message.
     Sender,
@@ -160,7 +164,7 @@ fn asks_for(names: &[Value], name: &str) -> bool
 
 /// Whether one of these attributes has the name.
 fn has_queue_attribute(name: &str, attributes: &[QueueAttribute]) -> bool
-    ensures { result ≡ has_queue_attribute name.now attributes.now }
+    ensures { result ≡ has_attribute queue_attribute_name name.now attributes.now }
 {
     for attribute in attributes {
         if attribute.name() == name {
@@ -174,10 +178,7 @@ fn has_queue_attribute(name: &str, attributes: &[QueueAttribute]) -> bool
 fn is_queue_name(name: &str) -> bool
     ensures { result ≡ is_queue_name name.now }
 {
-    name == "All"
-        || has_queue_attribute(name, all_queue_attributes())
-        || name == "RedrivePolicy"
-        || is_ignored(name)
+    name == "All" || has_queue_attribute(name, all_queue_attributes()) || is_ignored(name)
 }
 
 /// Whether a client may ask for attributes of a queue by these names.
@@ -198,7 +199,8 @@ fn queue_attributes_for(
     names: &[Value],
     attributes: &[QueueAttribute],
 ) -> Result<Listed<QueueAttribute>, Fault>
-    ensures { Meets result (Ok (queue_attributes_for (items_view names.now) attributes.now)) }
+    ensures { Meets result
+        (Ok (attributes_for queue_attribute_name (asks_for (items_view names.now)) attributes.now)) }
 {
     let mut asked = Listed::empty(alloc);
     for attribute in attributes {
@@ -235,7 +237,7 @@ pub(crate) fn asked_attribute_names(
 
 /// Whether one of these attributes has the name.
 fn has_system_attribute(name: &str, attributes: &[SystemAttribute]) -> bool
-    ensures { result ≡ has_system_attribute name.now attributes.now }
+    ensures { result ≡ has_attribute system_attribute_name name.now attributes.now }
 {
     for attribute in attributes {
         if attribute.name() == name {
@@ -282,7 +284,8 @@ fn system_attributes_for(
     attributes: &[SystemAttribute],
 ) -> Result<Listed<SystemAttribute>, Fault>
     ensures { Meets result
-        (Ok (system_attributes_for (items_view names.now) (items_view more.now) attributes.now)) }
+        (Ok (attributes_for system_attribute_name
+        (either_asks_for (items_view names.now) (items_view more.now)) attributes.now)) }
 {
     let mut asked = Listed::empty(alloc);
     for attribute in attributes {

@@ -3,6 +3,7 @@
 
 ghost use Rattle.std.specs.Prelude.{◌≡◌, nat_lt, Ok, Some, option_map, sum_by};
 ghost use Rattle.message.specs.Fault.{Meets};
+ghost use Rattle.queue_core.specs.Ranges.{longest_delay, longest_timeout};
 ghost use Rattle.serde_json.specs.View.{view, items_view, members_view};
 ghost use Rattle.aws_json.specs.Attributes.{text_or_empty, bytes_of_base64, attribute_given, attributes_given};
 ghost use Rattle.aws_json.specs.Entries.{message_columns, given_body, given_attributes, message_given, given_handle, required_within, entry_columns, entry_command, entry_id, entry_of, entries_of, has_id, have_equal_ids, entry_size, checked_entries, item_count, batch_of, are_entries, entries_have_kinds};
@@ -14,7 +15,7 @@ use crate::members::{Kind, have_kinds, members_in, number_in, text_in, within};
 use base64::DecodeAllocError;
 use base64::engine::general_purpose::STANDARD;
 use message::{Attribute, AttributeValue, Content, Fault, QueueName, body_fault, is_binary_type};
-use queue_core::{Command, Delay, Timeout};
+use queue_core::{Command, Delay, LONGEST_DELAY, LONGEST_TIMEOUT, Timeout};
 use receipt_handle::Handle;
 use serde_json::{Map, Value};
 use std::alloc::Global;
@@ -111,9 +112,9 @@ fn given_body(text: Option<&str>) -> Result<&str, Fault>
 
 /// A delay in seconds, where there is one.
 fn delay_within(number: Option<Option<u64>>) -> Result<Option<Delay>, Fault>
-    ensures { result ≡ within 0 900 number }
+    ensures { result ≡ within 0 longest_delay number }
 {
-    match within(0, 900, number)? {
+    match within(0, u64::from(LONGEST_DELAY), number)? {
         Some(seconds) => match Delay::new(seconds as u16) {
             Some(delay) => Ok(Some(delay)),
             None => Err(Fault::InvalidParameterValue),
@@ -124,9 +125,9 @@ fn delay_within(number: Option<Option<u64>>) -> Result<Option<Delay>, Fault>
 
 /// A visibility timeout in seconds, where there is one.
 pub(crate) fn timeout_within(number: Option<Option<u64>>) -> Result<Option<Timeout>, Fault>
-    ensures { result ≡ within 0 43200 number }
+    ensures { result ≡ within 0 longest_timeout number }
 {
-    match within(0, 43_200, number)? {
+    match within(0, u64::from(LONGEST_TIMEOUT), number)? {
         Some(seconds) => match Timeout::new(seconds as u32) {
             Some(timeout) => Ok(Some(timeout)),
             None => Err(Fault::InvalidParameterValue),
@@ -137,7 +138,7 @@ pub(crate) fn timeout_within(number: Option<Option<u64>>) -> Result<Option<Timeo
 
 /// A visibility timeout in seconds, which has to be there.
 pub(crate) fn required_timeout(number: Option<Option<u64>>) -> Result<Timeout, Fault>
-    ensures { result ≡ required_within 0 43200 number }
+    ensures { result ≡ required_within 0 longest_timeout number }
 {
     timeout_within(number)?.ok_or(Fault::InvalidParameterValue)
 }

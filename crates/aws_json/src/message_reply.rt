@@ -13,7 +13,7 @@ ghost use Rattle.aws_json.specs.Reply.{put_attributes_given, put_offer, system_a
 
 use crate::attribute_names::SystemAttribute;
 use crate::put::{put_given, put_text, put_value};
-use crate::queue_reply::decimal;
+use crate::queue_reply::{decimal, queue_arn};
 use crate::request::ReceiveNames;
 use crate::selection::Patterns;
 use attribute_md5::{body_md5, list_md5};
@@ -36,7 +36,10 @@ fn system_attribute_text(
     let text = match attribute {
         SystemAttribute::FirstReceive => decimal(alloc, offer.first_receive.milliseconds())?,
         SystemAttribute::ReceiveCount => decimal(alloc, offer.receipt)?,
-        SystemAttribute::Source => return Ok(None),
+        SystemAttribute::Source => match &offer.source {
+            Some(queue) => queue_arn(alloc, queue)?,
+            None => return Ok(None),
+        },
         SystemAttribute::Sender => String::from_str(alloc, "000000000000")?,
         SystemAttribute::Sent => decimal(alloc, offer.sent.milliseconds())?,
     };
@@ -185,10 +188,13 @@ fn put_offer(
 }
 
 /// Whether an attribute is one that the offer has.
-fn is_had(_offer: &Offer, attribute: SystemAttribute) -> bool
-    ensures { result ≡ is_some (system_attribute_text _offer.now attribute) }
+fn is_had(offer: &Offer, attribute: SystemAttribute) -> bool
+    ensures { result ≡ is_some (system_attribute_text offer.now attribute) }
 {
-    !matches!(attribute, SystemAttribute::Source)
+    match attribute {
+        SystemAttribute::Source => offer.source.is_some(),
+        _ => true,
+    }
 }
 
 /// Whether an offer has one of these attributes.

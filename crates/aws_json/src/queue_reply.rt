@@ -1,23 +1,24 @@
 //! What a client is told of a queue (Amazon SQS API Reference, `GetQueueAttributes`).
 
-ghost use Rattle.std.specs.Prelude.{◌≡◌, ◌/◌, Ok, decimal, string_bytes};
+ghost use Rattle.std.specs.Prelude.{◌≡◌, ◌/◌, Ok, decimal, option_map, string_bytes};
 ghost use Rattle.message.specs.Fault.{Meets};
 ghost use Rattle.serde_json.specs.Data.{object, no_members};
 ghost use Rattle.serde_json.specs.View.{view};
 ghost use Rattle.aws_json.specs.Steps.{result_map};
-ghost use Rattle.aws_json.specs.Reply.{queue_arn, queue_attribute_text, put_queue_attributes, attributes_data};
+ghost use Rattle.aws_json.specs.Reply.{queue_arn, policy_data, policy_text, queue_attribute_text, put_queue_attributes, attributes_data};
 
 use crate::attribute_names::QueueAttribute;
-use crate::put::put_text;
+use crate::put::put_given;
 use crate::request::AttributeNames;
 use journal::Moment;
 use message::{Fault, QueueName};
+use queue_config::RedrivePolicy;
 use queue_core::Look;
 use serde_json::{Map, Value, json};
 use std::alloc::Global;
 
 /// The name by which policies and other services know a queue, always with this region and account.
-fn queue_arn(alloc: Global, name: &QueueName) -> Result<String, Fault>
+pub(crate) fn queue_arn(alloc: Global, name: &QueueName) -> Result<String, Fault>
     ensures { Meets (result_map (λ s. string_bytes s) result) (Ok (queue_arn name.now)) }
 {
     let mut arn = String::from_str(alloc, "arn:aws:sqs:elasticmq:000000000000:")?;
@@ -39,33 +40,57 @@ pub(crate) fn decimal(alloc: Global, number: u64) -> Result<String, Fault>
     Ok(number.to_string(alloc)?)
 }
 
-/// The text that an attribute is.
+/// A policy as JSON: the ARN of the dead-letter queue, and after how many receives a message goes
+/// there.
+fn policy_value(alloc: Global, policy: RedrivePolicy) -> Result<Value, Fault>
+    ensures { Meets (result_map view result) (Ok (policy_data policy)) }
+{
+    let arn = queue_arn(alloc, &policy.name)?;
+    let count = policy.max_receive_count;
+    Ok(json!(in alloc; {"deadLetterTargetArn": arn, "maxReceiveCount": count})?)
+}
+
+/// The JSON text of a policy, without blanks.
+fn policy_text(alloc: Global, policy: RedrivePolicy) -> Result<String, Fault>
+    ensures { Meets (result_map (λ s. string_bytes s) result) (Ok (policy_text policy)) }
+{
+    let value = policy_value(alloc, policy)?;
+    let text = value.to_string(alloc)?;
+    Ok(text)
+}
+
+/// The text that an attribute is, where the queue has it.
 fn queue_attribute_text(
     alloc: Global,
     queue: &QueueName,
     look: &Look,
     attribute: QueueAttribute,
-) -> Result<String, Fault>
-    ensures { Meets (result_map (λ s. string_bytes s) result)
+) -> Result<Option<String>, Fault>
+    ensures { Meets (result_map (λ text. option_map (λ s. string_bytes s) text) result)
         (Ok (queue_attribute_text queue.now look.now attribute)) }
 {
     let settings = &look.settings;
-    match attribute {
-        QueueAttribute::Visible => decimal(alloc, look.gauges.visible),
-        QueueAttribute::Delayed => decimal(alloc, look.gauges.delayed),
-        QueueAttribute::InFlight => decimal(alloc, look.gauges.in_flight),
-        QueueAttribute::Created => decimal(alloc, seconds(look.created)),
-        QueueAttribute::Delay => decimal(alloc, u64::from(settings.delay_seconds)),
-        QueueAttribute::Modified => decimal(alloc, seconds(look.modified)),
-        QueueAttribute::Size => decimal(alloc, u64::from(settings.maximum_message_size)),
-        QueueAttribute::Retention => decimal(alloc, u64::from(settings.retention_seconds)),
-        QueueAttribute::Arn => queue_arn(alloc, queue),
-        QueueAttribute::Wait => decimal(alloc, u64::from(settings.wait_seconds)),
-        QueueAttribute::Timeout => decimal(alloc, u64::from(settings.visibility_timeout)),
-    }
+    let text = match attribute {
+        QueueAttribute::Visible => decimal(alloc, look.gauges.visible)?,
+        QueueAttribute::Delayed => decimal(alloc, look.gauges.delayed)?,
+        QueueAttribute::InFlight => decimal(alloc, look.gauges.in_flight)?,
+        QueueAttribute::Created => decimal(alloc, seconds(look.created))?,
+        QueueAttribute::Delay => decimal(alloc, u64::from(settings.delay_seconds))?,
+        QueueAttribute::Modified => decimal(alloc, seconds(look.modified))?,
+        QueueAttribute::Size => decimal(alloc, u64::from(settings.maximum_message_size))?,
+        QueueAttribute::Retention => decimal(alloc, u64::from(settings.retention_seconds))?,
+        QueueAttribute::Arn => queue_arn(alloc, queue)?,
+        QueueAttribute::Wait => decimal(alloc, u64::from(settings.wait_seconds))?,
+        QueueAttribute::Redrive => match settings.redrive_policy {
+            Some(policy) => policy_text(alloc, policy)?,
+            None => return Ok(None),
+        },
+        QueueAttribute::Timeout => decimal(alloc, u64::from(settings.visibility_timeout))?,
+    };
+    Ok(Some(text))
 }
 
-/// An object of these attributes, each under its name.
+/// An object of these attributes, as far as the queue has them, each under its name.
 fn queue_attributes(
     alloc: Global,
     queue: &QueueName,
@@ -78,7 +103,7 @@ fn queue_attributes(
     let mut members = Map::new(alloc);
     for attribute in attributes {
         let text = queue_attribute_text(alloc, queue, look, *attribute)?;
-        put_text(alloc, &mut members, attribute.name(), text.as_str())?;
+        put_given(alloc, &mut members, attribute.name(), text.as_deref())?;
     }
     Ok(Value::Object(members))
 }

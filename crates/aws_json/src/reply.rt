@@ -39,6 +39,8 @@ pub enum ReplyShape {
     QueueUrl(QueueName),
     /// The URLs of queues, in this order.
     QueueUrls(QueueNames),
+    /// The URLs of the queues that have a queue for their dead letters, in this order.
+    SourceQueueUrls(QueueNames),
     /// The message that was sent, whose digests the client gets, and its id.
     Sent {
         content: Content,
@@ -52,8 +54,8 @@ pub enum ReplyShape {
         look: Look,
     },
     /// What a receive offers of the queue of a uid, with the attributes that were asked for, of the
-    /// queue's (no message comes from another queue, so none has a source) and of the sender's; an
-    /// empty object where it offers nothing.
+    /// queue's (a source only where the message is a dead letter) and of the sender's; an empty object
+    /// where it offers nothing.
     Messages {
         uid: u64,
         names: ReceiveNames,
@@ -75,12 +77,12 @@ fn queue_url(alloc: Global, name: &QueueName) -> Result<String, Fault>
     Ok(url)
 }
 
-/// The URLs of queues.
-fn urls_reply(alloc: Global, names: &[QueueName]) -> Result<Value, Fault>
-    ensures { Meets (result_map view result) (Ok (urls_data names.now)) }
+/// The URLs of queues, under a key.
+fn urls_reply(alloc: Global, key: &str, names: &[QueueName]) -> Result<Value, Fault>
+    ensures { Meets (result_map view result) (Ok (urls_data key.now names.now)) }
 {
     let urls = url_values(alloc, names)?;
-    Ok(json!(in alloc; {"QueueUrls": urls})?)
+    Ok(json!(in alloc; {key: urls})?)
 }
 
 /// The URLs of queues, one after another.
@@ -110,7 +112,8 @@ fn reply_value(alloc: Global, shape: &ReplyShape) -> Result<Value, Fault>
     match shape {
         ReplyShape::QueueUrl(name) => url_reply(alloc, name),
         ReplyShape::Sent { content, id } => sent_reply(alloc, content, *id),
-        ReplyShape::QueueUrls(names) => urls_reply(alloc, names.as_slice()),
+        ReplyShape::QueueUrls(names) => urls_reply(alloc, "QueueUrls", names.as_slice()),
+        ReplyShape::SourceQueueUrls(names) => urls_reply(alloc, "queueUrls", names.as_slice()),
         ReplyShape::Attributes { names, queue, look } => {
             attributes_reply(alloc, names, queue, look)
         }

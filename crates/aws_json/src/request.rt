@@ -62,6 +62,10 @@ pub enum Request {
     ListQueues {
         prefix: Prefix,
     },
+    /// Asks for the URLs of the queues that have a queue for their dead letters.
+    ListDeadLetterSourceQueues {
+        queue: QueueName,
+    },
     /// Receives messages, for a timeout in seconds or the queue's own, and waits for them so many
     /// seconds or as the queue has it. The names are of attributes that the queue gives a message,
     /// the patterns of those that its sender gave it.

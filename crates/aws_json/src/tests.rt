@@ -3,10 +3,10 @@
 //! with its `base64`.
 
 use super::*;
-use journal::{Moment, Ticks};
+use journal::{Moment, Origin, Ticks};
 use message::{Content, Fault, MessageId, QueueName};
-use queue_config::{Limits, Settings, Wish};
-use queue_core::{Command, Delay, Gauges, Look, Offers, QueueState, Timeout};
+use queue_config::{Limits, RedrivePolicy, Settings, Wish};
+use queue_core::{Command, Delay, Gauges, Look, Offers, Parcel, QueueState, Timeout};
 use receipt_handle::Handle;
 use std::alloc::Global;
 use std::process::Abort;
@@ -103,8 +103,12 @@ fn refused_memory(rt: HostRuntime) -> Result<(), Fail> {
 /// Each action once, and each reply.
 const EACH_ACTION: &str = r#"CreateQueue {"QueueName":"jobs","Attributes":{"VisibilityTimeout":"5"}}
 jobs 0 5 345600 0 262144
+CreateQueue {"QueueName":"jobs","Attributes":{"VisibilityTimeout":"1","RedrivePolicy":"{\"deadLetterTargetArn\":\"arn:aws:sqs:elasticmq:000000000000:dead\",\"maxReceiveCount\":1}"}}
+jobs 0 1 345600 0 262144 dead 1
 SetQueueAttributes {"QueueUrl":"jobs","Attributes":{"DelaySeconds":"5"}}
 jobs 5 30 345600 0 262144
+SetQueueAttributes {"QueueUrl":"beta","Attributes":{"RedrivePolicy":"{\"deadLetterTargetArn\":\"arn:aws:sqs:elasticmq:000000000000:alpha\",\"maxReceiveCount\":3}"}}
+beta 0 30 345600 0 262144 alpha 3
 PurgeQueue {"QueueUrl":"jobs"}
 jobs
 DeleteQueue {"QueueUrl":"jobs"}
@@ -113,6 +117,8 @@ GetQueueUrl {"QueueName":"jobs"}
 jobs
 ListQueues {"QueueNamePrefix":"jo"}
 "jo"
+ListDeadLetterSourceQueues {"QueueUrl":"alpha"}
+alpha
 GetQueueAttributes {"QueueUrl":"jobs","AttributeNames":["ApproximateNumberOfMessages"]}
 jobs [Visible]
 ReceiveMessage {"QueueUrl":"jobs","MaxNumberOfMessages":2,"AttributeNames":["SenderId"],"MessageAttributeNames":["b","foo.*"]}
@@ -135,16 +141,20 @@ reply GetQueueUrl {"QueueName":"jobs"}
 {"QueueUrl":"http://localhost:9324/000000000000/jobs"}
 reply ListQueues {"QueueNamePrefix":"b,A-1"}
 {"QueueUrls":["http://localhost:9324/000000000000/b","http://localhost:9324/000000000000/A-1"]}
+reply ListDeadLetterSourceQueues {"QueueUrl":"alpha"}
+{"queueUrls":["http://localhost:9324/000000000000/beta"]}
 reply PurgeQueue {"QueueUrl":"jobs"}
 {}
 reply SendMessage {"QueueUrl":"jobs","MessageBody":"hello"}
 {"MD5OfMessageBody":"5d41402abc4b2a76b9719d911017c592","MessageId":"01234567-89ab-cdef-fedc-ba9876543210"}
 reply SendMessage {"QueueUrl":"jobs","MessageBody":"hello","MessageAttributes":{"b":{"DataType":"String","StringValue":"x"},"a":{"DataType":"Binary","BinaryValue":"AA=="}}}
 {"MD5OfMessageAttributes":"2cc23ebbcef47291d79349d5c0a33a94","MD5OfMessageBody":"5d41402abc4b2a76b9719d911017c592","MessageId":"01234567-89ab-cdef-fedc-ba9876543210"}
-reply GetQueueAttributes {"QueueUrl":"jobs","AttributeNames":["All"]}
-{"Attributes":{"ApproximateNumberOfMessages":"7","ApproximateNumberOfMessagesDelayed":"0","ApproximateNumberOfMessagesNotVisible":"18446744073709551615","CreatedTimestamp":"4","DelaySeconds":"1","LastModifiedTimestamp":"5","MaximumMessageSize":"1025","MessageRetentionPeriod":"61","QueueArn":"arn:aws:sqs:elasticmq:000000000000:jobs","ReceiveMessageWaitTimeSeconds":"3","VisibilityTimeout":"2"}}
+reply GetQueueAttributes {"QueueUrl":"beta","AttributeNames":["All"]}
+{"Attributes":{"ApproximateNumberOfMessages":"7","ApproximateNumberOfMessagesDelayed":"0","ApproximateNumberOfMessagesNotVisible":"18446744073709551615","CreatedTimestamp":"4","DelaySeconds":"1","LastModifiedTimestamp":"5","MaximumMessageSize":"1025","MessageRetentionPeriod":"61","QueueArn":"arn:aws:sqs:elasticmq:000000000000:beta","ReceiveMessageWaitTimeSeconds":"3","RedrivePolicy":"{\"deadLetterTargetArn\":\"arn:aws:sqs:elasticmq:000000000000:alpha\",\"maxReceiveCount\":3}","VisibilityTimeout":"2"}}
 reply ReceiveMessage {"QueueUrl":"three","AttributeNames":["All"],"MessageAttributeNames":["foo"]}
 {"Messages":[{"Attributes":{"ApproximateFirstReceiveTimestamp":"2000","ApproximateReceiveCount":"1","SenderId":"000000000000","SentTimestamp":"1000"},"Body":"hi","MD5OfBody":"49f68a5c8493ec2c0bf489821c21fc3b","MD5OfMessageAttributes":"3cab606b9fbddd7cbcfb9e1d3a60f028","MessageAttributes":{"foo":{"DataType":"String","StringValue":"1"}},"MessageId":"00000000-0000-0001-0000-000000000000","ReceiptHandle":"000000000000000100000000000000000000000000000001"}]}
+reply ReceiveMessage {"QueueUrl":"dead","AttributeNames":["All"]}
+{"Messages":[{"Attributes":{"ApproximateFirstReceiveTimestamp":"6000","ApproximateReceiveCount":"1","DeadLetterQueueSourceArn":"arn:aws:sqs:elasticmq:000000000000:jobs","SenderId":"000000000000","SentTimestamp":"1000"},"Body":"a","MD5OfBody":"0cc175b9c0f1b6a831c399e269772661","MessageId":"00000000-0000-0002-0000-000000000000","ReceiptHandle":"000000000000000100000000000000000000000000000001"}]}
 batch a {"QueueUrl":"jobs","MessageBody":"hello","MessageAttributes":{"b":{"DataType":"String","StringValue":"x"},"a":{"DataType":"Binary","BinaryValue":"AA=="}}}; b JournalFull; c Done
 {"Failed":[{"Code":"JournalFull","Id":"b","Message":"The journal of the queue is full.","SenderFault":false}],"Successful":[{"Id":"a","MD5OfMessageAttributes":"2cc23ebbcef47291d79349d5c0a33a94","MD5OfMessageBody":"5d41402abc4b2a76b9719d911017c592","MessageId":"00000000-0000-0001-0000-000000000000"},{"Id":"c"}]}
 "#;

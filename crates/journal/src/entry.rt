@@ -2,8 +2,24 @@
 
 use crate::moment::Moment;
 use crate::numbers::Numbers;
-use message::{Content, Fault};
+use message::{Content, Fault, MessageId, QueueName};
 use queue_config::Settings;
+
+/// Where a dead letter comes from: the queue that it left, and what it keeps of its time there. The uid
+/// and the number together name the transfer, which a queue accepts once.
+#[derive(Clone, Copy, Debug, PartialEq, Eq)]
+pub struct Origin {
+    /// The uid of the queue that it left.
+    pub uid: u64,
+    /// Its number in that queue.
+    pub number: u64,
+    /// That queue's name.
+    pub name: QueueName,
+    /// The message's id, which a transfer keeps.
+    pub id: MessageId,
+    /// When it was first sent.
+    pub sent: Moment,
+}
 
 /// What happened to a queue. `C` stands for the content of a message.
 #[derive(Debug, Drop)]
@@ -18,9 +34,14 @@ pub enum Event<C> {
         delay: u16,
         content: C,
     },
+    /// A dead letter of another queue came here.
+    Arrived {
+        origin: Origin,
+        content: C,
+    },
     /// Messages were received: those of the offered numbers, each for a timeout in seconds from
-    /// then on. Those of the leaving numbers left for the dead-letter queue of a uid, 0 where none
-    /// left.
+    /// then on. Those of the leaving numbers left for the dead-letter queue of a uid, which is 0 where
+    /// the queue has none.
     Received {
         timeout: u32,
         offered: Numbers,
@@ -43,6 +64,14 @@ pub enum Event<C> {
     /// The queue got settings.
     Set {
         settings: Settings,
+    },
+    /// The dead-letter queue has accepted the message of a number, which waited for that.
+    Settled {
+        number: u64,
+    },
+    /// The dead-letter queue of a uid is gone: the messages that waited for it came back.
+    Orphaned {
+        target: u64,
     },
     /// The queue itself refused a request.
     Refused {

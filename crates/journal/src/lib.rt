@@ -3,7 +3,7 @@
 //! - [`Moment`]: a time in milliseconds below 2^62.
 //! - [`Event`], [`Entry`]: what happened, and when. Both are generic in what stands for a message's
 //!   content: a [`Line`] holds the content itself, a [`Mark`] its size in bytes, so that one set of
-//!   definitions serves both.
+//!   definitions serves both. [`Origin`] is where a dead letter comes from.
 //! - [`Numbers`]: a list of message numbers.
 //! - [`Journal`]: a list of lines with a limit. [`Journal::push`] adds one at the end or leaves the
 //!   journal as it was; nothing else changes it.
@@ -20,7 +20,7 @@ mod numbers;
 mod tests;
 mod ticks;
 
-pub use entry::{Entry, Event, Line, Mark};
+pub use entry::{Entry, Event, Line, Mark, Origin};
 pub use journal::Journal;
 pub use moment::Moment;
 pub use numbers::Numbers;

@@ -1,4 +1,5 @@
 pub mod DecimalLemmas
+pub mod ArnLemmas
 pub mod ConfigLemmas
 pub mod EmptyText
 pub mod KeyLemmas

@@ -1,9 +1,11 @@
 -- What a program is started with: limits, and the queues that are there from the start.
-use Rattle.std.specs.Prelude.{ℕ, ◌≤◌, List, [], map, length}
-use Rattle.std.specs.List.{IsDistinct}
+use Rattle.std.specs.Prelude.{◌≡◌, ℕ, ◌+◌, ◌≤◌, false, List, [], map, length, Option, Some, option_map}
+use Rattle.std.specs.List.{All, IsDistinct, position}
+use Rattle.std.specs.Option.{ForSome}
 use Rattle.std.specs.Str.{bytes_eq}
 use Rattle.queue_config.specs.Limits.{QueueLimits, default_limits}
 use Rattle.queue_config.specs.declared.config.ConfiguredQueue.{ConfiguredQueue}
+use Rattle.queue_config.specs.declared.policy.RedrivePolicy.{RedrivePolicy}
 
 -- the queues stand in the order of the text
 pub record Configuration : Type 0 where
@@ -18,7 +20,20 @@ default_configuration = record { limits = default_limits; queues = [] }
 abbrev pub most_queues : ℕ
 most_queues = 1000
 
--- no two queues of one name
+abbrev pub names_of : List ConfiguredQueue → List (List ℕ)
+names_of queues = map (λ q. q.name) queues
+
+-- the uid of the queue that has this name: the queues of a configuration have the uids 1, 2, 3 and so on, in their order
+abbrev pub configured_uid : List ℕ → List (List ℕ) → Option ℕ
+configured_uid name names = option_map (λ place. place + 1) (position (λ other. bytes_eq name other) names)
+
+-- the dead-letter queue is one of the queues with these names, by its name and by its uid, and not the queue itself
+pub record HasTarget (names : List (List ℕ)) (own : List ℕ) (policy : RedrivePolicy) : Type 0 where
+  pub target : configured_uid policy.name names ≡ Some policy.target
+  pub other : bytes_eq policy.name own ≡ false
+
+-- no two queues of one name, and each dead-letter queue is another of them
 pub record AreConfigured (queues : List ConfiguredQueue) : Type 0 where
-  pub names : IsDistinct bytes_eq (map (λ q. q.name) queues)
+  pub names : IsDistinct bytes_eq (names_of queues)
   pub count : length queues ≤ most_queues
+  pub targets : All (λ queue. ForSome queue.settings.redrive_policy (λ policy. HasTarget (names_of queues) queue.name policy)) queues

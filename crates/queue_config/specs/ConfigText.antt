@@ -7,12 +7,14 @@ use Rattle.toml.specs.Data.{Data, Items, no_items, item, Members, no_members, me
 use Rattle.toml.specs.Parse.{parse_document}
 use Rattle.queue_config.specs.Limits.{QueueLimits, max_lines_row, in_flight_row, default_limits}
 use Rattle.queue_config.specs.SettingRows.{row_of, all_settings}
-use Rattle.queue_config.specs.Settings.{default_settings, with_setting_value}
-use Rattle.queue_config.specs.Config.{Configuration, most_queues}
+use Rattle.queue_config.specs.Settings.{default_settings, no_requested_attributes, requested_target, with_setting_value, with_policy, settings_with}
+use Rattle.queue_config.specs.Config.{Configuration, configured_uid, most_queues}
 use Rattle.queue_config.specs.declared.config.ConfiguredQueue.{ConfiguredQueue}
 use Rattle.queue_config.specs.declared.config_fault.ConfigFault.{ConfigFault}
-use Rattle.queue_config.specs.declared.config_fault.ConfigFault.TheVariants.{Syntax, UnknownKey, WrongKind, OutOfRange, NameTwice}
+use Rattle.queue_config.specs.declared.config_fault.ConfigFault.TheVariants.{Syntax, UnknownKey, WrongKind, OutOfRange, NameTwice, NoSuchTarget}
 use Rattle.queue_config.specs.declared.config_text.QueueTable.{QueueTable}
+use Rattle.queue_config.specs.declared.requested_queues.RequestedQueue.{RequestedQueue}
+use Rattle.queue_config.specs.declared.policy.RequestedPolicy.{RequestedPolicy}
 use Rattle.queue_config.specs.declared.setting.Setting.{Setting}
 
 infixl 10 ◌>>=◌
@@ -89,40 +91,92 @@ limits_in (Some d) = do
 abbrev pub setting_key : Setting → KeyRow QueueTable
 setting_key setting =
     number_key (row_of setting).key (row_of setting).least (row_of setting).most
-    (λ queue n. record queue { settings = with_setting_value setting n queue.settings })
+    (λ queue n. record queue { wish = with_setting_value setting (Some n) queue.wish })
 
 abbrev pub queue_keys : List (KeyRow QueueTable)
-queue_keys = name_key (codes "name") (λ queue name. record queue { name = Some name }) ∷ map setting_key all_settings
+queue_keys =
+    name_key (codes "name") (λ queue name. record queue { name = Some name })
+    ∷ name_key (codes "dead_letter_queue") (λ queue name. record queue { dead_letter_queue = Some name })
+    ∷ number_key (codes "max_receive_count") 1 1000 (λ queue n. record queue { max_receive_count = Some n })
+    ∷ map setting_key all_settings
 
 -- a table that has said nothing yet
 abbrev pub no_keys : QueueTable
-no_keys = record { name = None; settings = default_settings }
+no_keys = record { name = None; dead_letter_queue = None; max_receive_count = None; wish = no_requested_attributes }
 
--- after its keys, the name has to be there
-abbrev pub queue_of_table : QueueTable → Result ConfiguredQueue ConfigFault
+-- the two keys of a policy stand together, or neither is there
+abbrev pub policy_of_keys : Option (List ℕ) → Option ℕ → Result (Option RequestedPolicy) ConfigFault
+policy_of_keys None None = Ok None
+policy_of_keys None (Some n) = Err WrongKind
+policy_of_keys (Some name) None = Err WrongKind
+policy_of_keys (Some name) (Some n) = Ok (Some (record { name = name; max_receive_count = n }))
+
+-- after its keys, the name has to be there, and both keys of a policy or neither
+abbrev pub queue_of_table : QueueTable → Result RequestedQueue ConfigFault
 queue_of_table queue = do
   name ← ok_or queue.name WrongKind
-  Ok (record { name = name; settings = queue.settings })
+  policy ← policy_of_keys queue.dead_letter_queue queue.max_receive_count
+  Ok (record { name = name; wish = with_policy policy queue.wish })
 
-abbrev pub queue_in : Data → Result ConfiguredQueue ConfigFault
+abbrev pub queue_in : Data → Result RequestedQueue ConfigFault
 queue_in d = do
   table ← ok_or (as_table d) WrongKind
   queue ← with_keys queue_keys no_keys table
   queue_of_table queue
 
 -- these queues, and those of the tables after them
-abbrev pub with_queues : List ConfiguredQueue → Items → Result (List ConfiguredQueue) ConfigFault
+abbrev pub with_queues : List RequestedQueue → Items → Result (List RequestedQueue) ConfigFault
 with_queues queues no_items = Ok queues
 with_queues queues (item d rest) = do
   queue ← queue_in d
   with_queues (queues ++ queue ∷ []) rest
 
 -- those of the tables, where there are any
-abbrev pub queues_in : Option Data → Result (List ConfiguredQueue) ConfigFault
+abbrev pub queues_in : Option Data → Result (List RequestedQueue) ConfigFault
 queues_in None = Ok []
 queues_in (Some d) = do
   tables ← ok_or (as_array d) WrongKind
   with_queues [] tables
+
+-- ---- all queues together
+
+-- whether one of these queues has the name
+abbrev pub has_name : List ℕ → List RequestedQueue → Bool
+has_name name [] = false
+has_name name (q ∷ qs) = bytes_eq name q.name || has_name name qs
+
+abbrev pub have_equal_names : List RequestedQueue → Bool
+have_equal_names [] = false
+have_equal_names (q ∷ qs) = has_name q.name qs || have_equal_names qs
+
+-- the uid of a dead-letter queue, which has to be another of the queues with these names; 0 where there is none
+abbrev pub target_among : List (List ℕ) → List ℕ → Option (Option (List ℕ)) → Result ℕ ConfigFault
+target_among names own None = Ok 0
+target_among names own (Some None) = Ok 0
+target_among names own (Some (Some name)) = if bytes_eq name own then Err NoSuchTarget else ok_or (configured_uid name names) NoSuchTarget
+
+-- the settings that a queue asks for, with the uid of its dead-letter queue
+abbrev pub configured_queue : List (List ℕ) → RequestedQueue → Result ConfiguredQueue ConfigFault
+configured_queue names queue = do
+  target ← target_among names queue.name (requested_target queue.wish)
+  Ok (record { name = queue.name; settings = settings_with default_settings queue.wish target })
+
+-- these queues, and those after them
+abbrev pub with_targets : List (List ℕ) → List ConfiguredQueue → List RequestedQueue → Result (List ConfiguredQueue) ConfigFault
+with_targets names queues [] = Ok queues
+with_targets names queues (q ∷ rest) = do
+  queue ← configured_queue names q
+  with_targets names (queues ++ queue ∷ []) rest
+
+abbrev pub configured_queues : List RequestedQueue → Result (List ConfiguredQueue) ConfigFault
+configured_queues queues = with_targets (map (λ q. q.name) queues) [] queues
+
+-- how many there are, then their names, and then their dead-letter queues
+abbrev pub together : List RequestedQueue → Result (List ConfiguredQueue) ConfigFault
+together queues =
+    if nat_lt most_queues (length queues) then Err OutOfRange
+    else if have_equal_names queues then Err NameTwice
+    else configured_queues queues
 
 -- ---- the whole
 
@@ -133,28 +187,13 @@ abbrev pub have_top_keys : Members → Bool
 have_top_keys no_members = true
 have_top_keys (member key d rest) = is_top_key key && have_top_keys rest
 
--- whether one of these queues has the name
-abbrev pub has_name : List ℕ → List ConfiguredQueue → Bool
-has_name name [] = false
-has_name name (q ∷ qs) = bytes_eq name q.name || has_name name qs
-
-abbrev pub have_equal_names : List ConfiguredQueue → Bool
-have_equal_names [] = false
-have_equal_names (q ∷ qs) = has_name q.name qs || have_equal_names qs
-
--- what is judged of all queues together: how many there are, and then their names
-abbrev pub together : QueueLimits → List ConfiguredQueue → Result Configuration ConfigFault
-together limits queues =
-    if nat_lt most_queues (length queues) then Err OutOfRange
-    else if have_equal_names queues then Err NameTwice
-    else Ok (record { limits = limits; queues = queues })
-
 -- the limits come first, then the queues in their order, then the queues together
 abbrev pub configuration_in : Members → Result Configuration ConfigFault
 configuration_in table = do
   limits ← limits_in (get_member (codes "limits") table)
-  queues ← queues_in (get_member (codes "queue") table)
-  together limits queues
+  requested ← queues_in (get_member (codes "queue") table)
+  queues ← together requested
+  Ok (record { limits = limits; queues = queues })
 
 -- an unknown key at the top comes before every table
 abbrev pub configuration_of_table : Members → Result Configuration ConfigFault
@@ -176,6 +215,6 @@ abbrev pub with_setting_key : Option Setting → QueueTable → Data → Result 
 with_setting_key None queue d = Err UnknownKey
 with_setting_key (Some setting) queue d = (setting_key setting).take queue d
 
-abbrev pub items_of : Result (Vec ConfiguredQueue) ConfigFault → Result (List ConfiguredQueue) ConfigFault
+abbrev pub items_of : {T : Type 0} → Result (Vec T) ConfigFault → Result (List T) ConfigFault
 items_of (Ok queues) = Ok queues.items
 items_of (Err fault) = Err fault

@@ -19,7 +19,8 @@ pub struct ConfiguredQueue {
 }
 
 /// What a program is started with: the limits of every queue, and the queues that are there from the
-/// start, at most 1,000 and no two of one name.
+/// start, at most 1,000 and no two of one name. Their uids are 1, 2, 3 and so on, in their order, and
+/// each dead-letter queue is another of them.
 #[derive(Debug, Drop)]
 pub struct Config {
     pub limits: Limits,

@@ -17,7 +17,8 @@ pub enum ConfigFault {
     /// A table has a key that it does not know.
     #[error("A key is unknown.")]
     UnknownKey,
-    /// A value is of another kind, or a key is missing that has to be there.
+    /// A value is of another kind, or a key is missing that has to be there, such as one of the two of
+    /// a policy.
     #[error("A value is of the wrong kind, or missing.")]
     WrongKind,
     /// A value is out of its range, a text is no queue's name, or there are too many queues.
@@ -26,7 +27,7 @@ pub enum ConfigFault {
     /// Two queues have one name.
     #[error("A name is given twice.")]
     NameTwice,
-    /// A dead-letter queue is not in the text, or is the queue itself. No text gets this yet.
+    /// A dead-letter queue is not in the text, or is the queue itself.
     #[error("A target does not exist.")]
     NoSuchTarget,
     /// An allocation was refused.

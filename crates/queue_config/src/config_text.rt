@@ -1,21 +1,25 @@
 //! A configuration as TOML (TOML 1.1). Which tables and keys there are, and which fault comes first,
 //! is this project's own choice.
 
-ghost use Rattle.std.specs.Prelude.{◌≡◌, ◌≤◌, [], false, Err, option_map, IfOk};
+ghost use Rattle.std.specs.Prelude.{◌≡◌, ◌≤◌, [], false, Ok, Err, option_map, IfOk};
+ghost use Rattle.std.specs.Option.{ForSome};
 ghost use Rattle.std.specs.Str.{is_utf8};
 ghost use Rattle.toml.specs.Data.{get_member, no_members};
 ghost use Rattle.toml.specs.View.{view, items_view, table_view};
 ghost use Rattle.queue_config.specs.Config.{default_configuration};
 ghost use Rattle.queue_config.specs.ConfigFault.{IsReadAs};
 ghost use Rattle.queue_config.specs.Limits.{default_limits};
+ghost use Rattle.queue_config.specs.Policy.{IsReceiveLimit};
 ghost use Rattle.queue_config.specs.SettingRows.{row_of, IsInRange};
-ghost use Rattle.queue_config.specs.ConfigText.{number_between, name_in, with_key, with_keys, limit_keys, limits_in, queue_keys, with_setting_key, no_keys, queue_of_table, queue_in, with_queues, queues_in, is_top_key, have_top_keys, has_name, have_equal_names, configuration_of_table, configuration_of, configuration_of_bytes, items_of};
+ghost use Rattle.queue_config.specs.ConfigText.{number_between, name_in, with_key, with_keys, limit_keys, limits_in, queue_keys, with_setting_key, no_keys, policy_of_keys, queue_in, with_queues, queues_in, is_top_key, have_top_keys, configuration_of_table, configuration_of, configuration_of_bytes, items_of};
 
-use crate::config::{Config, ConfiguredQueue, QUEUE_LIMIT};
+use crate::config::Config;
 use crate::config_fault::ConfigFault;
 use crate::limits::{IN_FLIGHT, Limits, MAX_LINES};
+use crate::policy::{ReceiveLimit, RequestedPolicy};
+use crate::requested_queues::{RequestedQueue, together};
 use crate::setting::{Setting, row_of, setting_with_key};
-use crate::settings::Settings;
+use crate::wish::Wish;
 use message::QueueName;
 use std::alloc::Global;
 use toml::{Table, Value};
@@ -24,7 +28,10 @@ use toml::{Table, Value};
 #[derive(Clone, Copy, Debug)]
 pub(crate) struct QueueTable {
     pub(crate) name: Option<QueueName>,
-    pub(crate) settings: Settings,
+    pub(crate) dead_letter_queue: Option<QueueName>,
+    pub(crate) max_receive_count: Option<ReceiveLimit>,
+    /// The numbers alone.
+    pub(crate) wish: Wish,
 }
 
 /// The value at a key.
@@ -121,8 +128,16 @@ fn with_setting_key(
 {
     let setting = setting.ok_or(ConfigFault::UnknownKey)?;
     let number = setting_in(value, setting)?;
-    let settings = queue.settings.with_setting_value(setting, number);
-    Ok(QueueTable { settings, ..queue })
+    let wish = queue.wish.with_setting_value(setting, number);
+    Ok(QueueTable { wish, ..queue })
+}
+
+/// The number of receives that a value is.
+fn receive_limit_in(value: &Value) -> Result<ReceiveLimit, ConfigFault>
+    ensures { result ≡ number_between 1 1000 (view value.now) }
+{
+    let count = number_between(value, 1, 1000)? as u16;
+    Ok(ReceiveLimit { count })
 }
 
 /// What a queue's table says after one more key of it.
@@ -133,6 +148,20 @@ fn with_queue_key(queue: QueueTable, key: &str, value: &Value) -> Result<QueueTa
         let name = Some(name_in(value)?);
         return Ok(QueueTable { name, ..queue });
     }
+    if key == "dead_letter_queue" {
+        let dead_letter_queue = Some(name_in(value)?);
+        return Ok(QueueTable {
+            dead_letter_queue,
+            ..queue
+        });
+    }
+    if key == "max_receive_count" {
+        let max_receive_count = Some(receive_limit_in(value)?);
+        return Ok(QueueTable {
+            max_receive_count,
+            ..queue
+        });
+    }
     with_setting_key(setting_with_key(key), queue, value)
 }
 
@@ -142,7 +171,9 @@ fn with_queue_keys(table: &Table) -> Result<QueueTable, ConfigFault>
 {
     let mut queue = QueueTable {
         name: None,
-        settings: Settings::default(),
+        dead_letter_queue: None,
+        max_receive_count: None,
+        wish: Wish::new(),
     };
     for (key, value) in table {
         queue = with_queue_key(queue, key.as_str(), value)?;
@@ -150,19 +181,38 @@ fn with_queue_keys(table: &Table) -> Result<QueueTable, ConfigFault>
     Ok(queue)
 }
 
+/// The policy of its two keys. Both have to be there, or neither.
+fn policy_of_keys(
+    dead_letter_queue: Option<QueueName>,
+    max_receive_count: Option<ReceiveLimit>,
+) -> Result<Option<RequestedPolicy>, ConfigFault>
+    ensures policy { result ≡ policy_of_keys dead_letter_queue max_receive_count }
+    ensures range { IfOk result (λ policy. ForSome policy (λ policy. IsReceiveLimit policy.max_receive_count)) }
+{
+    match (dead_letter_queue, max_receive_count) {
+        (None, None) => Ok(None),
+        (Some(name), Some(limit)) => Ok(Some(RequestedPolicy {
+            name,
+            max_receive_count: limit.count,
+        })),
+        _ => Err(ConfigFault::WrongKind),
+    }
+}
+
 /// The queue of a table. Its name has to be there.
-fn queue_in(value: &Value) -> Result<ConfiguredQueue, ConfigFault>
+fn queue_in(value: &Value) -> Result<RequestedQueue, ConfigFault>
     ensures { result ≡ queue_in (view value.now) }
 {
     let table = value.as_table().ok_or(ConfigFault::WrongKind)?;
     let queue = with_queue_keys(table)?;
     let name = queue.name.ok_or(ConfigFault::WrongKind)?;
-    let settings = queue.settings;
-    Ok(ConfiguredQueue { name, settings })
+    let policy = policy_of_keys(queue.dead_letter_queue, queue.max_receive_count)?;
+    let wish = queue.wish.with_policy(policy);
+    Ok(RequestedQueue { name, wish })
 }
 
 /// The queues of tables, one after another.
-fn with_queues(alloc: Global, tables: &[Value]) -> Result<Vec<ConfiguredQueue>, ConfigFault>
+fn with_queues(alloc: Global, tables: &[Value]) -> Result<Vec<RequestedQueue>, ConfigFault>
     ensures { IsReadAs (items_of result) (with_queues [] (items_view tables.now)) }
 {
     let mut queues = Vec::new(alloc);
@@ -173,7 +223,7 @@ fn with_queues(alloc: Global, tables: &[Value]) -> Result<Vec<ConfiguredQueue>, 
 }
 
 /// The queues, which need not be there.
-fn queues_in(alloc: Global, value: Option<&Value>) -> Result<Vec<ConfiguredQueue>, ConfigFault>
+fn queues_in(alloc: Global, value: Option<&Value>) -> Result<Vec<RequestedQueue>, ConfigFault>
     ensures read { IsReadAs (items_of result) (queues_in (option_map (λ v. view v.now) value.entry)) }
     ensures none { value.entry ≡ None → items_of result ≡ Ok [] }
 {
@@ -205,30 +255,6 @@ fn have_top_keys(table: &Table) -> bool
     true
 }
 
-/// Whether one of the queues has the name.
-fn has_name(name: &QueueName, queues: &[ConfiguredQueue]) -> bool
-    ensures { result ≡ has_name name.now queues.now }
-{
-    for queue in queues {
-        if name.as_text() == queue.name.as_text() {
-            return true;
-        }
-    }
-    false
-}
-
-/// Whether two of the queues have one name.
-fn have_equal_names(queues: &[ConfiguredQueue]) -> bool
-    ensures { result ≡ have_equal_names queues.now }
-{
-    for (place, queue) in queues.iter().enumerate() {
-        if has_name(&queue.name, &queues[place + 1..]) {
-            return true;
-        }
-    }
-    false
-}
-
 /// The configuration of the whole tree.
 fn configuration_of_table(alloc: Global, table: &Table) -> Result<Config, ConfigFault>
     ensures read { IsReadAs result (configuration_of_table (table_view table.now)) }
@@ -238,23 +264,18 @@ fn configuration_of_table(alloc: Global, table: &Table) -> Result<Config, Config
         return Err(ConfigFault::UnknownKey);
     }
     let limits = limits_in(value_at(table, "limits"))?;
-    let queues = queues_in(alloc, value_at(table, "queue"))?;
-    if QUEUE_LIMIT < queues.len() {
-        return Err(ConfigFault::OutOfRange);
-    }
-    if have_equal_names(queues.as_slice()) {
-        return Err(ConfigFault::NameTwice);
-    }
+    let requested = queues_in(alloc, value_at(table, "queue"))?;
+    let queues = together(alloc, requested.as_slice())?;
     Ok(Config { limits, queues })
 }
 
 /// Reads a configuration, or tells the first fault: a text that is no TOML; then an unknown key at
 /// the top; then `limits`, which has to be a table, and its keys; then `queue`, which has to be an
 /// array, and each of its tables in their order; then more than 1,000 queues; then two queues of one
-/// name. Of a table the keys are judged in the order of their bytes, each as unknown, of another kind,
-/// or out of range; and then what is missing. An empty text has
-/// the default limits and no queue, and takes no memory; for any other `OutOfMemory` may come at any
-/// point.
+/// name; then a dead-letter queue that is not in the text or is the queue itself. Of a table the keys
+/// are judged in the order of their bytes, each as unknown, of another kind, or out of range; and then
+/// what is missing. An empty text has the default limits and no queue, and takes no memory; for any
+/// other `OutOfMemory` may come at any point.
 pub fn config_from_text(alloc: Global, text: &str) -> Result<Config, ConfigFault>
     ensures config { IsReadAs result (configuration_of text.now) }
     ensures empty { text.now ≡ [] → result ≡ Ok default_configuration }

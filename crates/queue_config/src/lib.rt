@@ -3,10 +3,13 @@
 //! - [`Setting`] and [`row_of`]: the table of the settings, one row each with the name of its
 //!   attribute, its key in a configuration, its range and its default. What a name,
 //!   a key or a number is judged by is read from it.
-//! - [`Settings`]: the numbers of a queue, each in its range by the type.
-//! - [`Wish`]: requested attributes. [`Wish::put`] judges one name and value; [`Settings::with`]
-//!   gives the settings with what was requested, and [`Settings::agrees`] says whether they already
-//!   have all of it.
+//! - [`Settings`]: the numbers of a queue, each in its range by the type, and its [`RedrivePolicy`]:
+//!   the dead-letter queue, by uid and name, and after how many receives a message goes there.
+//!   [`Settings::without_target`] clears the policy for one dead-letter queue.
+//! - [`Wish`]: requested attributes. [`Wish::put`] judges one name and value; [`Wish::target`] is the
+//!   name of the dead-letter queue that is asked for; [`Settings::with`] gives the settings with what
+//!   was requested, and [`Settings::agrees`] says whether they already have all of it.
+//! - [`RequestedPolicy`]: the policy that a request asks for, before its queue's uid is known.
 //! - [`is_ignored`]: the attributes that are accepted without effect.
 //! - [`Limits`]: how many entries a journal has and how many messages may be in flight.
 //! - [`Config`]: what a program is started with, and [`config_from_text`] and [`config_from_bytes`]:
@@ -21,6 +24,8 @@ mod config_fault;
 mod config_text;
 mod decimal;
 mod limits;
+mod policy;
+mod requested_queues;
 mod setting;
 mod settings;
 #[cfg(test)]
@@ -32,6 +37,7 @@ pub use config_fault::ConfigFault;
 pub use config_text::{config_from_bytes, config_from_text};
 pub use decimal::decimal_number;
 pub use limits::Limits;
+pub use policy::{RedrivePolicy, RequestedPolicy};
 pub use setting::{ALL_SETTINGS, Setting, SettingRow, row_of, setting_named};
 pub use settings::Settings;
 pub use wish::{Wish, is_ignored};

@@ -1,14 +1,16 @@
 //! The settings of a queue.
 
 ghost use Rattle.std.specs.Prelude.{◌≡◌, ◌↔◌, IsTrue};
-ghost use Rattle.queue_config.specs.SettingRows.{row_of, IsInRange};
-ghost use Rattle.queue_config.specs.Settings.{default_settings, setting_value, with_setting_value, settings_with, same_settings};
+ghost use Rattle.queue_config.specs.SettingRows.{row_of};
+ghost use Rattle.queue_config.specs.Settings.{default_settings, setting_value, policy_with, policy_without, settings_with, same_settings, without_target};
 
+use crate::policy::{RedrivePolicy, RequestedPolicy};
 use crate::setting::{Setting, row_of};
 use crate::wish::Wish;
 use std::marker::Model;
 
-/// The settings of a queue. Each number is in the range of its [`Setting`] by the type.
+/// The settings of a queue. Each number is in the range of its [`Setting`] by the type, and the
+/// policy's number of receives is 1 to 1,000.
 #[derive(Clone, Copy, Debug, PartialEq, Eq)]
 pub struct Settings {
     /// How long a sent message stays delayed where the send says nothing, in seconds.
@@ -21,6 +23,8 @@ pub struct Settings {
     pub wait_seconds: u16,
     /// How large a message may be, in bytes.
     pub maximum_message_size: u32,
+    /// Where a message goes that is received too often, and when. None: it stays.
+    pub redrive_policy: Option<RedrivePolicy>,
 }
 
 impl Model for Settings {
@@ -28,11 +32,11 @@ impl Model for Settings {
 
     ghost Value = { QueueSettings };
 
-    ghost view = { λ s. record { delay_seconds = s.delay_seconds; visibility_timeout = s.visibility_timeout; retention_seconds = s.retention_seconds; wait_seconds = s.wait_seconds; maximum_message_size = s.maximum_message_size } };
+    ghost view = { λ s. record { delay_seconds = s.delay_seconds; visibility_timeout = s.visibility_timeout; retention_seconds = s.retention_seconds; wait_seconds = s.wait_seconds; maximum_message_size = s.maximum_message_size; redrive_policy = s.redrive_policy } };
 
-    ghost invariant = { λ s. AreSettings (record { delay_seconds = s.delay_seconds; visibility_timeout = s.visibility_timeout; retention_seconds = s.retention_seconds; wait_seconds = s.wait_seconds; maximum_message_size = s.maximum_message_size }) };
+    ghost invariant = { λ s. AreSettings (record { delay_seconds = s.delay_seconds; visibility_timeout = s.visibility_timeout; retention_seconds = s.retention_seconds; wait_seconds = s.wait_seconds; maximum_message_size = s.maximum_message_size; redrive_policy = s.redrive_policy }) };
 
-    ghost inverse = { λ v. record { delay_seconds = v.delay_seconds; visibility_timeout = v.visibility_timeout; retention_seconds = v.retention_seconds; wait_seconds = v.wait_seconds; maximum_message_size = v.maximum_message_size } };
+    ghost inverse = { λ v. record { delay_seconds = v.delay_seconds; visibility_timeout = v.visibility_timeout; retention_seconds = v.retention_seconds; wait_seconds = v.wait_seconds; maximum_message_size = v.maximum_message_size; redrive_policy = v.redrive_policy } };
 }
 
 /// What a setting is where nothing is said.
@@ -54,8 +58,44 @@ impl Default for Settings {
             retention_seconds: default_of(Setting::MessageRetentionPeriod),
             wait_seconds: default_of(Setting::ReceiveMessageWaitTimeSeconds) as u16,
             maximum_message_size: default_of(Setting::MaximumMessageSize),
+            redrive_policy: None,
         }
     }
+}
+
+/// The policy with what is requested in its place. `target` is the uid that the requested name
+/// stands for.
+fn policy_with(
+    policy: Option<RedrivePolicy>,
+    asked: Option<Option<RequestedPolicy>>,
+    target: u64,
+) -> Option<RedrivePolicy>
+    ensures { result ≡ policy_with policy asked target }
+{
+    match asked {
+        None => policy,
+        Some(None) => None,
+        Some(Some(asked)) => Some(RedrivePolicy {
+            target,
+            name: asked.name,
+            max_receive_count: asked.max_receive_count,
+        }),
+    }
+}
+
+/// The policy, or none where its dead-letter queue is `target`.
+fn policy_without(policy: Option<RedrivePolicy>, target: u64) -> Option<RedrivePolicy>
+    ensures { result ≡ policy_without policy target }
+{
+    policy.filter(|policy| policy.target != target)
+}
+
+/// Whether two settings are the same.
+fn same_settings(settings: Settings, other: Settings) -> bool
+    ensures same { result ≡ same_settings settings other }
+    ensures equal { IsTrue result ↔ (settings ≡ other) }
+{
+    settings == other
 }
 
 impl Settings {
@@ -72,27 +112,10 @@ impl Settings {
         }
     }
 
-    /// These settings with another number for one of them.
-    pub(crate) fn with_setting_value(self, setting: Setting, number: u32) -> Settings
-        requires { IsInRange setting number }
-        ensures { result ≡ with_setting_value setting number self }
-    {
-        let mut settings = self;
-        match setting {
-            Setting::DelaySeconds => settings.delay_seconds = number as u16,
-            Setting::VisibilityTimeout => settings.visibility_timeout = number,
-            Setting::MessageRetentionPeriod => settings.retention_seconds = number,
-            Setting::ReceiveMessageWaitTimeSeconds => settings.wait_seconds = number as u16,
-            Setting::MaximumMessageSize => settings.maximum_message_size = number,
-        }
-        settings
-    }
-
-    /// These settings with what is requested in its place. `target` is the uid that a requested
-    /// dead-letter queue's name stands for, 0 where none is named; no dead-letter queue can be
-    /// requested yet, so it does not count.
-    pub fn with(self, wish: &Wish, _target: u64) -> Settings
-        ensures { result ≡ settings_with self wish.now }
+    /// These settings with what is requested in its place. `target` is the uid that the requested
+    /// dead-letter queue's name stands for; it does not count where none is named.
+    pub fn with(self, wish: &Wish, target: u64) -> Settings
+        ensures { result ≡ settings_with self wish.now target }
     {
         Settings {
             delay_seconds: wish.delay_seconds.unwrap_or(self.delay_seconds),
@@ -102,15 +125,26 @@ impl Settings {
             maximum_message_size: wish
                 .maximum_message_size
                 .unwrap_or(self.maximum_message_size),
+            redrive_policy: policy_with(self.redrive_policy, wish.redrive_policy, target),
         }
     }
 
     /// Whether the settings already have what is requested, so that [`with`](Settings::with)
     /// changes nothing.
     pub fn agrees(self, wish: &Wish, target: u64) -> bool
-        ensures same { result ≡ same_settings (settings_with self wish.now) self }
-        ensures unchanged { IsTrue result ↔ (settings_with self wish.now ≡ self) }
+        ensures same { result ≡ same_settings (settings_with self wish.now target) self }
+        ensures unchanged { IsTrue result ↔ (settings_with self wish.now target ≡ self) }
     {
-        self.with(wish, target) == self
+        same_settings(self.with(wish, target), self)
+    }
+
+    /// These settings, with no policy where its dead-letter queue is `target`.
+    pub fn without_target(self, target: u64) -> Settings
+        ensures { result ≡ without_target self target }
+    {
+        Settings {
+            redrive_policy: policy_without(self.redrive_policy, target),
+            ..self
+        }
     }
 }

@@ -1,5 +1,5 @@
 //! Values at the borders of each range, as the Amazon SQS API Reference has it for
-//! `SetQueueAttributes`, and the forms of texts that docs/PROFILE.md lists; configurations.
+//! `SetQueueAttributes`, and the forms of texts that docs/PROFILE.md lists; policies; configurations.
 
 use super::*;
 use message::Fault;
@@ -10,6 +10,7 @@ use std::test::Fail;
 mod attributes;
 mod configurations;
 mod numbers;
+mod policies;
 
 /// What a text is asked for.
 #[derive(Clone, Copy)]
@@ -18,13 +19,27 @@ enum Asked {
     Attributes,
     /// The same of a request that asks for all numbers.
     MoreAttributes,
+    /// The same of a request that asks for a policy.
+    Policies,
     /// A configuration.
     Configuration,
     /// A line that is a number of 1 to 19 digits.
     Number,
 }
 
-/// The settings that are others than before, each with its key.
+/// A policy: the dead-letter queue's name and uid, and the number of receives.
+fn told_policy(alloc: Global, policy: Option<RedrivePolicy>) -> Result<String, Fail> {
+    match policy {
+        Some(policy) => {
+            let (name, target) = (policy.name, policy.target);
+            let count = policy.max_receive_count;
+            Ok(format!(in alloc; " {}#{target} after {count}", name.as_text())?)
+        }
+        None => Ok(String::from_str(alloc, " no policy")?),
+    }
+}
+
+/// The settings that are others than before: each number with its key, and the policy.
 fn told_changes(alloc: Global, before: Settings, settings: Settings) -> Result<String, Fail> {
     let mut told = String::new(alloc);
     for setting in ALL_SETTINGS {
@@ -34,6 +49,9 @@ fn told_changes(alloc: Global, before: Settings, settings: Settings) -> Result<S
             told.push_str(format!(in alloc; " {key}={number}")?.as_str())?;
         }
     }
+    if settings.redrive_policy != before.redrive_policy {
+        told.push_str(told_policy(alloc, settings.redrive_policy)?.as_str())?;
+    }
     Ok(told)
 }
 
@@ -42,6 +60,7 @@ fn told(alloc: Global, asked: Asked, text: &str) -> Result<String, Fail> {
     match asked {
         Asked::Attributes => attributes::told(alloc, "", text),
         Asked::MoreAttributes => attributes::told(alloc, attributes::ALL_NUMBERS, text),
+        Asked::Policies => attributes::told(alloc, policies::OLD_AFTER_9, text),
         Asked::Configuration => configurations::told(alloc, text),
         Asked::Number => numbers::told(alloc, text),
     }
@@ -67,18 +86,42 @@ fn run(rt: &impl Abort, alloc: Global, asked: Asked, transcript: &str) -> Result
     Ok(())
 }
 
-/// A reading whose allocation is refused is `OutOfMemory`, and gives its value when it is made again.
-/// The gate runs this with ample memory; `rt try --test --fail-alloc N -- refused_memory` refuses the
-/// Nth allocation.
+/// A limit, and a dead-letter queue that comes later.
+const CONFIGURATION: &str = r#"[limits]
+in_flight = 2
+[[queue]]
+name = "a"
+dead_letter_queue = "b"
+max_receive_count = 3
+[[queue]]
+name = "b"
+"#;
+
+/// A call whose allocation is refused is `OutOfMemory`, changes nothing, and gives its value when it
+/// is made again. The gate runs this with ample memory; `rt try --test --fail-alloc N --
+/// refused_memory` refuses the Nth allocation.
 #[test]
 fn refused_memory(rt: HostRuntime) -> Result<(), Fail> {
     let alloc = rt.alloc();
-    let text = "[limits]\nin_flight = 2\n[[queue]]\nname = \"a\"\n[[queue]]\nname = \"b\"\n";
-    let config = match config_from_text(alloc, text) {
-        Err(ConfigFault::OutOfMemory) => config_from_text(alloc, text)?,
+    let config = match config_from_text(alloc, CONFIGURATION) {
+        Err(ConfigFault::OutOfMemory) => config_from_text(alloc, CONFIGURATION)?,
         read => read?,
     };
     assert_eq!(rt; config.limits.in_flight, 2);
     assert_eq!(rt; config.queues.len(), 2);
+    let settings = config.queues.first().ok_or("a queue")?.settings;
+    assert_eq!(rt; settings.redrive_policy.ok_or("a policy")?.target, 2);
+
+    let mut wish = Wish::new();
+    let (name, value) = policies::DEAD_AFTER_3
+        .split_once('=')
+        .ok_or("a name and a value")?;
+    if let Err(fault) = wish.put(alloc, name, value) {
+        assert_eq!(rt; fault, Fault::OutOfMemory);
+        assert!(rt; wish.target() == None);
+        wish.put(alloc, name, value)?;
+    }
+    let target = wish.target().ok_or("a policy")?.ok_or("a name")?;
+    assert_eq!(rt; target.as_text(), "dead");
     Ok(())
 }

@@ -1,12 +1,16 @@
 //! The attributes that a request asks for.
 
-ghost use Rattle.std.specs.Prelude.{◌≡◌, IfOk, IfErr, OnErr};
+ghost use Rattle.std.specs.Prelude.{◌≡◌, ◌<◌, codes, length, IfOk, IfErr, OnErr, IsErrOf};
+ghost use Rattle.std.specs.Option.{ForSome};
+ghost use Rattle.message.specs.Fault.{Meets};
+ghost use Rattle.queue_config.specs.Policy.{IsReceiveLimit};
 ghost use Rattle.queue_config.specs.SettingRows.{IsInRange};
-ghost use Rattle.queue_config.specs.Settings.{no_requested_attributes, request_attribute, requested_number, with_setting_value, is_ignored_attribute};
+ghost use Rattle.queue_config.specs.Settings.{no_requested_attributes, requested_target, request_attribute, requested_number, with_setting_value, with_policy, is_ignored_attribute, put_answer};
 
 use crate::decimal::decimal_number;
+use crate::policy::{RequestedPolicy, requested_policy};
 use crate::setting::{Setting, row_of, setting_named};
-use message::Fault;
+use message::{Fault, QueueName};
 use std::alloc::Global;
 use std::marker::Model;
 
@@ -19,6 +23,8 @@ pub struct Wish {
     pub(crate) retention_seconds: Option<u32>,
     pub(crate) wait_seconds: Option<u16>,
     pub(crate) maximum_message_size: Option<u32>,
+    /// `Some(None)` clears the policy.
+    pub(crate) redrive_policy: Option<Option<RequestedPolicy>>,
 }
 
 impl Model for Wish {
@@ -26,11 +32,11 @@ impl Model for Wish {
 
     ghost Value = { RequestedAttributes };
 
-    ghost view = { λ w. record { delay_seconds = w.delay_seconds; visibility_timeout = w.visibility_timeout; retention_seconds = w.retention_seconds; wait_seconds = w.wait_seconds; maximum_message_size = w.maximum_message_size } };
+    ghost view = { λ w. record { delay_seconds = w.delay_seconds; visibility_timeout = w.visibility_timeout; retention_seconds = w.retention_seconds; wait_seconds = w.wait_seconds; maximum_message_size = w.maximum_message_size; redrive_policy = w.redrive_policy } };
 
-    ghost invariant = { λ w. AreRequested (record { delay_seconds = w.delay_seconds; visibility_timeout = w.visibility_timeout; retention_seconds = w.retention_seconds; wait_seconds = w.wait_seconds; maximum_message_size = w.maximum_message_size }) };
+    ghost invariant = { λ w. AreRequested (record { delay_seconds = w.delay_seconds; visibility_timeout = w.visibility_timeout; retention_seconds = w.retention_seconds; wait_seconds = w.wait_seconds; maximum_message_size = w.maximum_message_size; redrive_policy = w.redrive_policy }) };
 
-    ghost inverse = { λ v. record { delay_seconds = v.delay_seconds; visibility_timeout = v.visibility_timeout; retention_seconds = v.retention_seconds; wait_seconds = v.wait_seconds; maximum_message_size = v.maximum_message_size } };
+    ghost inverse = { λ v. record { delay_seconds = v.delay_seconds; visibility_timeout = v.visibility_timeout; retention_seconds = v.retention_seconds; wait_seconds = v.wait_seconds; maximum_message_size = v.maximum_message_size; redrive_policy = v.redrive_policy } };
 }
 
 /// The number of a setting that an attribute's value is, or `InvalidAttributeValue` where it is none
@@ -38,6 +44,7 @@ impl Model for Wish {
 fn requested_number(setting: Setting, value: &str) -> Result<u32, Fault>
     ensures value { result ≡ requested_number setting value.now }
     ensures range { IfOk result (λ n. IsInRange setting n) }
+    ensures fault { IfErr result (λ fault. fault ≡ Fault.InvalidAttributeValue) }
 {
     let row = row_of(setting);
     match decimal_number(value, 9) {
@@ -71,11 +78,24 @@ impl Wish {
             retention_seconds: None,
             wait_seconds: None,
             maximum_message_size: None,
+            redrive_policy: None,
+        }
+    }
+
+    /// The name of the dead-letter queue that is asked for: `None` where no policy is asked for,
+    /// and `Some(None)` where the policy is cleared.
+    pub fn target(&self) -> Option<Option<QueueName>>
+        ensures { result ≡ requested_target self.now }
+    {
+        match self.redrive_policy {
+            None => None,
+            Some(None) => Some(None),
+            Some(Some(policy)) => Some(Some(policy.name)),
         }
     }
 
     /// The request with another number for a setting.
-    fn with_setting_value(self, setting: Setting, number: u32) -> Wish
+    pub(crate) fn with_setting_value(self, setting: Setting, number: u32) -> Wish
         requires { IsInRange setting number }
         ensures { result ≡ with_setting_value setting (Some number) self }
     {
@@ -90,20 +110,35 @@ impl Wish {
         wish
     }
 
+    /// The request with this policy, or with the clearing of the policy.
+    pub(crate) fn with_policy(self, policy: Option<RequestedPolicy>) -> Wish
+        requires { ForSome policy (λ policy. IsReceiveLimit policy.max_receive_count) }
+        ensures { result ≡ with_policy policy self }
+    {
+        Wish {
+            redrive_policy: Some(policy),
+            ..self
+        }
+    }
+
     /// Requests one more attribute; a name that was requested before gets the new value. A name
     /// that no queue has is `InvalidAttributeName`, a value out of range or of another form
-    /// `InvalidAttributeValue`; the request is then as it was. The values of `Policy`,
-    /// `KmsMasterKeyId`, `KmsDataKeyReusePeriodSeconds`, `SqsManagedSseEnabled` and
-    /// `RedriveAllowPolicy` are ignored.
-    pub fn put(&mut self, _alloc: Global, name: &str, value: &str) -> Result<(), Fault>
-        ensures ok { IfOk result (λ _. request_attribute self.old name.now value.now ≡ Ok self.new) }
-        ensures err { IfErr result (λ fault. request_attribute self.old name.now value.now ≡ Err fault) }
+    /// `InvalidAttributeValue`; after a refusal the request is as it was. `RedrivePolicy` asks for a
+    /// policy, or clears it with the empty text; no other name, and no clearing, takes memory. The
+    /// values of `Policy`, `KmsMasterKeyId`, `KmsDataKeyReusePeriodSeconds`, `SqsManagedSseEnabled`
+    /// and `RedriveAllowPolicy` are ignored.
+    pub fn put(&mut self, alloc: Global, name: &str, value: &str) -> Result<(), Fault>
+        ensures answer { Meets (put_answer result self.new) (request_attribute self.old name.now value.now) }
         ensures unchanged { OnErr result (self.new ≡ self.old) }
+        ensures memory { IsErrOf result Fault.OutOfMemory → (name.now ≡ codes "RedrivePolicy") × (0 < length value.now) }
     {
         match setting_named(name) {
             Some(setting) => {
                 let number = requested_number(setting, value)?;
                 *self = self.with_setting_value(setting, number);
+            }
+            None if name == "RedrivePolicy" => {
+                *self = self.with_policy(requested_policy(alloc, value)?);
             }
             None if is_ignored(name) => {}
             None => return Err(Fault::InvalidAttributeName),

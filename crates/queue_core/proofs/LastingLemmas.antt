@@ -1,11 +1,11 @@
 -- What lasts, whatever commands follow: what is removed, what has expired, and the content of a number.
-use Rattle.std.proofs.Common.{◌≡◌, ℕ, zero, suc, ◌+◌, ◌-◌, ◌*◌, ◌≤◌, ◌<◌, max, Bool, true, false, cond, ◌&&◌, ◌||◌, ltb, leb, eqb, List, [], ◌∷◌, ◌++◌, map, length, take, drop, Option, Some, None, Result, Ok, Err, refl, sym, ap, inl, inr, ◌∙◌, arith}
-use Rattle.std.specs.Prelude.{⊤, ◌⊎◌, min, nat_lt, nat_le, unwrap_or, slice_get, option_and_then}
+use Rattle.std.proofs.Common.{◌≡◌, ℕ, zero, suc, ◌+◌, ◌*◌, ◌≤◌, ◌<◌, max, Bool, true, false, not, cond, ◌&&◌, ◌||◌, ltb, leb, eqb, List, [], ◌∷◌, ◌++◌, length, drop, Option, Some, None, Result, Ok, refl, sym, ap, inl, inr, ◌∙◌, arith}
+use Rattle.std.specs.Prelude.{⊤, nat_lt, nat_le, unwrap_or, slice_get, option_and_then}
 use Rattle.std.specs.Option.{option_map_or}
-use Rattle.std.specs.List.{list_any, All, AllByRecursion, Contains}
+use Rattle.std.specs.List.{list_any, All, Contains}
 use Rattle.std.proofs.lemmas.List.{drop-append-le, drop_all}
-use Rattle.std.proofs.lemmas.List.Elements.{All-from_recursion, All-contains, All-weaker, All-take}
-use Rattle.std.proofs.lemmas.Bool.{ltb-true, leb-true, eq-eqb, false≢true, and_parts}
+use Rattle.std.proofs.lemmas.List.Elements.{All-from_recursion, All-contains, All-weaker}
+use Rattle.std.proofs.lemmas.Bool.{ltb-true, leb-true, eq-eqb, false≢true}
 use Rattle.std.proofs.lemmas.Bool.Decides.{nat_tests}
 use Rattle.message.specs.declared.fault.Fault.{Fault}
 use Rattle.message.specs.declared.fault.Fault.TheVariants.{InvalidParameterValue, ReceiptHandleIsInvalid, OverLimit}
@@ -14,12 +14,12 @@ use Rattle.message.specs.Content.{ContentText, content_size}
 use Rattle.queue_config.specs.Settings.{QueueSettings, default_settings, settings_with}
 use Rattle.journal.specs.declared.entry.Entry.{Entry}
 use Rattle.journal.specs.declared.entry.Event.{Event}
-use Rattle.journal.specs.declared.entry.Event.TheVariants.{Opened, Sent, Received, Changed, Deleted, DeletedAgain, Purged, Set, Refused, Closed}
+use Rattle.journal.specs.declared.entry.Event.TheVariants.{Opened, Sent, Changed, Deleted, DeletedAgain, Purged, Set, Closed}
 use Rattle.queue_core.specs.declared.facts.Message.{Message}
 use Rattle.queue_core.specs.declared.facts.Candidate.{Candidate}
 use Rattle.queue_core.specs.declared.facts.Course.{Course}
 use Rattle.queue_core.specs.declared.facts.Status.{Status}
-use Rattle.queue_core.specs.declared.facts.Status.TheVariants.{Present, Removed}
+use Rattle.queue_core.specs.declared.facts.Status.TheVariants.{Present, Removed, Waiting, Transferred}
 use Rattle.queue_core.specs.declared.facts.MessageState.TheVariants.{Visible, Delayed, InFlight}
 use Rattle.queue_core.specs.declared.command.Command.{Command}
 use Rattle.queue_core.specs.declared.command.Command.TheVariants as commands
@@ -27,15 +27,15 @@ use Rattle.queue_core.specs.declared.command.Step.{Step}
 use Rattle.queue_core.specs.declared.reply.Reply.{Reply}
 use Rattle.queue_core.specs.declared.reply.Reply.TheVariants as replies
 use Rattle.queue_core.specs.declared.reply.Posted.{Posted}
-use Rattle.queue_core.specs.Messages.{contains_number, message_of, messages_from, messages, message_count, message_id, content_in, content_of, settings_after, settings_of, opens, RetentionPeriod, closes_period, periods_from, runs_out_in, is_expired, status_after, course_after, course_from, course_of, is_removed_status, is_removed, receive_count, due_time, is_closed}
-use Rattle.queue_core.specs.States.{is_live, is_in_state, same_state, receive_order, message_numbered}
-use Rattle.queue_core.specs.Queue.{QueueHistory, Outcome, at_moment, refusal, unless_refused, first_refusal, refused_or, done, send_outcome, receive_outcome, change_outcome, delete_outcome, close_outcome, change_refusal, is_valid_handle, holds_live, in_flight_count, offered_candidates, numbers_of, outcome_of, outcome_at, with_event, with_optional_event, after_answer, look_of, IsExact}
-use Rattle.queue_core.specs.Run.{EachAnswered, AreExact, after_all}
+use Rattle.queue_core.specs.Messages.{contains_number, message_of, messages_from, messages, message_count, own_id, content_in, content_of, settings_after, settings_of, opens, RetentionPeriod, closes_period, periods_from, runs_out_in, is_expired, status_after, course_after, course_from, course_of, is_removed_status, is_removed, receive_count, due_time, is_returned, returns, is_closed, has_accepted}
+use Rattle.queue_core.specs.States.{is_live, same_state, message_numbered}
+use Rattle.queue_core.specs.Queue.{QueueHistory, Outcome, at_moment, refusal, unless_refused, first_refusal, refused_or, done, send_outcome, receive_outcome, change_outcome, delete_outcome, change_refusal, is_valid_handle, holds_live, arrive_outcome, is_pending, settle_outcome, orphan_outcome, in_flight_count, offered_candidates, received_event, numbers_of, outcome_of, leaves_clock, reached, outcome_at, with_event, with_optional_event, after_answer, look_of}
+use Rattle.queue_core.specs.Run.{AreExact, after_all}
 use Rattle.queue_core.specs.Turns.{IsVisibleCandidate}
 use Rattle.queue_core.specs.Lasting.{content_numbered}
 use Rattle.queue_core.proofs.Scans.{by_closing}
 use Rattle.queue_core.proofs.MarkLemmas.{in_state}
-use Rattle.queue_core.proofs.OfferLemmas.{Among, Among-from_at, order_visible}
+use Rattle.queue_core.proofs.OfferLemmas.{Among, Among-from_at, offered_visible}
 use Rattle.queue_core.proofs.RefusalLemmas.{places-messages_from}
 
 -- ---- what is removed
@@ -43,6 +43,8 @@ use Rattle.queue_core.proofs.RefusalLemmas.{places-messages_from}
 removed_after : (number : ℕ) (status : Status) (event : Event ContentText) → status ≡ Removed → status_after number status event ≡ Removed
 removed_after number Present event h = absurd cc
 removed_after number Removed event h = refl
+removed_after number (Waiting target) event h = absurd cc
+removed_after number Transferred event h = absurd cc
 
 removed_from : (number : ℕ) (c : Course) (es : List (Entry ContentText)) → c.status ≡ Removed → (course_from number c es).status ≡ Removed
 removed_from number c [] h = h
@@ -55,10 +57,12 @@ course_from-append number c (x ∷ xs) ys = course_from-append number (course_af
 removed-status : (s : Status) → is_removed_status s ≡ true → s ≡ Removed
 removed-status Present h = absurd cc
 removed-status Removed h = refl
+removed-status (Waiting target) h = absurd cc
+removed-status Transferred h = absurd cc
 
 module _ (lines more : List (Entry ContentText)) (m : Message) where
   abbrev first : Course
-  first = record { status = Present; due = m.first_due_time }
+  first = record { status = Present; due = m.first_due_time; returned = false }
 
   course_of-append : m.place ≤ length lines → course_of (lines ++ more) m ≡ course_from m.number (course_of lines m) more
   course_of-append h = ap (course_from m.number first) (drop-append-le m.place lines more h) ∙ course_from-append m.number first (drop m.place lines) more
@@ -82,10 +86,10 @@ or_later : (a b c : Bool) → (b ≡ true → c ≡ true) → (a || b) ≡ true 
 or_later true b c f h = refl
 or_later false b c f h = f h
 
-settings-kept : (s : QueueSettings) (event : Event ContentText) → opens event ≡ false → closes_period event ≡ false → settings_after s event ≡ s
-settings-kept s (Opened uid settings) h k = absurd cc
-settings-kept s (Set settings) h k = absurd cc
-settings-kept s event h k = refl
+retention-kept : (s : QueueSettings) (event : Event ContentText) → opens event ≡ false → closes_period event ≡ false → (settings_after s event).retention_seconds ≡ s.retention_seconds
+retention-kept s (Opened uid settings) h k = absurd cc
+retention-kept s (Set settings) h k = absurd cc
+retention-kept s event h k = refl
 
 or_false : (b : Bool) → (b || false) ≡ true → b ≡ true
 or_false true h = refl
@@ -114,7 +118,7 @@ module _ (m : Message) (clock : ℕ) where
       → ((closes_period event && runs_out_in m (period place s)) || (runs_out_in m (period (suc place) (settings_after s event)) || false)) ≡ true
   runs-last true place s event h o k = rw (h, k) refl
   runs-last false place s event h o k =
-      rw (h, settings-kept s event o h) (false_or (runs_out_in m (period (suc place) s)) (runs-later_place place s.retention_seconds k))
+      rw (h, retention-kept s event o h) (false_or (runs_out_in m (period (suc place) s)) (runs-later_place place s.retention_seconds k))
 
   runs-push : (place : ℕ) (s : QueueSettings) (lines : List (Entry ContentText)) (event : Event ContentText) → opens event ≡ false
       → list_any (λ p. runs_out_in m p) (periods_from place s clock lines) ≡ true
@@ -184,7 +188,12 @@ unopened q (commands.Delete handle) =
     unopened-unless_refused (first_refusal q) (delete_outcome q handle)
     (unopened-cond (is_valid_handle q handle) (done (cond (holds_live q handle) (Deleted handle.number) DeletedAgain)) (refusal ReceiptHandleIsInvalid) (unopened-deletion (holds_live q handle) handle.number) tt)
 unopened q commands.Purge = unopened-unless_refused (first_refusal q) (done Purged) tt
-unopened q (commands.Set wish target) = unopened-unless_refused (first_refusal q) (done (Set (settings_with (settings_of q.lines) wish))) tt
+unopened q (commands.Set wish target) = unopened-unless_refused (first_refusal q) (done (Set (settings_with (settings_of q.lines) wish target))) tt
+unopened q (commands.Arrive parcel) =
+    unopened-unless_refused (first_refusal q) (arrive_outcome q parcel) (unopened-cond (has_accepted q.lines parcel.origin.uid parcel.origin.number) _ _ tt tt)
+unopened q (commands.Settle number) = unopened-unless_refused (first_refusal q) (settle_outcome q number) (unopened-cond (is_pending q number) _ _ tt tt)
+unopened q (commands.Orphan target) = unopened-unless_refused (first_refusal q) (orphan_outcome q target) tt
+unopened q commands.FirstParcel = tt
 unopened q commands.Close = unopened-cond (is_closed q.lines) _ (done Closed) tt tt
 unopened q commands.Look = tt
 
@@ -205,8 +214,9 @@ module _ (P : QueueHistory → Type 0) (lasts : Lasts P) where
 
   lasts_answer : (q : QueueHistory) (at : ℕ) (command : Command) (answer : Result Reply Fault) → P q → P (after_answer q at command answer)
   lasts_answer q at command answer p =
-      lasts_cond (is_out_of_memory answer) (at_moment q at) (with_optional_event (at_moment q at) (outcome_at q at command).event) (lasts.later q at p)
-      (lasts_optional (at_moment q at) (outcome_at q at command).event (unopened (at_moment q at) command) (lasts.later q at p))
+      let there : P (reached q at command) = lasts_cond (leaves_clock command) q (at_moment q at) p (lasts.later q at p) in
+      lasts_cond (is_out_of_memory answer) (reached q at command) (with_optional_event (reached q at command) (outcome_at q at command).event) there
+      (lasts_optional (reached q at command) (outcome_at q at command).event (unopened (reached q at command) command) there)
 
   lasts_all : (q : QueueHistory) (steps : List Step) (answers : List (Result Reply Fault)) → P q → P (after_all q steps answers)
   lasts_all q [] answers p = p
@@ -287,7 +297,7 @@ last-more end place (Some x) ms ns rest others e h k = record { message = h.mess
 sent-last : (at delay : ℕ) (content : ContentText) (place number : ℕ) (es : List (Entry ContentText))
     → IsLast (place + length es) (messages_from place number (es ++ record { at = at; event = Sent delay content } ∷ [])) (length (messages_from place number es))
 sent-last at delay content place number [] =
-    record { message = record { number = number; place = place; enqueue_time = at; first_send_time = at; first_due_time = at + 1000 * delay }; is = refl; placed = omega arith }
+    record { message = record { number = number; place = place; enqueue_time = at; first_send_time = at; first_due_time = at + 1000 * delay; origin = None }; is = refl; placed = omega arith }
 sent-last at delay content place number (e ∷ es) =
     last-more (place + suc (length es)) (suc place + length es) (message_of place number e.at e.event) (messages_from (suc place) (suc number) es) (messages_from (suc place) (suc number) (es ++ record { at = at; event = Sent delay content } ∷ []))
     (messages_from (suc place) number es) (messages_from (suc place) number (es ++ record { at = at; event = Sent delay content } ∷ [])) (omega arith)
@@ -304,7 +314,7 @@ content-sent lines at delay content =
 
 module _ (q : QueueHistory) (content : ContentText) (delay : ℕ) (posted : Posted) where
   abbrev sending : Outcome
-  sending = record { event = Some (Sent delay content); reply = Ok (replies.Sent (record { number = message_count q.lines; id = message_id q.uid (message_count q.lines) })) }
+  sending = record { event = Some (Sent delay content); reply = Ok (replies.Sent (record { number = message_count q.lines; id = own_id q.uid (message_count q.lines) })) }
 
   content-posted : (r : Option Fault) (b : Bool) → (unless_refused r (cond b (refusal InvalidParameterValue) sending)).reply ≡ Ok (replies.Sent posted)
       → content_numbered (with_optional_event q (unless_refused r (cond b (refusal InvalidParameterValue) sending)).event).lines posted.number ≡ Some content
@@ -339,16 +349,16 @@ shown true false true h = absurd cc
 shown true false false h = absurd cc
 shown false false never h = absurd cc
 
-visible-due : (clock : ℕ) (live : Bool) (due count : ℕ) → in_state Visible clock live due count ≡ true → due ≤ clock
-visible-due clock live due count h = leb-true due clock (shown live (leb due clock) (eqb count 0) h)
+visible-due : (clock : ℕ) (live : Bool) (due count : ℕ) (returned : Bool) → in_state Visible clock live due count returned ≡ true → due ≤ clock
+visible-due clock live due count returned h = leb-true due clock (shown live (leb due clock) (eqb count 0 && not returned) h)
 
 candidate-due : (q : QueueHistory) (c : Candidate) → IsVisibleCandidate q.lines q.clock c → due_time q.lines c.message ≤ q.clock
-candidate-due q c h = visible-due q.clock (is_live q.lines q.clock c.message) (due_time q.lines c.message) (receive_count q.lines c.message.number) h.visible
+candidate-due q c h =
+    visible-due q.clock (is_live q.lines q.clock c.message) (due_time q.lines c.message) (receive_count q.lines c.message.number) (is_returned q.lines c.message) h.visible
 
 pub offered_due : (q : QueueHistory) (maximum : ℕ) → All (λ c. due_time q.lines c.message ≤ q.clock) (offered_candidates q maximum)
 offered_due q maximum =
-    All-take (λ c. due_time q.lines c.message ≤ q.clock) (min maximum (q.limits.in_flight - in_flight_count q)) (receive_order q.lines q.clock)
-    (All-weaker (λ c. IsVisibleCandidate q.lines q.clock c) (λ c. due_time q.lines c.message ≤ q.clock) (candidate-due q) (receive_order q.lines q.clock) (order_visible q.lines q.clock))
+    All-weaker (λ c. IsVisibleCandidate q.lines q.clock c) (λ c. due_time q.lines c.message ≤ q.clock) (candidate-due q) (offered_candidates q maximum) (offered_visible q maximum)
 
 contains-number : (c : Candidate) (cs : List Candidate) → Among c cs → contains_number c.message.number (numbers_of cs) ≡ true
 contains-number c [] h = absurd h
@@ -360,13 +370,17 @@ candidate-placed q c h =
     All-contains (λ m. m.place < length q.lines) (messages q.lines) c.message
     (All-from_recursion (λ m. m.place < length q.lines) (messages q.lines) (places-messages_from (length q.lines) 0 0 q.lines (omega arith))) h.message
 
+returns-received : (status : Status) (q : QueueHistory) (maximum timeout : ℕ) → returns status (received_event q maximum (Some timeout)) ≡ false
+returns-received Present q maximum timeout = refl
+returns-received Removed q maximum timeout = refl
+returns-received (Waiting target) q maximum timeout = refl
+returns-received Transferred q maximum timeout = refl
+
 pub offered_again : (q : QueueHistory) (maximum timeout : ℕ) (c : Candidate) → Contains (offered_candidates q maximum) c
-    → due_time (with_event q (Received timeout (numbers_of (offered_candidates q maximum)) [] 0)).lines c.message ≡ q.clock + 1000 * timeout
+    → due_time (with_event q (received_event q maximum (Some timeout))).lines c.message ≡ q.clock + 1000 * timeout
 offered_again q maximum timeout c h =
-    let visible : IsVisibleCandidate q.lines q.clock c =
-    All-contains (λ x. IsVisibleCandidate q.lines q.clock x) (offered_candidates q maximum) c
-    (All-take (λ x. IsVisibleCandidate q.lines q.clock x) (min maximum (q.limits.in_flight - in_flight_count q)) (receive_order q.lines q.clock) (order_visible q.lines q.clock)) h in
+    let visible : IsVisibleCandidate q.lines q.clock c = All-contains (λ x. IsVisibleCandidate q.lines q.clock x) (offered_candidates q maximum) c (offered_visible q maximum) h in
     let within = candidate-placed q c visible in
     let contained : contains_number c.message.number (numbers_of (offered_candidates q maximum)) ≡ true = contains-number c (offered_candidates q maximum) (Among-from_at c (offered_candidates q maximum) h.0 h.1 h.2) in
-    ap (λ (x : Course). x.due) (course_of-append q.lines (record { at = q.clock; event = Received timeout (numbers_of (offered_candidates q maximum)) [] 0 } ∷ []) c.message (omega arith))
-    ∙ rw contained refl
+    ap (λ (x : Course). x.due) (course_of-append q.lines (record { at = q.clock; event = received_event q maximum (Some timeout) } ∷ []) c.message (omega arith))
+    ∙ rw (returns-received (course_of q.lines c.message).status q maximum timeout, contained) refl

@@ -1,25 +1,28 @@
 -- A legal journal stays legal as the clock moves on and as an entry that a command adds is added.
-use Rattle.std.proofs.Common.{◌≡◌, ℕ, ◌≤◌, ◌<◌, max, Bool, true, false, cond, List, [], ◌∷◌, ◌++◌, length, Option, Some, None, Result, Ok, Err, refl, sym, ap, ◌∙◌, subst, append_assoc, arith}
-use Rattle.std.specs.Prelude.{OnOk, OnErr, nat_lt, nat_le, unwrap_or}
+use Rattle.std.proofs.Common.{◌≡◌, ℕ, ◌≤◌, ◌<◌, max, Bool, true, false, cond, List, [], ◌∷◌, ◌++◌, length, Option, Some, None, Result, Ok, Err, refl, sym, ap, ◌∙◌, subst, append_assoc, inl, inr, arith}
+use Rattle.std.specs.Prelude.{OnOk, OnErr, IfErr, IsErrOf, ◌⊎◌, nat_lt, nat_le, unwrap_or}
 use Rattle.std.proofs.lemmas.List.{append-nil, length-append}
 use Rattle.std.proofs.lemmas.Bool.{false≢true, or_parts}
 use Rattle.std.proofs.lemmas.Bool.Decides.{nat_tests}
 use Rattle.message.specs.declared.fault.Fault.{Fault}
-use Rattle.message.specs.declared.fault.Fault.TheVariants.{InvalidParameterValue, OverLimit, ReceiptHandleIsInvalid}
+use Rattle.message.specs.declared.fault.Fault.TheVariants.{InvalidParameterValue, OverLimit, ReceiptHandleIsInvalid, JournalFull, OutOfMemory}
 use Rattle.message.specs.Content.{ContentText, content_size}
 use Rattle.queue_config.specs.Settings.{QueueSettings, RequestedAttributes, settings_with}
 use Rattle.receipt_handle.specs.declared.handle.Handle.{Handle}
 use Rattle.journal.specs.declared.entry.Entry.{Entry}
 use Rattle.journal.specs.declared.entry.Event.{Event}
-use Rattle.journal.specs.declared.entry.Event.TheVariants.{Sent, Received, Changed, Deleted, DeletedAgain, Purged, Set, Refused, Closed}
+use Rattle.journal.specs.declared.entry.Event.TheVariants.{Sent, Arrived, Changed, Deleted, DeletedAgain, Purged, Set, Settled, Orphaned, Refused, Closed}
 use Rattle.journal.specs.Journal.{Lines, with_line}
 use Rattle.queue_core.specs.declared.command.Command.{Command}
 use Rattle.queue_core.specs.declared.command.Command.TheVariants.{Send, Receive, Change, Delete, Purge}
 use Rattle.queue_core.specs.declared.command.Command.TheVariants as commands
+use Rattle.queue_core.specs.declared.parcel.Parcel.{Parcel}
+use Rattle.queue_core.specs.declared.offers.Offer.{Offer}
+use Rattle.queue_core.specs.declared.reply.Reply.TheVariants as replies
 use Rattle.queue_core.specs.declared.gauges.Gauges.{Gauges}
-use Rattle.queue_core.specs.Messages.{settings_of, created_time, modified_time, closes, is_closed}
+use Rattle.queue_core.specs.Messages.{settings_of, created_time, modified_time, closes, is_closed, has_accepted}
 use Rattle.queue_core.specs.States.{gauges_of}
-use Rattle.queue_core.specs.Queue.{QueueHistory, Outcome, at_moment, is_full, first_refusal, with_room, done, send_outcome, receive_outcome, change_outcome, delete_outcome, close_outcome, in_flight_count, offered_candidates, numbers_of, change_refusal, is_valid_handle, holds_live, outcome_of, with_event, look_of}
+use Rattle.queue_core.specs.Queue.{QueueHistory, Outcome, at_moment, is_full, first_refusal, with_room, done, send_outcome, receive_outcome, change_outcome, delete_outcome, close_outcome, arrive_outcome, is_pending, settle_outcome, orphan_outcome, in_flight_count, offered_candidates, offers_of, received_event, change_refusal, is_valid_handle, holds_live, outcome_of, with_event, with_optional_event, look_of}
 use Rattle.queue_core.specs.Legal.{IsOrdered, IsCausedIn, AreCaused, BeginsAndFollows}
 use Rattle.queue_core.specs.Kept.{IsKept}
 
@@ -86,7 +89,11 @@ HasPlace-caused q (Receive maximum timeout) event h = HasPlace-with_room q (rece
 HasPlace-caused q (Change handle timeout) event h = HasPlace-with_room q (change_outcome q handle timeout) event h
 HasPlace-caused q (Delete handle) event h = HasPlace-with_room q (delete_outcome q handle) event h
 HasPlace-caused q Purge event h = HasPlace-with_room q (done Purged) event h
-HasPlace-caused q (commands.Set wish target) event h = HasPlace-with_room q (done (Set (settings_with (settings_of q.lines) wish))) event h
+HasPlace-caused q (commands.Set wish target) event h = HasPlace-with_room q (done (Set (settings_with (settings_of q.lines) wish target))) event h
+HasPlace-caused q (commands.Arrive parcel) event h = HasPlace-with_room q (arrive_outcome q parcel) event h
+HasPlace-caused q (commands.Settle number) event h = HasPlace-with_room q (settle_outcome q number) event h
+HasPlace-caused q (commands.Orphan target) event h = HasPlace-with_room q (orphan_outcome q target) event h
+HasPlace-caused q commands.FirstParcel event h = absurd cc
 HasPlace-caused q commands.Close event h = HasPlace-close q (is_closed q.lines) refl event h
 HasPlace-caused q commands.Look event h = absurd cc
 
@@ -129,6 +136,13 @@ below_limit q limit event h k =
     let room = h.room in
     omega arith
 
+-- so that a push is refused for want of memory alone
+pub only_memory : {X : Type 0} (r : Result X Fault) (limit n : ℕ) → (IsErrOf r JournalFull → limit ≤ n) → IfErr r (λ fault. (fault ≡ JournalFull) ⊎ (fault ≡ OutOfMemory)) → n < limit
+    → IfErr r (λ fault. fault ≡ OutOfMemory)
+only_memory (Ok x) limit n full h below = tt
+only_memory (Err fault) limit n full (inl is) below = absurd (let past = full (ap (λ (f : Fault). Err f) is) in omega arith)
+only_memory (Err fault) limit n full (inr is) below = is
+
 -- what each command adds to an open journal with room
 module _ (q : QueueHistory) (room : first_refusal q ≡ None) where
   pub event-too_large : (content : ContentText) (delay : Option ℕ) → nat_lt (settings_of q.lines).maximum_message_size (content_size content) ≡ true
@@ -143,9 +157,25 @@ module _ (q : QueueHistory) (room : first_refusal q ≡ None) where
   event-over_limit maximum timeout full = rw (room, full) refl
 
   pub event-received : (maximum : ℕ) (timeout : Option ℕ) → nat_le q.limits.in_flight (in_flight_count q) ≡ false
-      → (outcome_of q (Receive maximum timeout)).event
-      ≡ Some (Received (unwrap_or timeout (settings_of q.lines).visibility_timeout) (numbers_of (offered_candidates q maximum)) [] 0)
+      → (outcome_of q (Receive maximum timeout)).event ≡ Some (received_event q maximum timeout)
   event-received maximum timeout free = rw (room, free) refl
+
+  pub reply-received : (maximum : ℕ) (timeout : Option ℕ) → nat_le q.limits.in_flight (in_flight_count q) ≡ false
+      → (outcome_of q (Receive maximum timeout)).reply ≡ Ok (replies.Received (offers_of q (offered_candidates q maximum)))
+  reply-received maximum timeout free = rw (room, free) refl
+
+  -- the same for the queue under another expression
+  pub answer-received : (there : QueueHistory) (maximum : ℕ) (timeout : Option ℕ) (offers : List Offer) → q ≡ there → nat_le q.limits.in_flight (in_flight_count q) ≡ false
+      → offers ≡ offers_of q (offered_candidates q maximum) → Ok (replies.Received offers) ≡ (outcome_of there (Receive maximum timeout)).reply
+  answer-received there maximum timeout offers is free e =
+      subst (λ (r : QueueHistory). Ok (replies.Received offers) ≡ (outcome_of r (Receive maximum timeout)).reply) is
+      (ap (λ (os : List Offer). Ok (replies.Received os)) e ∙ sym (reply-received maximum timeout free))
+
+  pub state-received : (there new : QueueHistory) (maximum : ℕ) (timeout : Option ℕ) (event : Event ContentText) → q ≡ there → nat_le q.limits.in_flight (in_flight_count q) ≡ false
+      → event ≡ received_event q maximum timeout → new ≡ with_event q event → new ≡ with_optional_event there (outcome_of there (Receive maximum timeout)).event
+  state-received there new maximum timeout event is free e after =
+      subst (λ (r : QueueHistory). new ≡ with_optional_event r (outcome_of r (Receive maximum timeout)).event) is
+      (after ∙ ap (λ (x : Event ContentText). with_event q x) e ∙ ap (λ (o : Option (Event ContentText)). with_optional_event q o) (sym (event-received maximum timeout free)))
 
   pub event-change_refused : (h : Handle) (timeout : ℕ) (fault : Fault) → change_refusal q h timeout ≡ Some fault → (outcome_of q (Change h timeout)).event ≡ Some (Refused fault)
   event-change_refused h timeout fault e = rw (room, e) refl
@@ -162,8 +192,18 @@ module _ (q : QueueHistory) (room : first_refusal q ≡ None) where
   pub event-purged : (outcome_of q Purge).event ≡ Some Purged
   event-purged = rw room refl
 
-  pub event-set : (wish : RequestedAttributes) (target : ℕ) → (outcome_of q (commands.Set wish target)).event ≡ Some (Set (settings_with (settings_of q.lines) wish))
+  pub event-set : (wish : RequestedAttributes) (target : ℕ) → (outcome_of q (commands.Set wish target)).event ≡ Some (Set (settings_with (settings_of q.lines) wish target))
   event-set wish target = rw room refl
+
+  pub event-arrived : (parcel : Parcel) → has_accepted q.lines parcel.origin.uid parcel.origin.number ≡ false
+      → (outcome_of q (commands.Arrive parcel)).event ≡ Some (Arrived parcel.origin parcel.content)
+  event-arrived parcel e = rw (room, e) refl
+
+  pub event-settled : (number : ℕ) → is_pending q number ≡ true → (outcome_of q (commands.Settle number)).event ≡ Some (Settled number)
+  event-settled number e = rw (room, e) refl
+
+  pub event-orphaned : (target : ℕ) → (outcome_of q (commands.Orphan target)).event ≡ Some (Orphaned target)
+  event-orphaned target = rw room refl
 
 pub event-closed : (q : QueueHistory) → is_closed q.lines ≡ false → (outcome_of q commands.Close).event ≡ Some Closed
 event-closed q unclosed = rw unclosed refl

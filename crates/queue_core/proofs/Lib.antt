@@ -1,9 +1,10 @@
 pub mod Scans
+pub mod TransferLemmas
 pub mod LegalLemmas
 pub mod RunLemmas
 pub mod OrderLemmas
 mod MarkLemmas
-mod OfferLemmas
+pub mod OfferLemmas
 mod StateLemmas
 mod RefusalLemmas
 mod LastingLemmas

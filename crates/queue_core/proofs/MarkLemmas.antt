@@ -1,5 +1,5 @@
 -- The definitions of a queue's numbers do not look at a content: over marks they give what they give over lines.
-use Rattle.std.proofs.Common.{◌≡◌, ℕ, suc, ◌-◌, Bool, false, cond, leb, eqb, List, [], ◌∷◌, map, drop, Option, Some, None, refl, sym, ap, ◌∙◌}
+use Rattle.std.proofs.Common.{◌≡◌, ℕ, suc, ◌-◌, Bool, false, not, ◌&&◌, cond, leb, eqb, List, [], ◌∷◌, map, drop, Option, Some, None, refl, sym, ap, ◌∙◌}
 use Rattle.std.specs.Prelude.{◌/◌, count_by}
 use Rattle.std.specs.Option.{option_map_or}
 use Rattle.std.specs.List.{find, filter}
@@ -14,10 +14,10 @@ use Rattle.journal.specs.declared.entry.Event.TheVariants.{Sent}
 use Rattle.queue_core.specs.declared.facts.Message.{Message}
 use Rattle.queue_core.specs.declared.facts.Course.{Course}
 use Rattle.queue_core.specs.declared.facts.Status.{Status}
-use Rattle.queue_core.specs.declared.facts.Status.TheVariants.{Present, Removed}
+use Rattle.queue_core.specs.declared.facts.Status.TheVariants.{Present, Removed, Waiting, Transferred}
 use Rattle.queue_core.specs.declared.facts.MessageState.{MessageState}
 use Rattle.queue_core.specs.declared.facts.MessageState.TheVariants.{Visible, Delayed, InFlight}
-use Rattle.queue_core.specs.Messages.{message_of, messages_from, messages, settings_after, settings_from, closes_period, periods_from, offers_number, receive_count, status_after, due_after, course_after, course_from, course_of, due_time}
+use Rattle.queue_core.specs.Messages.{message_of, messages_from, messages, settings_after, settings_from, closes_period, periods_from, offers_number, receive_count, status_after, returns, due_after, course_after, course_from, course_of, due_time, is_returned}
 use Rattle.queue_core.specs.States.{is_live, same_state, is_in_state, count_in_state, oldest_age, gauges_of, candidate_of, in_order, receive_order}
 use Rattle.queue_core.specs.Mark.{mark_event, mark_of}
 
@@ -45,11 +45,20 @@ due_after-mark number due at event = refl
 
 status_after-mark : (number : ℕ) (status : Status) (event : Event ContentText) → status_after number status (mark_event event) ≡ status_after number status event
 status_after-mark number Present (Sent delay content) = refl
-status_after-mark number Removed (Sent delay content) = refl
-status_after-mark number status event = refl
+status_after-mark number Present event = refl
+status_after-mark number Removed event = refl
+status_after-mark number (Waiting target) (Sent delay content) = refl
+status_after-mark number (Waiting target) event = refl
+status_after-mark number Transferred (Sent delay content) = refl
+status_after-mark number Transferred event = refl
+
+returns-mark : (status : Status) (event : Event ContentText) → returns status (mark_event event) ≡ returns status event
+returns-mark (Waiting target) (Sent delay content) = refl
+returns-mark (Waiting target) event = refl
+returns-mark status event = refl
 
 course_after-mark : (number : ℕ) (c : Course) (e : Entry ContentText) → course_after number c (mark_of e) ≡ course_after number c e
-course_after-mark number c e = rw (status_after-mark number c.status e.event, due_after-mark number c.due e.at e.event) refl
+course_after-mark number c e = rw (status_after-mark number c.status e.event, due_after-mark number c.due e.at e.event, returns-mark c.status e.event) refl
 
 -- ---- all entries
 
@@ -81,8 +90,8 @@ course_from-marks number c (e ∷ es) =
 
 pub course_of-marks : (lines : List (Entry ContentText)) (m : Message) → course_of (map mark_of lines) m ≡ course_of lines m
 course_of-marks lines m =
-    ap (course_from m.number (record { status = Present; due = m.first_due_time })) (drop-map mark_of m.place lines)
-    ∙ course_from-marks m.number (record { status = Present; due = m.first_due_time }) (drop m.place lines)
+    ap (course_from m.number (record { status = Present; due = m.first_due_time; returned = false })) (drop-map mark_of m.place lines)
+    ∙ course_from-marks m.number (record { status = Present; due = m.first_due_time; returned = false }) (drop m.place lines)
 
 -- ---- a message's state, the counts and the age
 
@@ -92,19 +101,23 @@ is_live-marks lines clock m = rw (course_of-marks lines m, periods_from-marks 0 
 due_time-marks : (lines : List (Entry ContentText)) (m : Message) → due_time (map mark_of lines) m ≡ due_time lines m
 due_time-marks lines m = ap (λ (c : Course). c.due) (course_of-marks lines m)
 
--- whether a message is in a state, by whether it is live, its due time and its receives
-abbrev pub in_state : MessageState → ℕ → Bool → ℕ → ℕ → Bool
-in_state state clock live due count =
-    option_map_or (λ s. same_state state s) (cond live (Some (cond (leb due clock) Visible (cond (eqb count 0) Delayed InFlight))) None) false
+is_returned-marks : (lines : List (Entry ContentText)) (m : Message) → is_returned (map mark_of lines) m ≡ is_returned lines m
+is_returned-marks lines m = ap (λ (c : Course). c.returned) (course_of-marks lines m)
 
-pub in_state-same : (state : MessageState) (clock : ℕ) (live' live : Bool) (due' due count' count : ℕ) → live' ≡ live → due' ≡ due → count' ≡ count
-    → in_state state clock live' due' count' ≡ in_state state clock live due count
-in_state-same state clock live' live due' due count' count a b c = rw (a, b, c) refl
+-- whether a message is in a state, by whether it is live, its due time, its receives, and whether it came back
+abbrev pub in_state : MessageState → ℕ → Bool → ℕ → ℕ → Bool → Bool
+in_state state clock live due count returned =
+    option_map_or (λ s. same_state state s) (cond live (Some (cond (leb due clock) Visible (cond (eqb count 0 && not returned) Delayed InFlight))) None) false
+
+pub in_state-same : (state : MessageState) (clock : ℕ) (live' live : Bool) (due' due count' count : ℕ) (returned' returned : Bool) → live' ≡ live → due' ≡ due → count' ≡ count → returned' ≡ returned
+    → in_state state clock live' due' count' returned' ≡ in_state state clock live due count returned
+in_state-same state clock live' live due' due count' count returned' returned a b c d = rw (a, b, c, d) refl
 
 is_in_state-marks : (state : MessageState) (lines : List (Entry ContentText)) (clock : ℕ) (m : Message) → is_in_state state (map mark_of lines) clock m ≡ is_in_state state lines clock m
 is_in_state-marks state lines clock m =
     in_state-same state clock (is_live (map mark_of lines) clock m) (is_live lines clock m) (due_time (map mark_of lines) m) (due_time lines m)
-    (receive_count (map mark_of lines) m.number) (receive_count lines m.number) (is_live-marks lines clock m) (due_time-marks lines m) (receive_count-marks m.number lines)
+    (receive_count (map mark_of lines) m.number) (receive_count lines m.number) (is_returned (map mark_of lines) m) (is_returned lines m)
+    (is_live-marks lines clock m) (due_time-marks lines m) (receive_count-marks m.number lines) (is_returned-marks lines m)
 
 count_by_agree : {X : Type 0} (p q : X → Bool) → ((x : X) → p x ≡ q x) → (xs : List X) → count_by p xs ≡ count_by q xs
 count_by_agree p q h [] = refl

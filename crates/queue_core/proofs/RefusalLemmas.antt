@@ -19,16 +19,16 @@ use Rattle.queue_core.specs.declared.facts.Message.{Message}
 use Rattle.queue_core.specs.declared.facts.Candidate.{Candidate}
 use Rattle.queue_core.specs.declared.facts.Course.{Course}
 use Rattle.queue_core.specs.declared.facts.Status.{Status}
-use Rattle.queue_core.specs.declared.facts.Status.TheVariants.{Present, Removed}
+use Rattle.queue_core.specs.declared.facts.Status.TheVariants.{Present, Removed, Waiting, Transferred}
 use Rattle.queue_core.specs.declared.facts.MessageState.{MessageState}
 use Rattle.queue_core.specs.declared.facts.MessageState.TheVariants.{Visible, Delayed, InFlight}
 use Rattle.queue_core.specs.declared.gauges.Gauges.{Gauges}
 use Rattle.queue_core.specs.declared.command.Command.{Command}
 use Rattle.queue_core.specs.declared.command.Command.TheVariants as commands
 use Rattle.queue_core.specs.declared.reply.Reply.{Reply}
-use Rattle.queue_core.specs.Messages.{effect_of, message_of, messages_from, messages, settings_after, settings_from, settings_of, RetentionPeriod, closes_period, periods_from, runs_out_in, offers_number, receive_count, course_after, course_from, course_of, due_time, is_closed}
-use Rattle.queue_core.specs.States.{is_live, is_in_state, count_in_state, oldest_age, gauges_of, candidate_of, in_order, receive_order, is_numbered}
-use Rattle.queue_core.specs.Queue.{QueueHistory, Outcome, at_moment, uncounted_refusal, refusal, unless_refused, first_refusal, refused_or, done, send_outcome, receive_outcome, change_outcome, delete_outcome, in_flight_count, change_refusal, outcome_of, outcome_at, with_event, with_optional_event, after_answer, is_valid_handle}
+use Rattle.queue_core.specs.Messages.{effect_of, message_of, messages_from, messages, settings_after, settings_from, settings_of, closes_period, periods_from, runs_out_in, offers_number, receive_count, course_after, course_from, course_of, due_time, is_returned, is_closed, closes, opens, created_time, gives_settings, modified_from, has_accepted}
+use Rattle.queue_core.specs.States.{is_live, is_in_state, count_in_state, oldest_age, candidate_of, in_order, receive_order, is_numbered}
+use Rattle.queue_core.specs.Queue.{QueueHistory, Outcome, uncounted_refusal, refusal, unless_refused, first_refusal, refused_or, done, send_outcome, receive_outcome, change_outcome, delete_outcome, in_flight_count, change_refusal, arrive_outcome, is_pending, settle_outcome, orphan_outcome, outcome_of, reached, outcome_at, with_event, with_optional_event, after_answer, is_valid_handle}
 use Rattle.queue_core.specs.Lasting.{StandsAs}
 use Rattle.queue_core.proofs.Scans.{by_closing, place-message_of}
 use Rattle.queue_core.proofs.MarkLemmas.{in_state-same}
@@ -98,6 +98,18 @@ module _ (at : ℕ) (fault : Fault) where
       let and_after : ltb m.place (suc place) ≡ true = grind (arith, nat_tests) in
       rw (before, and_after) refl
 
+  created_time-refused : (lines : List (Entry ContentText)) → created_time (lines ++ refused ∷ []) ≡ created_time lines
+  created_time-refused [] = refl
+  created_time-refused (e ∷ es) = ap (λ (n : ℕ). cond (opens e.event) e.at n) (created_time-refused es)
+
+  modified_from-refused : (time : ℕ) (lines : List (Entry ContentText)) → modified_from time (lines ++ refused ∷ []) ≡ modified_from time lines
+  modified_from-refused time [] = refl
+  modified_from-refused time (e ∷ es) = modified_from-refused (cond (gives_settings e.event) e.at time) es
+
+  is_closed-refused : (lines : List (Entry ContentText)) → is_closed (lines ++ refused ∷ []) ≡ is_closed lines
+  is_closed-refused [] = refl
+  is_closed-refused (e ∷ es) = ap (λ (b : Bool). closes e.event || b) (is_closed-refused es)
+
   periods_from-refused : (m : Message) (place : ℕ) (s : QueueSettings) (clock : ℕ) (lines : List (Entry ContentText)) → m.place < place + length lines
       → list_any (λ p. runs_out_in m p) (periods_from place s clock (lines ++ refused ∷ [])) ≡ list_any (λ p. runs_out_in m p) (periods_from place s clock lines)
   periods_from-refused m place s clock [] h = last_period m s clock place (omega arith)
@@ -106,12 +118,15 @@ module _ (at : ℕ) (fault : Fault) where
       ∙ ap (λ (b : Bool). (closes_period e.event && runs_out_in m (record { retention = s.retention_seconds; end = e.at; closing = place })) || b) (periods_from-refused m (suc place) (settings_after s e.event) clock es (omega arith))
       ∙ sym (by_closing (closes_period e.event) (λ p. runs_out_in m p) (record { retention = s.retention_seconds; end = e.at; closing = place }) (periods_from (suc place) (settings_after s e.event) clock es))
 
-  course_after-refused : (number : ℕ) (status : Status) (due : ℕ) → course_after number (record { status = status; due = due }) refused ≡ record { status = status; due = due }
-  course_after-refused number Present due = refl
-  course_after-refused number Removed due = refl
+  course_after-refused : (number : ℕ) (status : Status) (due : ℕ) (returned : Bool)
+      → course_after number (record { status = status; due = due; returned = returned }) refused ≡ record { status = status; due = due; returned = returned }
+  course_after-refused number Present due returned = refl
+  course_after-refused number Removed due returned = refl
+  course_after-refused number (Waiting target) due returned = refl
+  course_after-refused number Transferred due returned = refl
 
   course_from-refused : (number : ℕ) (c : Course) (lines : List (Entry ContentText)) → course_from number c (lines ++ refused ∷ []) ≡ course_from number c lines
-  course_from-refused number c [] = course_after-refused number c.status c.due
+  course_from-refused number c [] = course_after-refused number c.status c.due c.returned
   course_from-refused number c (e ∷ es) = course_from-refused number (course_after number c e) es
 
   module _ (lines : List (Entry ContentText)) where
@@ -120,8 +135,8 @@ module _ (at : ℕ) (fault : Fault) where
 
     course_of-refused : (m : Message) → m.place < length lines → course_of more m ≡ course_of lines m
     course_of-refused m h =
-        ap (course_from m.number (record { status = Present; due = m.first_due_time })) (drop-append-le m.place lines (refused ∷ []) (omega arith))
-        ∙ course_from-refused m.number (record { status = Present; due = m.first_due_time }) (drop m.place lines)
+        ap (course_from m.number (record { status = Present; due = m.first_due_time; returned = false })) (drop-append-le m.place lines (refused ∷ []) (omega arith))
+        ∙ course_from-refused m.number (record { status = Present; due = m.first_due_time; returned = false }) (drop m.place lines)
 
     due_time-refused : (m : Message) → m.place < length lines → due_time more m ≡ due_time lines m
     due_time-refused m h = ap (λ (c : Course). c.due) (course_of-refused m h)
@@ -132,7 +147,8 @@ module _ (at : ℕ) (fault : Fault) where
     is_in_state-refused : (state : MessageState) (clock : ℕ) (m : Message) → m.place < length lines → is_in_state state more clock m ≡ is_in_state state lines clock m
     is_in_state-refused state clock m h =
         in_state-same state clock (is_live more clock m) (is_live lines clock m) (due_time more m) (due_time lines m)
-        (receive_count more m.number) (receive_count lines m.number) (is_live-refused clock m h) (due_time-refused m h) (receive_count-refused m.number lines)
+        (receive_count more m.number) (receive_count lines m.number) (is_returned more m) (is_returned lines m)
+        (is_live-refused clock m h) (due_time-refused m h) (receive_count-refused m.number lines) (ap (λ (c : Course). c.returned) (course_of-refused m h))
 
 -- each message's place is that of an entry
 pub places-messages_from : {C : Type 0} (n place number : ℕ) (es : List (Entry C)) → place + length es ≤ n → AllByRecursion (λ m. m.place < n) (messages_from place number es)
@@ -211,6 +227,10 @@ module _ (q : QueueHistory) (fault : Fault) where
         (count_in_state Visible q.lines q.clock) (count_in_state Delayed q.lines q.clock) (count_in_state InFlight q.lines q.clock) (oldest_age q.lines q.clock)
         (count-refused Visible) (count-refused Delayed) (count-refused InFlight) age-refused;
     order = order-refused;
+    messages = messages-refused;
+    created = created_time-refused q.clock fault q.lines;
+    modified = modified_from-refused q.clock fault 0 q.lines;
+    closed = is_closed-refused q.clock fault q.lines;
     settings = settings_from-refused q.clock fault default_settings q.lines;
     given = handle-refused;
     in_flight = λ h.
@@ -252,6 +272,14 @@ quiet-close : (b : Bool) (first fault : Fault) (event : Event ContentText) → (
 quiet-close true first fault event h = tt
 quiet-close false first fault event h = absurd cc
 
+not_both_answers : (r : Result Reply Fault) (x : Reply) (fault : Fault) → r ≡ Ok x → r ≡ Err fault → ⊥
+not_both_answers (Ok y) x fault h is = absurd cc
+not_both_answers (Err other) x fault h is = absurd cc
+
+quiet-answered : (b : Bool) (fault : Fault) (one other : Outcome) (x y : Reply) → one.reply ≡ Ok x → other.reply ≡ Ok y → (cond b one other).reply ≡ Err fault → IsQuiet (cond b one other).event
+quiet-answered true fault one other x y h k is = absurd (not_both_answers one.reply x fault h is)
+quiet-answered false fault one other x y h k is = absurd (not_both_answers other.reply y fault k is)
+
 quiet : (q : QueueHistory) (command : Command) (fault : Fault) → (outcome_of q command).reply ≡ Err fault → IsQuiet (outcome_of q command).event
 quiet q (commands.Send content delay) fault h =
     quiet-unless_refused (first_refusal q) (send_outcome q content delay) fault
@@ -263,12 +291,17 @@ quiet q (commands.Change handle timeout) fault h =
 quiet q (commands.Delete handle) fault h =
     quiet-unless_refused (first_refusal q) (delete_outcome q handle) fault (quiet-delete (is_valid_handle q handle) ReceiptHandleIsInvalid fault _) h
 quiet q commands.Purge fault h = quiet-unless_refused (first_refusal q) (done Purged) fault (λ e. absurd cc) h
-quiet q (commands.Set wish target) fault h = quiet-unless_refused (first_refusal q) (done (Set (settings_with (settings_of q.lines) wish))) fault (λ e. absurd cc) h
+quiet q (commands.Set wish target) fault h = quiet-unless_refused (first_refusal q) (done (Set (settings_with (settings_of q.lines) wish target))) fault (λ e. absurd cc) h
+quiet q (commands.Arrive parcel) fault h =
+    quiet-unless_refused (first_refusal q) (arrive_outcome q parcel) fault (quiet-answered (has_accepted q.lines parcel.origin.uid parcel.origin.number) fault _ _ _ _ refl refl) h
+quiet q (commands.Settle number) fault h = quiet-unless_refused (first_refusal q) (settle_outcome q number) fault (quiet-answered (is_pending q number) fault _ _ _ _ refl refl) h
+quiet q (commands.Orphan target) fault h = quiet-unless_refused (first_refusal q) (orphan_outcome q target) fault (λ e. absurd cc) h
+quiet q commands.FirstParcel fault h = absurd cc
 quiet q commands.Close fault h = quiet-close (is_closed q.lines) QueueDoesNotExist fault Closed h
 quiet q commands.Look fault h = absurd cc
 
 StandsAs-itself : (q : QueueHistory) → StandsAs q q
-StandsAs-itself q = record { counts = refl; order = refl; settings = refl; given = λ h. refl; in_flight = λ h. refl; live = λ h. refl }
+StandsAs-itself q = record { counts = refl; order = refl; messages = refl; created = refl; modified = refl; closed = refl; settings = refl; given = λ h. refl; in_flight = λ h. refl; live = λ h. refl }
 
 StandsAs-quiet : (q : QueueHistory) (event : Option (Event ContentText)) → IsQuiet event → StandsAs (with_optional_event q event) q
 StandsAs-quiet q None h = StandsAs-itself q
@@ -277,10 +310,10 @@ StandsAs-quiet q (Some event) h = absurd h
 
 module _ (q : QueueHistory) (at : ℕ) (command : Command) where
   stands_at : (b : Bool) (answer : Result Reply Fault) (fault : Fault) → is_out_of_memory answer ≡ b → answer ≡ Err fault → Meets answer (outcome_at q at command).reply
-      → StandsAs (after_answer q at command answer) (at_moment q at)
-  stands_at true answer fault h is meets = rw h (StandsAs-itself (at_moment q at))
+      → StandsAs (after_answer q at command answer) (reached q at command)
+  stands_at true answer fault h is meets = rw h (StandsAs-itself (reached q at command))
   stands_at false answer fault h is meets =
-      rw h (StandsAs-quiet (at_moment q at) (outcome_at q at command).event (quiet (at_moment q at) command fault (sym (rw h at meets) ∙ is)))
+      rw h (StandsAs-quiet (reached q at command) (outcome_at q at command).event (quiet (reached q at command) command fault (sym (rw h at meets) ∙ is)))
 
-  pub StandsAs-refusal : (fault : Fault) → Meets {T = Reply} (Err fault) (outcome_at q at command).reply → StandsAs (after_answer {T = Reply} q at command (Err fault)) (at_moment q at)
+  pub StandsAs-refusal : (fault : Fault) → Meets {T = Reply} (Err fault) (outcome_at q at command).reply → StandsAs (after_answer {T = Reply} q at command (Err fault)) (reached q at command)
   StandsAs-refusal fault meets = stands_at (is_out_of_memory {T = Reply} (Err fault)) (Err fault) fault refl refl meets

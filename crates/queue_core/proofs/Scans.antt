@@ -8,7 +8,7 @@ use Rattle.queue_config.specs.Settings.{QueueSettings}
 use Rattle.journal.specs.declared.entry.Entry.{Entry}
 use Rattle.queue_core.specs.declared.facts.Message.{Message}
 use Rattle.queue_core.specs.declared.facts.Course.{Course}
-use Rattle.queue_core.specs.Messages.{Birth, effect_of, message_of, messages_from, settings_after, settings_from, created_time, opens, modified_from, gives_settings, RetentionPeriod, closes_period, periods_from, offers_number, last_receive_from, course_after, course_from, closes, is_closed}
+use Rattle.queue_core.specs.Messages.{Birth, effect_of, message_of, messages_from, settings_after, settings_from, created_time, opens, modified_from, gives_settings, RetentionPeriod, closes_period, periods_from, offers_number, last_receive_from, course_after, course_from}
 
 pub drop_entry : {X : Type 0} (xs : List X) (i : ℕ) (x : X) → slice_get xs i ≡ Some x → drop i xs ≡ x ∷ drop (i + 1) xs
 drop_entry [] i x h = absurd cc
@@ -71,11 +71,11 @@ module _ {C : Type 0} (lines : List (Entry C)) (place : ℕ) (e : Entry C) (at :
   pub course_from-entry : (number : ℕ) (c : Course) → course_from number c (drop place lines) ≡ course_from number (course_after number c e) (drop (place + 1) lines)
   course_from-entry number c = rw (drop_entry lines place e at) refl
 
-  pub is_closed-here : closes e.event ≡ true → is_closed (drop place lines) ≡ true
-  is_closed-here h = rw (drop_entry lines place e at, h) refl
+  pub any-here : (p : Entry C → Bool) → p e ≡ true → list_any p (drop place lines) ≡ true
+  any-here p h = rw (drop_entry lines place e at, h) refl
 
-  pub is_closed-later : closes e.event ≡ false → is_closed (drop place lines) ≡ is_closed (drop (place + 1) lines)
-  is_closed-later h = rw (drop_entry lines place e at, h) refl
+  pub any-later : (p : Entry C → Bool) → p e ≡ false → list_any p (drop place lines) ≡ list_any p (drop (place + 1) lines)
+  any-later p h = rw (drop_entry lines place e at, h) refl
 
   pub count_by-yes : (p : Entry C → Bool) → p e ≡ true → count_by p (drop place lines) ≡ 1 + count_by p (drop (place + 1) lines)
   count_by-yes p h = rw (drop_entry lines place e at) (sum_by-cons (λ x. cond (p x) 1 0) e (drop (place + 1) lines) ∙ ap (λ b. cond b 1 0 + count_by p (drop (place + 1) lines)) h)
@@ -87,7 +87,7 @@ module _ {C : Type 0} (lines : List (Entry C)) (place : ℕ) (e : Entry C) (at :
 
 -- a message's place is that of its entry
 pub place-message_of : {C : Type 0} (place number at : ℕ) (birth : Option (Birth C)) (m : Message)
-    → option_map (λ b. record { number = number; place = place; enqueue_time = at; first_send_time = at; first_due_time = at + 1000 * b.delay }) birth ≡ Some m → m.place ≡ place
+    → option_map (λ b. record { number = number; place = place; enqueue_time = at; first_send_time = option_map_or (λ o. o.sent) b.origin at; first_due_time = at + 1000 * b.delay; origin = b.origin }) birth ≡ Some m → m.place ≡ place
 place-message_of place number at None m h = absurd cc
 place-message_of place number at (Some b) m h = cc
 

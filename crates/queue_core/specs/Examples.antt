@@ -7,10 +7,12 @@ use Rattle.queue_config.specs.Settings.{QueueSettings, default_settings, Request
 use Rattle.receipt_handle.specs.declared.handle.Handle.{Handle}
 use Rattle.journal.specs.declared.entry.Entry.{Entry}
 use Rattle.journal.specs.declared.entry.Event.{Event}
-use Rattle.journal.specs.declared.entry.Event.TheVariants.{Opened, Sent, Received, Changed, Deleted, DeletedAgain, Purged, Set, Refused}
+use Rattle.journal.specs.declared.entry.Event.TheVariants.{Opened, Sent, Arrived, Received, Changed, Deleted, DeletedAgain, Purged, Set, Orphaned, Refused}
+use Rattle.journal.specs.declared.entry.Origin.{Origin}
 use Rattle.queue_core.specs.declared.facts.Message.{Message}
 use Rattle.queue_core.specs.declared.facts.MessageState.TheVariants.{Visible, Delayed, InFlight}
 use Rattle.queue_core.specs.declared.offers.Offer.{Offer}
+use Rattle.queue_core.specs.declared.parcel.Parcel.{Parcel}
 use Rattle.queue_core.specs.declared.command.Command.{Command}
 use Rattle.queue_core.specs.declared.command.Step.{Step}
 use Rattle.queue_core.specs.declared.reply.Reply.{Reply}
@@ -122,7 +124,7 @@ delayed_beyond_its_retention = opened_with (with_retention 60) ++ entry 0 (Sent 
 
 -- a message that was first sent at 0 and came to this queue at 60,000, by the entry at a place
 abbrev pub sent_a_minute_before : ℕ → Message
-sent_a_minute_before place = record { number = 0; place = place; enqueue_time = 60000; first_send_time = 0; first_due_time = 60000 }
+sent_a_minute_before place = record { number = 0; place = place; enqueue_time = 60000; first_send_time = 0; first_due_time = 60000; origin = None }
 
 abbrev pub came_before_the_raise : List (Entry ContentText)
 came_before_the_raise = opened_with (with_retention 60) ++ entry 60000 (Sent 0 letter_a) ∷ entry 60000 (Set (with_retention 120)) ∷ []
@@ -172,6 +174,33 @@ changed_to_twelve_hours = hello_received_at_three_seconds ++ entry 3000 (Changed
 
 abbrev pub changed_to_twelve_hours_once : List (Entry ContentText)
 changed_to_twelve_hours_once = changed_to_twelve_hours ++ entry 3001 (Refused InvalidParameterValue) ∷ []
+
+-- dead letters: a message leaves after one receive for the queue of uid 9, whose name is `dead`
+
+abbrev pub with_policy : QueueSettings
+with_policy = record (with_timeout 1) { redrive_policy = Some (record { target = 9; name = 100 ∷ 101 ∷ 97 ∷ 100 ∷ []; max_receive_count = 1 }) }
+
+abbrev pub one_received_of_two : List (Entry ContentText)
+one_received_of_two =
+    opened_with with_policy ++ entry 1000 (Sent 0 letter_a) ∷ entry 3000 (Received 1 (0 ∷ []) [] 9) ∷ entry 4500 (Sent 0 letter_b) ∷ []
+
+abbrev pub first_of_two_left : List (Entry ContentText)
+first_of_two_left = one_received_of_two ++ entry 5000 (Received 1 (1 ∷ []) (0 ∷ []) 9) ∷ []
+
+abbrev pub first_of_two_left_and_purged : List (Entry ContentText)
+first_of_two_left_and_purged = first_of_two_left ++ entry 5001 Purged ∷ []
+
+abbrev pub first_of_two_back : List (Entry ContentText)
+first_of_two_back = first_of_two_left ++ entry 5002 (Orphaned 9) ∷ []
+
+abbrev pub origin_of_a : Origin
+origin_of_a = record { uid = 1; number = 0; name = 106 ∷ 111 ∷ 98 ∷ 115 ∷ []; id = record { uid = 1; number = 0 }; sent = 1000 }
+
+abbrev pub parcel_of_a : Parcel
+parcel_of_a = record { origin = origin_of_a; target = 9; content = letter_a }
+
+abbrev pub arrived_at_five_seconds : List (Entry ContentText)
+arrived_at_five_seconds = opened_with (with_retention 60) ++ entry 5000 (Arrived origin_of_a letter_a) ∷ []
 
 -- limits
 

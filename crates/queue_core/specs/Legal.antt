@@ -1,5 +1,5 @@
 -- Which journals a queue can have.
-use Rattle.std.specs.Prelude.{◌≡◌, ℕ, ◌≤◌, List, [], ◌∷◌, ◌++◌, Some, IsTrue}
+use Rattle.std.specs.Prelude.{◌≡◌, ℕ, ◌<◌, ◌≤◌, ◌^◌, List, [], ◌∷◌, ◌++◌, Some, IsTrue}
 use Rattle.std.specs.Option.{ForSome}
 use Rattle.message.specs.Content.{ContentText, is_content}
 use Rattle.queue_config.specs.Settings.{QueueSettings, AreSettings, settings_with}
@@ -7,7 +7,7 @@ use Rattle.journal.specs.declared.entry.Entry.{Entry}
 use Rattle.journal.specs.declared.entry.Event.{Event}
 use Rattle.journal.specs.declared.entry.Event.TheVariants.{Opened}
 use Rattle.queue_core.specs.declared.command.Command.{Command}
-use Rattle.queue_core.specs.declared.command.Command.TheVariants.{Send, Receive, Change, Delete, Purge, Set, Close, Look}
+use Rattle.queue_core.specs.declared.command.Command.TheVariants.{Send, Receive, Change, Delete, Purge, Set, Close, Arrive, Settle, Orphan, Look, FirstParcel}
 use Rattle.queue_core.specs.Messages.{settings_of}
 use Rattle.queue_core.specs.Ranges.{IsDelay, IsTimeout, IsMaximum}
 use Rattle.queue_core.specs.Queue.{QueueHistory, outcome_of}
@@ -17,16 +17,20 @@ abbrev pub IsOrdered : ℕ → List (Entry ContentText) → ℕ → Type 0
 IsOrdered from [] clock = from ≤ clock
 IsOrdered from (e ∷ es) clock = (from ≤ e.at) × IsOrdered e.at es clock
 
--- a command that a client can send: its content is allowed, its numbers are in range, and so are the settings that it gives the queue
+-- a command that can be given: its content is allowed, its numbers are in range, and so are the settings that it gives the queue
 abbrev pub IsAllowedIn : QueueHistory → Command → Type 0
 IsAllowedIn q (Send content delay) = IsTrue (is_content content) × ForSome delay (λ seconds. IsDelay seconds)
 IsAllowedIn q (Receive maximum timeout) = IsMaximum maximum × ForSome timeout (λ seconds. IsTimeout seconds)
 IsAllowedIn q (Change handle timeout) = IsTimeout timeout
 IsAllowedIn q (Delete handle) = Unit {0}
 IsAllowedIn q Purge = Unit {0}
-IsAllowedIn q (Set wish target) = AreSettings (settings_with (settings_of q.lines) wish)
+IsAllowedIn q (Set wish target) = AreSettings (settings_with (settings_of q.lines) wish target)
+IsAllowedIn q (Arrive parcel) = IsTrue (is_content parcel.content) × (parcel.origin.sent < 2 ^ 62)
+IsAllowedIn q (Settle number) = Unit {0}
+IsAllowedIn q (Orphan target) = Unit {0}
 IsAllowedIn q Close = Unit {0}
 IsAllowedIn q Look = Unit {0}
+IsAllowedIn q FirstParcel = Unit {0}
 
 -- an event that some such command adds to a queue
 pub record IsCausedIn (q : QueueHistory) (event : Event ContentText) : Type 0 where

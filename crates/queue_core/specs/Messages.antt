@@ -1,23 +1,26 @@
 -- The messages of a queue, as its journal has them. Nothing here depends on what stands for a content.
-use Rattle.std.specs.Prelude.{ℕ, suc, ◌+◌, ◌*◌, ◌&&◌, ◌==◌, nat_le, nat_lt, Bool, true, false, if◌then◌else◌, List, [], ◌∷◌, length, drop, fold, count_by, slice_get, Option, Some, None, is_some, option_map, option_and_then, unwrap_or}
+use Rattle.std.specs.Prelude.{ℕ, suc, ◌+◌, ◌*◌, ◌&&◌, ◌||◌, ◌==◌, nat_le, nat_lt, Bool, true, false, not, if◌then◌else◌, List, [], ◌∷◌, ◌++◌, map, filter, length, drop, count_by, slice_get, Option, Some, None, is_some, option_map, option_and_then, unwrap_or}
 use Rattle.std.specs.Option.{option_map_or}
 use Rattle.std.specs.List.{list_any, find}
 use Rattle.message.specs.declared.id.MessageId.{MessageId}
-use Rattle.queue_config.specs.Settings.{QueueSettings, default_settings}
+use Rattle.queue_config.specs.Settings.{QueueSettings, default_settings, without_target}
 use Rattle.journal.specs.declared.entry.Entry.{Entry}
 use Rattle.journal.specs.declared.entry.Event.{Event}
-use Rattle.journal.specs.declared.entry.Event.TheVariants.{Opened, Sent, Received, Changed, Deleted, DeletedAgain, Purged, Set, Refused, Closed}
+use Rattle.journal.specs.declared.entry.Event.TheVariants.{Opened, Sent, Arrived, Received, Changed, Deleted, DeletedAgain, Purged, Set, Settled, Orphaned, Refused, Closed}
+use Rattle.journal.specs.declared.entry.Origin.{Origin}
 use Rattle.queue_core.specs.declared.facts.Message.{Message}
 use Rattle.queue_core.specs.declared.facts.Course.{Course}
+use Rattle.queue_core.specs.declared.facts.Transfer.{Transfer}
 use Rattle.queue_core.specs.declared.facts.Status.{Status}
-use Rattle.queue_core.specs.declared.facts.Status.TheVariants.{Present, Removed}
+use Rattle.queue_core.specs.declared.facts.Status.TheVariants.{Present, Removed, Waiting, Transferred}
 
 -- ---- what an event does
 
--- the beginning of a message: what it holds, and how many seconds later it is first due
+-- the beginning of a message: what it holds, how many seconds later it is first due, and where it came from, where it was not sent here
 pub record Birth (C : Type 0) : Type 0 where
   pub content : C
   pub delay : ℕ
+  pub origin : Option Origin
 
 -- what an event does to a queue and to its messages
 pub record Effect (C : Type 0) : Type 0 where
@@ -30,6 +33,10 @@ pub record Effect (C : Type 0) : Type 0 where
   pub reschedules : ℕ → Bool  -- whether the message of a number is due again so many seconds later
   pub timeout : ℕ
   pub removes : ℕ → Bool  -- whether it removes the message of a number, where that is there
+  pub departures : List ℕ  -- the numbers of the messages that leave, in order
+  pub target : ℕ  -- the uid of the dead-letter queue that they leave for
+  pub confirms : ℕ → Bool  -- whether it confirms the transfer of the message of a number
+  pub lost_target : Option ℕ  -- the uid of a dead-letter queue that is gone: what waited for it comes back
 
 abbrev pub no_effect : {C : Type 0} → Effect C
 no_effect = record {
@@ -42,6 +49,10 @@ no_effect = record {
   reschedules = λ number. false;
   timeout = 0;
   removes = λ number. false;
+  departures = [];
+  target = 0;
+  confirms = λ number. false;
+  lost_target = None;
 }
 
 abbrev pub contains_number : ℕ → List ℕ → Bool
@@ -50,14 +61,22 @@ contains_number number numbers = list_any (λ n. n == number) numbers
 -- one clause an event, and none left out: what an event does is said here and nowhere else
 abbrev pub effect_of : {C : Type 0} → Event C → Effect C
 effect_of (Opened uid settings) = record no_effect { settings = Some settings; opens = true }
-effect_of (Sent delay content) = record no_effect { birth = Some (record { content = content; delay = delay }) }
-effect_of (Received timeout offered leaving target) =
-    record no_effect { offers = λ number. contains_number number offered; reschedules = λ number. contains_number number offered; timeout = timeout }
+effect_of (Sent delay content) = record no_effect { birth = Some (record { content = content; delay = delay; origin = None }) }
+effect_of (Arrived origin content) = record no_effect { birth = Some (record { content = content; delay = 0; origin = Some origin }) }
+effect_of (Received timeout offered leaving target) = record no_effect {
+  offers = λ number. contains_number number offered;
+  reschedules = λ number. contains_number number offered;
+  timeout = timeout;
+  departures = leaving;
+  target = target;
+}
 effect_of (Changed changed timeout) = record no_effect { reschedules = λ number. changed == number; timeout = timeout }
 effect_of (Deleted deleted) = record no_effect { removes = λ number. deleted == number }
 effect_of DeletedAgain = no_effect
 effect_of Purged = record no_effect { removes = λ number. true }
 effect_of (Set settings) = record no_effect { settings = Some settings; closes_period = true }
+effect_of (Settled settled) = record no_effect { confirms = λ number. settled == number }
+effect_of (Orphaned target) = record no_effect { lost_target = Some target }
 effect_of (Refused fault) = no_effect
 effect_of Closed = record no_effect { closes = true; removes = λ number. true }
 
@@ -66,7 +85,15 @@ effect_of Closed = record no_effect { closes = true; removes = λ number. true }
 -- the message that an event begins, where the event's place, the message's number and the time are given
 abbrev pub message_of : {C : Type 0} → ℕ → ℕ → ℕ → Event C → Option Message
 message_of place number at event =
-    option_map (λ birth. record { number = number; place = place; enqueue_time = at; first_send_time = at; first_due_time = at + 1000 * birth.delay })
+    option_map
+    (λ birth. record {
+      number = number;
+      place = place;
+      enqueue_time = at;
+      first_send_time = option_map_or (λ origin. origin.sent) birth.origin at;
+      first_due_time = at + 1000 * birth.delay;
+      origin = birth.origin;
+    })
     (effect_of event).birth
 
 -- the messages that entries from a place on begin, numbered from a number on
@@ -82,9 +109,13 @@ messages lines = messages_from 0 0 lines
 abbrev pub message_count : {C : Type 0} → List (Entry C) → ℕ
 message_count lines = length (messages lines)
 
--- its id, in the queue that it was first sent to
-abbrev pub message_id : ℕ → ℕ → MessageId
-message_id uid number = record { uid = uid; number = number }
+-- the id of a message that is sent to the queue of a uid
+abbrev pub own_id : ℕ → ℕ → MessageId
+own_id uid number = record { uid = uid; number = number }
+
+-- a message's id: the one that it came with, and else that of the queue which it was sent to
+abbrev pub message_id : ℕ → Message → MessageId
+message_id uid m = option_map_or (λ origin. origin.id) m.origin (own_id uid m.number)
 
 -- the content that an event brings
 abbrev pub content_in : {C : Type 0} → Event C → Option C
@@ -96,9 +127,13 @@ content_of lines m = option_and_then (λ e. content_in e.event) (slice_get lines
 
 -- ---- settings in force
 
+-- settings without the policy whose dead-letter queue is gone
+abbrev pub with_lost_target : QueueSettings → Option ℕ → QueueSettings
+with_lost_target s lost = option_map_or (λ target. without_target s target) lost s
+
 -- the settings after an event
 abbrev pub settings_after : {C : Type 0} → QueueSettings → Event C → QueueSettings
-settings_after s event = unwrap_or (effect_of event).settings s
+settings_after s event = with_lost_target (unwrap_or (effect_of event).settings s) (effect_of event).lost_target
 
 abbrev pub settings_from : {C : Type 0} → QueueSettings → List (Entry C) → QueueSettings
 settings_from s [] = s
@@ -182,17 +217,37 @@ last_receive_time lines number = last_receive_from number 0 lines
 
 -- ---- the course of a message
 
--- where the message of a number stands after an event: what is removed stays so
-abbrev pub status_after : {C : Type 0} → ℕ → Status → Event C → Status
-status_after number Present event = if (effect_of event).removes number then Removed else Present
-status_after number Removed event = Removed
+-- whether an event says that the dead-letter queue of a uid is gone
+abbrev pub loses : {C : Type 0} → ℕ → Event C → Bool
+loses target event = option_map_or (λ lost. lost == target) (effect_of event).lost_target false
 
--- when the message of a number is due after an event at a time
+-- where the message of a number stands after an event: what is removed stays so, and what has left is not removed until the queue closes
+abbrev pub status_after : {C : Type 0} → ℕ → Status → Event C → Status
+status_after number Present event =
+    if (effect_of event).removes number then Removed
+    else if contains_number number (effect_of event).departures then Waiting (effect_of event).target else Present
+status_after number Removed event = Removed
+status_after number (Waiting target) event =
+    if loses target event then Present
+    else if (effect_of event).confirms number then Transferred
+    else if (effect_of event).closes then Removed else Waiting target
+status_after number Transferred event = if (effect_of event).closes then Removed else Transferred
+
+-- whether an event brings back a message that stands so
+abbrev pub returns : {C : Type 0} → Status → Event C → Bool
+returns (Waiting target) event = loses target event
+returns _ event = false
+
+-- when the message of a number is due after an event at a time which does not bring it back
 abbrev pub due_after : {C : Type 0} → ℕ → ℕ → ℕ → Event C → ℕ
 due_after number due at event = if (effect_of event).reschedules number then at + 1000 * (effect_of event).timeout else due
 
 abbrev pub course_after : {C : Type 0} → ℕ → Course → Entry C → Course
-course_after number c e = record { status = status_after number c.status e.event; due = due_after number c.due e.at e.event }
+course_after number c e = record {
+  status = status_after number c.status e.event;
+  due = if returns c.status e.event then e.at else due_after number c.due e.at e.event;
+  returned = returns c.status e.event || c.returned;
+}
 
 abbrev pub course_from : {C : Type 0} → ℕ → Course → List (Entry C) → Course
 course_from number c [] = c
@@ -200,19 +255,71 @@ course_from number c (e ∷ es) = course_from number (course_after number c e) e
 
 -- a message begins with its entry, and each entry behind that may change where it stands and when it is due
 abbrev pub course_of : {C : Type 0} → List (Entry C) → Message → Course
-course_of lines m = course_from m.number (record { status = Present; due = m.first_due_time }) (drop m.place lines)
+course_of lines m = course_from m.number (record { status = Present; due = m.first_due_time; returned = false }) (drop m.place lines)
+
+abbrev pub is_present_status : Status → Bool
+is_present_status Present = true
+is_present_status _ = false
+
+-- neither removed nor gone to another queue
+abbrev pub is_present : {C : Type 0} → List (Entry C) → Message → Bool
+is_present lines m = is_present_status (course_of lines m).status
 
 abbrev pub is_removed_status : Status → Bool
-is_removed_status Present = false
 is_removed_status Removed = true
+is_removed_status _ = false
 
--- deleted, or there when the queue was purged or closed
+-- deleted, or there when the queue was purged, or in a queue that was closed
 abbrev pub is_removed : {C : Type 0} → List (Entry C) → Message → Bool
 is_removed lines m = is_removed_status (course_of lines m).status
 
--- when a message is to be offered next: after the last entry that offered or changed it, and else when it is first due
+-- when a message is to be offered next: after the last entry that offered, changed or brought it back, and else when it is first due
 abbrev pub due_time : {C : Type 0} → List (Entry C) → Message → ℕ
 due_time lines m = (course_of lines m).due
+
+-- whether a message left and came back
+abbrev pub is_returned : {C : Type 0} → List (Entry C) → Message → Bool
+is_returned lines m = (course_of lines m).returned
+
+-- ---- dead letters
+
+-- whether a message that stands so waits for the dead-letter queue of a uid
+abbrev pub is_waiting_status : ℕ → Status → Bool
+is_waiting_status target (Waiting own) = own == target
+is_waiting_status target _ = false
+
+-- whether a message has left for the dead-letter queue of a uid, and the transfer is not confirmed
+abbrev pub waits_for : {C : Type 0} → List (Entry C) → ℕ → Message → Bool
+waits_for lines target m = is_waiting_status target (course_of lines m).status
+
+-- whether a message that stands so waits for a dead-letter queue, whichever it is
+abbrev pub awaits_status : Status → Bool
+awaits_status (Waiting target) = true
+awaits_status _ = false
+
+abbrev pub awaits_transfer : {C : Type 0} → List (Entry C) → Message → Bool
+awaits_transfer lines m = awaits_status (course_of lines m).status
+
+-- the transfers that an event begins, in order
+abbrev pub departures : {C : Type 0} → Event C → List Transfer
+departures event = map (λ number. record { number = number; target = (effect_of event).target }) (effect_of event).departures
+
+-- whether an event ends a transfer: it confirms it, brings the message back, or closes the queue
+abbrev pub ends_transfer : {C : Type 0} → Transfer → Event C → Bool
+ends_transfer t event = (effect_of event).confirms t.number || loses t.target event || (effect_of event).closes
+
+-- the transfers that no later entry ends, in the order in which the messages left
+abbrev pub pending_transfers : {C : Type 0} → List (Entry C) → List Transfer
+pending_transfers [] = []
+pending_transfers (e ∷ es) = filter (λ t. not (list_any (λ later. ends_transfer t later.event) es)) (departures e.event) ++ pending_transfers es
+
+-- the transfer by which an event begins a message: the uid of the queue that it left, and its number there
+abbrev pub accepts : {C : Type 0} → ℕ → ℕ → Event C → Bool
+accepts uid number event = option_map_or (λ birth. option_map_or (λ o. (o.uid == uid) && (o.number == number)) birth.origin false) (effect_of event).birth false
+
+-- whether the queue has accepted the transfer of the message of a number from the queue of a uid
+abbrev pub has_accepted : {C : Type 0} → List (Entry C) → ℕ → ℕ → Bool
+has_accepted lines uid number = list_any (λ e. accepts uid number e.event) lines
 
 -- ---- the end of a queue
 

@@ -1,6 +1,7 @@
 -- The queue of one thread: what each command adds to the journal, and what answers it.
-use Rattle.std.specs.Prelude.{◌≡◌, ℕ, ◌+◌, ◌-◌, ◌*◌, ◌==◌, ◌&&◌, min, take, map, option_map, nat_lt, nat_le, max, Bool, false, if◌then◌else◌, List, [], ◌∷◌, ◌++◌, length, Option, Some, None, is_some, unwrap_or, Result, Ok, Err}
+use Rattle.std.specs.Prelude.{◌≡◌, ℕ, ◌+◌, ◌-◌, ◌*◌, ◌==◌, ◌&&◌, ◌||◌, not, min, map, filter, count_by, slice_get, option_map, option_and_then, nat_lt, nat_le, max, Bool, true, false, if◌then◌else◌, List, [], ◌∷◌, ◌++◌, length, Option, Some, None, is_some, unwrap_or, Result, Ok, Err}
 use Rattle.std.specs.List.{filter_map}
+use Rattle.std.specs.Option.{option_map_or}
 use Rattle.message.specs.declared.fault.Fault.{Fault}
 use Rattle.message.specs.declared.fault.Fault.TheVariants.{QueueDoesNotExist, InvalidParameterValue, ReceiptHandleIsInvalid, MessageNotInflight, OverLimit, JournalFull}
 use Rattle.message.specs.Fault.{is_out_of_memory}
@@ -10,17 +11,22 @@ use Rattle.queue_config.specs.Settings.{settings_with}
 use Rattle.receipt_handle.specs.declared.handle.Handle.{Handle}
 use Rattle.journal.specs.declared.entry.Entry.{Entry}
 use Rattle.journal.specs.declared.entry.Event.{Event}
-use Rattle.journal.specs.declared.entry.Event.TheVariants.{Sent, Received, Changed, Deleted, DeletedAgain, Purged, Set, Refused, Closed}
+use Rattle.journal.specs.declared.entry.Event.TheVariants.{Sent, Arrived, Received, Changed, Deleted, DeletedAgain, Purged, Set, Settled, Orphaned, Refused, Closed}
+use Rattle.journal.specs.declared.entry.Origin.{Origin}
 use Rattle.queue_core.specs.declared.command.Command.{Command}
 use Rattle.queue_core.specs.declared.command.Command.TheVariants as commands
 use Rattle.queue_core.specs.declared.reply.Reply.{Reply}
 use Rattle.queue_core.specs.declared.reply.Reply.TheVariants as replies
 use Rattle.queue_core.specs.declared.offers.Offer.{Offer}
+use Rattle.queue_core.specs.declared.parcel.Parcel.{Parcel}
+use Rattle.queue_core.specs.declared.parcel.Arrival.TheVariants as arrivals
 use Rattle.queue_core.specs.declared.facts.Candidate.{Candidate}
+use Rattle.queue_core.specs.declared.facts.Message.{Message}
+use Rattle.queue_core.specs.declared.facts.Transfer.{Transfer}
 use Rattle.queue_core.specs.declared.facts.MessageState.TheVariants.{InFlight}
 use Rattle.queue_core.specs.declared.reply.Look as look
-use Rattle.queue_core.specs.Messages.{is_closed, message_count, message_id, content_of, settings_of, created_time, modified_time, receive_count, first_receive_time, last_receive_time}
-use Rattle.queue_core.specs.States.{is_live, is_in_state, count_in_state, receive_order, is_numbered, gauges_of}
+use Rattle.queue_core.specs.Messages.{is_closed, messages, message_count, own_id, message_id, content_of, settings_of, created_time, modified_time, receive_count, first_receive_time, last_receive_time, waits_for, awaits_transfer, pending_transfers, has_accepted}
+use Rattle.queue_core.specs.States.{is_live, is_in_state, count_in_state, receive_order, message_numbered, is_numbered, gauges_of}
 
 -- a queue: its uid, its name, its limits, its clock in milliseconds, and its journal's lines
 pub record QueueHistory : Type 0 where
@@ -42,9 +48,17 @@ pub record Outcome : Type 0 where
 abbrev pub adds_entry : Outcome → Bool
 adds_entry outcome = is_some outcome.event
 
--- what adds no entry wants no memory: its answer is the outcome's reply, and never want of memory in its place
+-- whether a reply hands over a parcel, which shares a content
+abbrev pub hands_over : Result Reply Fault → Bool
+hands_over (Ok (replies.Parcel (Some parcel))) = true
+hands_over _ = false
+
+abbrev pub takes_memory : Outcome → Bool
+takes_memory outcome = adds_entry outcome || hands_over outcome.reply
+
+-- what adds no entry and hands over no parcel wants no memory: its answer is the outcome's reply, and never want of memory in its place
 abbrev pub IsExact : Outcome → Result Reply Fault → Type 0
-IsExact outcome answer = adds_entry outcome ≡ false → answer ≡ outcome.reply
+IsExact outcome answer = takes_memory outcome ≡ false → answer ≡ outcome.reply
 
 -- refused, without an entry
 abbrev pub uncounted_refusal : Fault → Outcome
@@ -79,7 +93,7 @@ send_outcome q content delay =
     if nat_lt (settings_of q.lines).maximum_message_size (content_size content) then refusal InvalidParameterValue
     else record {
       event = Some (Sent (unwrap_or delay (settings_of q.lines).delay_seconds) content);
-      reply = Ok (replies.Sent (record { number = message_count q.lines; id = message_id q.uid (message_count q.lines) }));
+      reply = Ok (replies.Sent (record { number = message_count q.lines; id = own_id q.uid (message_count q.lines) }));
     }
 
 -- ---- receives
@@ -87,18 +101,47 @@ send_outcome q content delay =
 abbrev pub in_flight_count : QueueHistory → ℕ
 in_flight_count q = count_in_state InFlight q.lines q.clock
 
--- the first of the visible messages, as many as were asked for and as the in-flight limit leaves
+-- how many messages a receive may offer: as many as were asked for and as the in-flight limit leaves
+abbrev pub offer_limit : QueueHistory → ℕ → ℕ
+offer_limit q maximum = min maximum (q.limits.in_flight - in_flight_count q)
+
+-- how many messages may leave by one receive (this project's own)
+abbrev pub most_departures : ℕ
+most_departures = 100
+
+-- a message that was received as often as the queue's policy allows, where it has a policy
+abbrev pub is_exhausted : QueueHistory → Candidate → Bool
+is_exhausted q c = option_map_or (λ p. nat_le p.max_receive_count (receive_count q.lines c.message.number)) (settings_of q.lines).redrive_policy false
+
+-- the candidates that a receive comes to, where it may offer so many and so many may leave: it stops behind the last of either
+abbrev pub scanned : (Candidate → Bool) → ℕ → ℕ → List Candidate → List Candidate
+scanned exhausted offers departures [] = []
+scanned exhausted offers departures (c ∷ cs) =
+    if (offers == 0) || (departures == 0) then []
+    else c ∷ (if exhausted c then scanned exhausted offers (departures - 1) cs else scanned exhausted (offers - 1) departures cs)
+
+abbrev pub scanned_candidates : QueueHistory → ℕ → List Candidate
+scanned_candidates q maximum = scanned (λ c. is_exhausted q c) (offer_limit q maximum) most_departures (receive_order q.lines q.clock)
+
+-- of those it offers the ones that may be received once more, and the others leave
 abbrev pub offered_candidates : QueueHistory → ℕ → List Candidate
-offered_candidates q maximum = take (min maximum (q.limits.in_flight - in_flight_count q)) (receive_order q.lines q.clock)
+offered_candidates q maximum = filter (λ c. not (is_exhausted q c)) (scanned_candidates q maximum)
+
+abbrev pub leaving_candidates : QueueHistory → ℕ → List Candidate
+leaving_candidates q maximum = filter (λ c. is_exhausted q c) (scanned_candidates q maximum)
+
+-- the uid of the queue's dead-letter queue, 0 where it has none
+abbrev pub policy_target : QueueHistory → ℕ
+policy_target q = option_map_or (λ p. p.target) (settings_of q.lines).redrive_policy 0
 
 abbrev pub offer_of : QueueHistory → Candidate → ContentText → Offer
 offer_of q c content = record {
   number = c.message.number;
   receipt = receive_count q.lines c.message.number + 1;
-  id = message_id q.uid c.message.number;
+  id = message_id q.uid c.message;
   sent = c.message.first_send_time;
   first_receive = unwrap_or (first_receive_time q.lines c.message.number) q.clock;
-  source = None;
+  source = option_map (λ origin. origin.name) c.message.origin;
   content = content;
 }
 
@@ -109,11 +152,18 @@ offers_of q candidates = filter_map (λ c. option_map (λ content. offer_of q c 
 abbrev pub numbers_of : List Candidate → List ℕ
 numbers_of candidates = map (λ c. c.message.number) candidates
 
+abbrev pub received_event : QueueHistory → ℕ → Option ℕ → Event ContentText
+received_event q maximum timeout = Received
+    (unwrap_or timeout (settings_of q.lines).visibility_timeout)
+    (numbers_of (offered_candidates q maximum))
+    (numbers_of (leaving_candidates q maximum))
+    (policy_target q)
+
 abbrev pub receive_outcome : QueueHistory → ℕ → Option ℕ → Outcome
 receive_outcome q maximum timeout =
     if nat_le q.limits.in_flight (in_flight_count q) then refusal OverLimit
     else record {
-      event = Some (Received (unwrap_or timeout (settings_of q.lines).visibility_timeout) (numbers_of (offered_candidates q maximum)) [] 0);
+      event = Some (received_event q maximum timeout);
       reply = Ok (replies.Received (offers_of q (offered_candidates q maximum)));
     }
 
@@ -163,6 +213,51 @@ delete_outcome q h =
     then done (if holds_live q h then Deleted h.number else DeletedAgain)
     else refusal ReceiptHandleIsInvalid
 
+-- ---- dead letters
+
+-- a queue accepts a transfer once: one that it has accepted is answered as such, for good
+abbrev pub arrive_outcome : QueueHistory → Parcel → Outcome
+arrive_outcome q p =
+    if has_accepted q.lines p.origin.uid p.origin.number then record { event = None; reply = Ok (replies.Arrived arrivals.Again) }
+    else record { event = Some (Arrived p.origin p.content); reply = Ok (replies.Arrived arrivals.New) }
+
+-- whether the message of a number has left, and its transfer is not confirmed
+abbrev pub is_pending : QueueHistory → ℕ → Bool
+is_pending q number = is_numbered (λ m. awaits_transfer q.lines m) q.lines number
+
+abbrev pub settle_outcome : QueueHistory → ℕ → Outcome
+settle_outcome q number =
+    if is_pending q number then record { event = Some (Settled number); reply = Ok (replies.Settled true) }
+    else record { event = None; reply = Ok (replies.Settled false) }
+
+-- how many messages wait for the dead-letter queue of a uid
+abbrev pub waiting_count : QueueHistory → ℕ → ℕ
+waiting_count q target = count_by (λ m. waits_for q.lines target m) (messages q.lines)
+
+abbrev pub orphan_outcome : QueueHistory → ℕ → Outcome
+orphan_outcome q target = record { event = Some (Orphaned target); reply = Ok (replies.Orphaned (waiting_count q target)) }
+
+-- where a message of this queue comes from, for the queue that it is handed to
+abbrev pub origin_of : QueueHistory → Message → Origin
+origin_of q m = record { uid = q.uid; number = m.number; name = q.name; id = message_id q.uid m; sent = m.first_send_time }
+
+-- what is handed over of a message with its content
+abbrev pub parcel_of : QueueHistory → Transfer → Message → ContentText → Parcel
+parcel_of q t m content = record { origin = origin_of q m; target = t.target; content = content }
+
+-- what is handed over by a transfer
+abbrev pub transferred_parcel : QueueHistory → Transfer → Option Parcel
+transferred_parcel q t = option_and_then (λ m. option_map (λ content. parcel_of q t m content) (content_of q.lines m)) (message_numbered q.lines t.number)
+
+-- the first transfer that is not confirmed
+abbrev pub first_transfer : QueueHistory → Option Transfer
+first_transfer q = slice_get (pending_transfers q.lines) 0
+
+abbrev pub first_parcel_of : QueueHistory → Option Parcel
+first_parcel_of q = option_and_then (λ t. transferred_parcel q t) (first_transfer q)
+
+-- ---- every command
+
 abbrev pub look_of : QueueHistory → look.Look
 look_of q = record {
   gauges = gauges_of q.lines q.clock;
@@ -180,13 +275,26 @@ outcome_of q (commands.Receive maximum timeout) = with_room q (receive_outcome q
 outcome_of q (commands.Change handle timeout) = with_room q (change_outcome q handle timeout)
 outcome_of q (commands.Delete handle) = with_room q (delete_outcome q handle)
 outcome_of q commands.Purge = with_room q (done Purged)
-outcome_of q (commands.Set wish target) = with_room q (done (Set (settings_with (settings_of q.lines) wish)))
+outcome_of q (commands.Set wish target) = with_room q (done (Set (settings_with (settings_of q.lines) wish target)))
+outcome_of q (commands.Arrive parcel) = with_room q (arrive_outcome q parcel)
+outcome_of q (commands.Settle number) = with_room q (settle_outcome q number)
+outcome_of q (commands.Orphan target) = with_room q (orphan_outcome q target)
 outcome_of q commands.Close = close_outcome q
 outcome_of q commands.Look = record { event = None; reply = Ok (replies.Looked (look_of q)) }
+outcome_of q commands.FirstParcel = record { event = None; reply = Ok (replies.Parcel (first_parcel_of q)) }
+
+-- whether a command leaves the clock as it is
+abbrev pub leaves_clock : Command → Bool
+leaves_clock commands.FirstParcel = true
+leaves_clock _ = false
+
+-- the queue that a command comes to at a moment
+abbrev pub reached : QueueHistory → ℕ → Command → QueueHistory
+reached q at command = if leaves_clock command then q else at_moment q at
 
 -- the outcome of a command that comes at a moment
 abbrev pub outcome_at : QueueHistory → ℕ → Command → Outcome
-outcome_at q at command = outcome_of (at_moment q at) command
+outcome_at q at command = outcome_of (reached q at command) command
 
 -- the queue after an event at its clock
 abbrev pub with_event : QueueHistory → Event ContentText → QueueHistory
@@ -196,10 +304,10 @@ abbrev pub with_optional_event : QueueHistory → Option (Event ContentText) →
 with_optional_event q None = q
 with_optional_event q (Some event) = with_event q event
 
--- what a command leaves: where memory ran out, the queue at that moment and no entry more
+-- what a command leaves: where memory ran out, the queue that it came to and no entry more
 abbrev pub after_answer : {T : Type 0} → QueueHistory → ℕ → Command → Result T Fault → QueueHistory
 after_answer q at command answer =
-    if is_out_of_memory answer then at_moment q at else with_optional_event (at_moment q at) (outcome_at q at command).event
+    if is_out_of_memory answer then reached q at command else with_optional_event (reached q at command) (outcome_at q at command).event
 
 -- the reply that a part of it stands for
 abbrev pub as_reply : {T : Type 0} → (T → Reply) → Result T Fault → Result Reply Fault

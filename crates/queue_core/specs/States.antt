@@ -8,16 +8,17 @@ use Rattle.queue_core.specs.declared.facts.Candidate.{Candidate}
 use Rattle.queue_core.specs.declared.facts.MessageState.{MessageState}
 use Rattle.queue_core.specs.declared.facts.MessageState.TheVariants.{Visible, Delayed, InFlight}
 use Rattle.queue_core.specs.declared.gauges.Gauges.{Gauges}
-use Rattle.queue_core.specs.Messages.{messages, is_removed, is_expired, receive_count, due_time}
+use Rattle.queue_core.specs.Messages.{messages, is_present, is_returned, is_expired, receive_count, due_time}
 
--- a message that was neither removed nor has expired
+-- a message that was neither removed nor has left nor has expired
 abbrev pub is_live : {C : Type 0} → List (Entry C) → ℕ → Message → Bool
-is_live lines clock m = not (is_removed lines m) && not (is_expired lines clock m)
+is_live lines clock m = is_present lines m && not (is_expired lines clock m)
 
--- visible from its due time on; before it delayed where it was never received, and else in flight
+-- visible from its due time on; before it delayed where it was never received nor brought back, and else in flight
 abbrev pub waiting_state : {C : Type 0} → List (Entry C) → ℕ → Message → MessageState
 waiting_state lines clock m =
-    if nat_le (due_time lines m) clock then Visible else if receive_count lines m.number == 0 then Delayed else InFlight
+    if nat_le (due_time lines m) clock then Visible
+    else if (receive_count lines m.number == 0) && not (is_returned lines m) then Delayed else InFlight
 
 -- the state of a live message
 abbrev pub state_of : {C : Type 0} → List (Entry C) → ℕ → Message → Option MessageState

@@ -3,6 +3,7 @@
 ghost use Rattle.std.specs.Prelude.{◌≡◌};
 ghost use Rattle.queue_core.specs.Ranges.{IsDelay, IsTimeout, IsMaximum, delay_of, timeout_of, maximum_of};
 
+use crate::parcel::Parcel;
 use journal::Moment;
 use message::Content;
 use queue_config::Wish;
@@ -170,10 +171,24 @@ pub enum Command {
         wish: Wish,
         target: u64,
     },
+    /// Accepts a dead letter of another queue, once.
+    Arrive {
+        parcel: Parcel,
+    },
+    /// Confirms that the dead-letter queue has accepted the message of a number.
+    Settle {
+        number: u64,
+    },
+    /// Takes back the messages that wait for the dead-letter queue of a uid, which is gone.
+    Orphan {
+        target: u64,
+    },
     /// Closes the queue for good.
     Close,
     /// Looks at the queue, and moves its clock.
     Look,
+    /// Asks for the dead letter that has waited longest to be handed over. The clock stays.
+    FirstParcel,
 }
 
 /// A command and the moment that it comes at.

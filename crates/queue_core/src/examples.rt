@@ -1,15 +1,17 @@
 //! The definitions in `specs/`, computed on small journals. Nothing runs here: each function is
 //! empty, and the checker computes what its contract says.
 
-ghost use Rattle.std.specs.Prelude.{◌≡◌, ◌∷◌, [], true, false, Some, None};
+ghost use Rattle.std.specs.Prelude.{◌≡◌, ◌∷◌, [], true, false, Some, None, Ok};
 ghost use Rattle.message.specs.declared.fault.Fault.TheVariants.{InvalidParameterValue, ReceiptHandleIsInvalid, MessageNotInflight, OverLimit, JournalFull};
 ghost use Rattle.queue_config.specs.Limits.{default_limits};
 ghost use Rattle.queue_config.specs.Settings.{default_settings, no_requested_attributes};
 ghost use Rattle.journal.specs.declared.entry.Event.TheVariants as events;
-ghost use Rattle.queue_core.specs.declared.command.Command.TheVariants.{Send, Receive, Change, Delete, Purge, Set, Look};
-ghost use Rattle.queue_core.specs.Messages.{is_expired, created_time, modified_time};
+ghost use Rattle.queue_core.specs.declared.command.Command.TheVariants.{Send, Receive, Change, Delete, Purge, Set, Arrive, Settle, Orphan, Look};
+ghost use Rattle.queue_core.specs.declared.reply.Reply.TheVariants as replies;
+ghost use Rattle.queue_core.specs.declared.parcel.Arrival.TheVariants as arrivals;
+ghost use Rattle.queue_core.specs.Messages.{settings_of, is_expired, created_time, modified_time};
 ghost use Rattle.queue_core.specs.States.{oldest_age, receive_order};
-ghost use Rattle.queue_core.specs.Queue.{at_moment, numbers_of, outcome_at, done, refusal, uncounted_refusal};
+ghost use Rattle.queue_core.specs.Queue.{at_moment, numbers_of, outcome_at, first_parcel_of, done, refusal, uncounted_refusal};
 ghost use Rattle.queue_core.specs.Queue.{QueueHistory};
 ghost use Rattle.queue_core.specs.Legal.{IsAllowedIn};
 ghost use Rattle.queue_core.specs.Examples as example;
@@ -233,6 +235,42 @@ pub fn clocks_never_fall()
     ensures no_memory { example.left_without_memory (example.queue 9000 example.only_opened)
         9500 (Send example.letter_a None)
         ≡ example.queue 9500 example.only_opened }
+{}
+
+/// A message that was received as often as its queue's policy allows is not offered again: it leaves,
+/// and waits, also through a purge. Where the dead-letter queue is lost it comes back, visible at once,
+/// and the policy that named that queue is gone.
+pub fn dead_letters_leave_and_come_back()
+    ensures leaves { (example.outcome example.one_received_of_two 5000 (Receive 1 None)).event
+        ≡ Some (events.Received 1 (1 ∷ []) (0 ∷ []) 9) }
+    ensures gone { example.counts_at 5000 example.first_of_two_left ≡ example.counts 0 0 1 }
+    ensures waits { first_parcel_of (example.queue 5000 example.first_of_two_left)
+        ≡ Some example.parcel_of_a }
+    ensures not_purged { first_parcel_of (example.queue 5001 example.first_of_two_left_and_purged)
+        ≡ Some example.parcel_of_a }
+    ensures confirmed { example.outcome example.first_of_two_left 5001 (Settle 0)
+        ≡ record { event = Some (events.Settled 0); reply = Ok (replies.Settled true) } }
+    ensures not_waiting { example.outcome example.first_of_two_left 5001 (Settle 1)
+        ≡ record { event = None; reply = Ok (replies.Settled false) } }
+    ensures lost { example.outcome example.first_of_two_left 5002 (Orphan 9)
+        ≡ record { event = Some (events.Orphaned 9); reply = Ok (replies.Orphaned 1) } }
+    ensures back { example.counts_at 5002 example.first_of_two_back ≡ example.counts 1 0 1 }
+    ensures nothing_waits { first_parcel_of (example.queue 5002 example.first_of_two_back) ≡ None }
+    ensures without_its_policy { settings_of example.first_of_two_back ≡ example.with_timeout 1 }
+{}
+
+/// A dead letter is accepted once. Its age runs from its arrival, its retention from the first send.
+pub fn dead_letters_arrive()
+    ensures accepted { (example.outcome (example.opened_with (example.with_retention 60)) 5000
+        (Arrive example.parcel_of_a)).event
+        ≡ Some (events.Arrived example.origin_of_a example.letter_a) }
+    ensures again { example.outcome example.arrived_at_five_seconds 6000 (Arrive example.parcel_of_a)
+        ≡ record { event = None; reply = Ok (replies.Arrived arrivals.Again) } }
+    ensures aged_from_its_arrival { oldest_age example.arrived_at_five_seconds 59999 ≡ 54 }
+    ensures kept_from_its_first_send { example.counts_at 60999 example.arrived_at_five_seconds
+        ≡ example.counts 1 0 0 }
+    ensures until_that_is_over { example.counts_at 61000 example.arrived_at_five_seconds
+        ≡ example.counts 0 0 0 }
 {}
 
 /// The times and the age that a look tells.

@@ -1,6 +1,6 @@
 //! What a journal says of a message.
 
-use journal::Moment;
+use journal::{Moment, Origin};
 
 /// A message of a queue, as the entry that begins it has it.
 #[derive(Clone, Copy, Debug, PartialEq, Eq)]
@@ -15,15 +15,21 @@ pub struct Message {
     pub first_send_time: Moment,
     /// When it is to be offered first, in milliseconds. It may pass the greatest moment.
     pub first_due_time: u64,
+    /// Where it came from, where it is a dead letter of another queue.
+    pub origin: Option<Origin>,
 }
 
-/// Whether a message is there.
+/// Where a message stands.
 #[derive(Clone, Copy, Debug, PartialEq, Eq)]
 pub enum Status {
     /// It is there, or has expired.
     Present,
-    /// It was deleted, or was there when the queue was purged or closed.
+    /// It was deleted, or was there when the queue was purged, or the queue was closed.
     Removed,
+    /// It has left for the dead-letter queue of a uid, which has not confirmed the transfer.
+    Waiting { target: u64 },
+    /// It has left, and the transfer is confirmed.
+    Transferred,
 }
 
 /// What has become of a message since its entry.
@@ -32,6 +38,15 @@ pub struct Course {
     pub status: Status,
     /// When it is to be offered next, in milliseconds. It may pass the greatest moment.
     pub due: u64,
+    /// Whether it left and came back, since the queue that it left for was gone.
+    pub returned: bool,
+}
+
+/// A message that has left, by its number, and the uid of the dead-letter queue that it left for.
+#[derive(Clone, Copy, Debug, PartialEq, Eq)]
+pub struct Transfer {
+    pub number: u64,
+    pub target: u64,
 }
 
 /// The state of a live message, in the words of Amazon SQS.

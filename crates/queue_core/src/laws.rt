@@ -1,13 +1,12 @@
 //! Laws about the definitions in `specs/`, for every journal and every queue. Nothing runs here:
 //! each function is empty, and its contract is the law.
 
-ghost use Rattle.std.specs.Prelude.{◌≡◌, ◌≢◌, ℕ, ◌+◌, ◌-◌, ◌*◌, ◌≤◌, min, true, count_by, List, [], ◌∷◌, ◌++◌, map, length, Option, Some, Result, Ok, Err, IsTrue};
+ghost use Rattle.std.specs.Prelude.{◌≡◌, ◌≢◌, ℕ, ◌+◌, ◌-◌, ◌*◌, ◌≤◌, ◌<◌, min, true, count_by, List, [], ◌∷◌, ◌++◌, map, length, Option, Some, None, Result, Ok, Err, IsTrue};
 ghost use Rattle.std.specs.List.{All, AllPairs, Contains};
 ghost use Rattle.message.specs.declared.fault.Fault.{Fault};
 ghost use Rattle.message.specs.Fault.{Meets};
 ghost use Rattle.message.specs.Content.{ContentText};
 ghost use Rattle.journal.specs.declared.entry.Entry.{Entry};
-ghost use Rattle.journal.specs.declared.entry.Event.TheVariants.{Received};
 ghost use Rattle.queue_core.specs.declared.command.Command.{Command};
 ghost use Rattle.queue_core.specs.declared.command.Command.TheVariants.{Send, Look};
 ghost use Rattle.queue_core.specs.declared.command.Step.{Step};
@@ -19,7 +18,7 @@ ghost use Rattle.queue_core.specs.declared.facts.Candidate.{Candidate};
 ghost use Rattle.queue_core.specs.declared.facts.MessageState.TheVariants.{Visible, Delayed, InFlight};
 ghost use Rattle.queue_core.specs.Messages.{messages, settings_of, receive_count, is_removed, is_expired, due_time};
 ghost use Rattle.queue_core.specs.States.{is_live, is_in_state, count_in_state, gauges_of, candidate_of, receive_order};
-ghost use Rattle.queue_core.specs.Queue.{QueueHistory, at_moment, outcome_at, with_event, after_answer, look_of, in_flight_count, offered_candidates, offers_of, numbers_of};
+ghost use Rattle.queue_core.specs.Queue.{QueueHistory, at_moment, reached, outcome_at, with_event, after_answer, look_of, in_flight_count, scanned_candidates, offered_candidates, leaving_candidates, received_event, offers_of, numbers_of};
 ghost use Rattle.queue_core.specs.Lasting.{StandsAs, content_numbered};
 ghost use Rattle.queue_core.specs.Run.{AreExact, after_all};
 ghost use Rattle.queue_core.specs.Mark.{mark_of};
@@ -45,21 +44,22 @@ pub fn messages_need_no_content()
         → receive_order (map mark_of lines) clock ≡ receive_order lines clock }
 {}
 
-/// What a receive offers stands first in the order of the visible messages. In that order each
-/// message comes before every later one, by the time at which it is due and, of equal times, by
-/// its number. So each message that is offered comes before each visible one that is not, and none
-/// is offered twice.
+/// The messages that a receive comes to, each of which it offers or lets leave, stand first in the
+/// order of the visible messages. In that order each message comes before every later one, by the time
+/// at which it is due and, of equal times, by its number. So each message that is offered or leaves
+/// comes before each visible one that does neither, and no message is offered twice, or offered and let
+/// go.
 pub fn offers_are_the_first_in_order()
     ensures first { (q : QueueHistory) (maximum : ℕ)
-        → offered_candidates q maximum ++ remaining_candidates q maximum
+        → scanned_candidates q maximum ++ remaining_candidates q maximum
         ≡ receive_order q.lines q.clock }
     ensures in_order { (lines : List (Entry ContentText)) (clock : ℕ)
         → AllPairs (λ a b. ComesBefore a b) (receive_order lines clock) }
     ensures before_the_rest { (q : QueueHistory) (maximum : ℕ) (a b : Candidate)
-        → Contains (offered_candidates q maximum) a → Contains (remaining_candidates q maximum) b
+        → Contains (scanned_candidates q maximum) a → Contains (remaining_candidates q maximum) b
         → ComesBefore a b }
     ensures once { (q : QueueHistory) (maximum : ℕ)
-        → AllPairs (λ a b. a ≢ b) (numbers_of (offered_candidates q maximum)) }
+        → AllPairs (λ a b. a ≢ b) (numbers_of (scanned_candidates q maximum)) }
 {}
 
 /// The order has each visible message, with the time at which it is due, and nothing else.
@@ -71,15 +71,25 @@ pub fn each_visible_message_has_its_turn()
         → All (λ c. IsVisibleCandidate lines clock c) (receive_order lines clock) }
 {}
 
-/// A receive offers as many messages as it asks for, as the in-flight limit leaves and as are
-/// visible, whichever is least.
+/// A receive offers at most as many messages as it asks for and as the in-flight limit leaves, and at
+/// most 100 leave by it. Where it stays below both, it comes to every visible message. Without a
+/// dead-letter queue it offers as many as it asks for, as the limit leaves and as are visible, whichever
+/// is least.
 pub fn as_many_are_offered_as_may_be()
     ensures order { (lines : List (Entry ContentText)) (clock : ℕ)
         → length (receive_order lines clock) ≡ count_in_state Visible lines clock }
-    ensures offered { (q : QueueHistory) (maximum : ℕ)
+    ensures at_most { (q : QueueHistory) (maximum : ℕ)
+        → length (offered_candidates q maximum) ≤ min maximum (q.limits.in_flight - in_flight_count q) }
+    ensures leaving { (q : QueueHistory) (maximum : ℕ)
+        → length (leaving_candidates q maximum) ≤ 100 }
+    ensures all { (q : QueueHistory) (maximum : ℕ)
+        → length (offered_candidates q maximum) < min maximum (q.limits.in_flight - in_flight_count q)
+        → length (leaving_candidates q maximum) < 100
+        → scanned_candidates q maximum ≡ receive_order q.lines q.clock }
+    ensures without_policy { (q : QueueHistory) (maximum : ℕ)
+        → (settings_of q.lines).redrive_policy ≡ None
         → length (offered_candidates q maximum)
-        ≡ min maximum (min (q.limits.in_flight - in_flight_count q)
-        (count_in_state Visible q.lines q.clock)) }
+        ≡ min (min maximum (q.limits.in_flight - in_flight_count q)) (count_in_state Visible q.lines q.clock) }
 {}
 
 /// The offers that answer a receive are those of the numbers that its entry records, in that order:
@@ -98,12 +108,12 @@ pub fn each_live_message_is_in_one_state()
         ≡ count_by (λ m. is_live lines clock m) (messages lines) }
 {}
 
-/// A call that is refused, or finds no memory, leaves the counts, the age, the order, the settings and
-/// what each handle may do as they are at its moment without it.
+/// A call that is refused, or finds no memory, leaves the messages, the counts, the age, the order, the
+/// settings, the times and what each handle may do as they are at its moment without it.
 pub fn refused_calls_change_nothing()
     ensures stands { (q : QueueHistory) (at : ℕ) (command : Command) (fault : Fault)
         → Meets {T = Reply} (Err fault) (outcome_at q at command).reply
-        → StandsAs (after_answer {T = Reply} q at command (Err fault)) (at_moment q at) }
+        → StandsAs (after_answer {T = Reply} q at command (Err fault)) (reached q at command) }
 {}
 
 /// A message that is gone stays so, whatever commands follow, at whatever moments and with whatever
@@ -143,6 +153,6 @@ pub fn no_message_is_offered_early()
         → All (λ c. due_time q.lines c.message ≤ q.clock) (offered_candidates q maximum) }
     ensures due_again { (q : QueueHistory) (maximum timeout : ℕ) (c : Candidate)
         → Contains (offered_candidates q maximum) c
-        → due_time (with_event q (Received timeout (numbers_of (offered_candidates q maximum)) [] 0)).lines c.message
+        → due_time (with_event q (received_event q maximum (Some timeout))).lines c.message
         ≡ q.clock + 1000 * timeout }
 {}

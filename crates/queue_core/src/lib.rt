@@ -24,11 +24,13 @@ mod laws;
 mod numbering;
 mod offers;
 mod order;
+mod parcel;
 mod reading;
 mod reply;
 mod state;
 #[cfg(test)]
 mod tests;
+mod transfers;
 
 pub use command::{
     Command, Delay, LONGEST_DELAY, LONGEST_TIMEOUT, MOST_OFFERS, Maximum, Step, Timeout,
@@ -42,5 +44,6 @@ pub use laws::{
     what_is_gone_stays_gone,
 };
 pub use offers::{Offer, Offers};
+pub use parcel::{Arrival, Parcel};
 pub use reply::{Look, Posted, Reply};
 pub use state::QueueState;

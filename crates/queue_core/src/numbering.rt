@@ -30,6 +30,15 @@ fn message_of(line: &Line, place: usize, number: u64) -> Option<Message>
             enqueue_time: line.at,
             first_send_time: line.at,
             first_due_time: line.at.milliseconds() + 1000 * u64::from(*delay),
+            origin: None,
+        }),
+        Event::Arrived { origin, .. } => Some(Message {
+            number,
+            place,
+            enqueue_time: line.at,
+            first_send_time: origin.sent,
+            first_due_time: line.at.milliseconds(),
+            origin: Some(*origin),
         }),
         _ => None,
     }

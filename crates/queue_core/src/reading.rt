@@ -4,7 +4,8 @@
 ghost use Rattle.std.specs.Prelude.{◌≡◌, ◌-◌, ◌/◌, ◌≤◌, length, if◌then◌else◌, ◌&&◌};
 ghost use Rattle.std.specs.Option.{option_copied};
 ghost use Rattle.std.specs.List.{find};
-ghost use Rattle.queue_core.specs.Messages.{messages, content_of, message_count, settings_of, settings_after, created_time, modified_time, gives_settings, opens, closes_period, runs_out_in, is_expired, contains_number, offers_number, receive_count, first_receive_time, last_receive_time, status_after, due_after, course_after, course_of, due_time, is_removed, closes, is_closed};
+ghost use Rattle.queue_core.specs.Messages.{messages, content_of, message_count, settings_of, settings_after, created_time, modified_time, gives_settings, opens, closes_period, runs_out_in, is_expired, contains_number, offers_number, receive_count, first_receive_time, last_receive_time, loses, status_after, returns, due_after, course_after, course_of, due_time, is_present, is_returned, waits_for, awaits_transfer, closes, is_closed};
+ghost use Rattle.queue_core.specs.declared.facts.Status.TheVariants.{Present, Waiting};
 ghost use Rattle.queue_core.specs.States.{is_live, state_of, is_in_state, count_in_state, oldest_age, gauges_of, message_numbered};
 
 use crate::facts::{Course, Message, MessageState, Status};
@@ -33,7 +34,7 @@ pub(crate) fn content_of<'a>(journal: &'a Journal, message: &Message) -> Option<
     ensures { option_copied result ≡ content_of journal.now.lines message.now }
 {
     match &journal.peek(message.place)?.event {
-        Event::Sent { content, .. } => Some(content),
+        Event::Sent { content, .. } | Event::Arrived { content, .. } => Some(content),
         _ => None,
     }
 }
@@ -44,6 +45,7 @@ fn settings_after(settings: Settings, event: &Event<Content>) -> Settings
 {
     match event {
         Event::Opened { settings, .. } | Event::Set { settings } => *settings,
+        Event::Orphaned { target } => settings.without_target(*target),
         _ => settings,
     }
 }
@@ -215,19 +217,68 @@ pub(crate) fn last_receive_time(journal: &Journal, number: u64) -> Moment
     time
 }
 
+/// Where a message that is there stands after an event.
+fn present_after(number: u64, event: &Event<Content>) -> Status
+    ensures { result ≡ status_after number Present event.now }
+{
+    match event {
+        Event::Deleted { number: deleted } if *deleted == number => Status::Removed,
+        Event::Purged | Event::Closed => Status::Removed,
+        Event::Received {
+            leaving,
+            target,
+            ..
+        } if contains_number(leaving, number) => Status::Waiting { target: *target },
+        _ => Status::Present,
+    }
+}
+
+/// Where a message that waits for the dead-letter queue of a uid stands after an event.
+fn waiting_after(number: u64, target: u64, event: &Event<Content>) -> Status
+    ensures { result ≡ status_after number (Waiting target) event.now }
+{
+    match event {
+        Event::Orphaned { target: lost } if *lost == target => Status::Present,
+        Event::Settled { number: settled } if *settled == number => Status::Transferred,
+        Event::Closed => Status::Removed,
+        _ => Status::Waiting { target },
+    }
+}
+
 /// Where the message of a number stands after an event.
 fn status_after(number: u64, status: Status, event: &Event<Content>) -> Status
     ensures { result ≡ status_after number status event.now }
 {
-    match (status, event) {
-        (Status::Present, Event::Deleted { number: deleted }) if *deleted == number =>
-            Status::Removed,
-        (Status::Present, Event::Purged | Event::Closed) => Status::Removed,
-        _ => status,
+    match status {
+        Status::Present => present_after(number, event),
+        Status::Waiting { target } => waiting_after(number, target, event),
+        Status::Transferred if closes(event) => Status::Removed,
+        Status::Transferred | Status::Removed => status,
     }
 }
 
-/// When the message of a number is due, in milliseconds, after an event at a time.
+/// Whether an event says that the dead-letter queue of a uid is gone.
+fn loses(target: u64, event: &Event<Content>) -> bool
+    ensures { result ≡ loses target event.now }
+{
+    match event {
+        Event::Orphaned { target: lost } => *lost == target,
+        _ => false,
+    }
+}
+
+/// Whether an event brings back a message that stands so.
+fn returns(status: Status, event: &Event<Content>) -> bool
+    ensures { result ≡ returns status event.now }
+{
+    match status {
+        Status::Waiting { target } => loses(target, event),
+        _ => false,
+    }
+}
+
+/// When the message of a number is due, in milliseconds, after an event at a time which does not
+/// bring it back.
 fn due_after(number: u64, due: u64, at: Moment, event: &Event<Content>) -> u64
     ensures { result ≡ due_after number due at event.now }
 {
@@ -250,9 +301,15 @@ fn due_after(number: u64, due: u64, at: Moment, event: &Event<Content>) -> u64
 fn course_after(number: u64, course: Course, line: &Line) -> Course
     ensures { result ≡ course_after number course line.now }
 {
+    let back = returns(course.status, &line.event);
     Course {
         status: status_after(number, course.status, &line.event),
-        due: due_after(number, course.due, line.at, &line.event),
+        due: if back {
+            line.at.milliseconds()
+        } else {
+            due_after(number, course.due, line.at, &line.event)
+        },
+        returned: back || course.returned,
     }
 }
 
@@ -263,6 +320,7 @@ fn course_of(journal: &Journal, message: &Message) -> Course
     let mut course = Course {
         status: Status::Present,
         due: message.first_due_time,
+        returned: false,
     };
     for place in message.place..journal.len() {
         course = course_after(message.number, course, line_at(journal, place));
@@ -277,18 +335,42 @@ pub(crate) fn due_time(journal: &Journal, message: &Message) -> u64
     course_of(journal, message).due
 }
 
-/// Whether a message was deleted, purged, or gone with its queue.
-fn is_removed(journal: &Journal, message: &Message) -> bool
-    ensures { result ≡ is_removed journal.now.lines message.now }
+/// Whether a message was neither removed nor has left.
+fn is_present(journal: &Journal, message: &Message) -> bool
+    ensures { result ≡ is_present journal.now.lines message.now }
 {
-    matches!(course_of(journal, message).status, Status::Removed)
+    matches!(course_of(journal, message).status, Status::Present)
 }
 
-/// Whether a message was neither removed nor has expired.
+/// Whether a message left and came back.
+fn is_returned(journal: &Journal, message: &Message) -> bool
+    ensures { result ≡ is_returned journal.now.lines message.now }
+{
+    course_of(journal, message).returned
+}
+
+/// Whether a message has left for the dead-letter queue of a uid, and the transfer is not confirmed.
+pub(crate) fn waits_for(journal: &Journal, target: u64, message: &Message) -> bool
+    ensures { result ≡ waits_for journal.now.lines target message.now }
+{
+    match course_of(journal, message).status {
+        Status::Waiting { target: own } => own == target,
+        _ => false,
+    }
+}
+
+/// Whether a message has left, and the transfer is not confirmed.
+pub(crate) fn awaits_transfer(journal: &Journal, message: &Message) -> bool
+    ensures { result ≡ awaits_transfer journal.now.lines message.now }
+{
+    matches!(course_of(journal, message).status, Status::Waiting { .. })
+}
+
+/// Whether a message was neither removed nor has left nor has expired.
 pub(crate) fn is_live(journal: &Journal, clock: Moment, message: &Message) -> bool
     ensures { result ≡ is_live journal.now.lines clock message.now }
 {
-    !is_removed(journal, message) && !is_expired(journal, clock, message)
+    is_present(journal, message) && !is_expired(journal, clock, message)
 }
 
 /// The state of a message, where it is live.
@@ -300,7 +382,7 @@ fn state_of(journal: &Journal, clock: Moment, message: &Message) -> Option<Messa
     }
     if due_time(journal, message) <= clock.milliseconds() {
         Some(MessageState::Visible)
-    } else if receive_count(journal, message.number) == 0 {
+    } else if receive_count(journal, message.number) == 0 && !is_returned(journal, message) {
         Some(MessageState::Delayed)
     } else {
         Some(MessageState::InFlight)

@@ -2,6 +2,7 @@
 
 use crate::gauges::Gauges;
 use crate::offers::Offers;
+use crate::parcel::{Arrival, Parcel};
 use journal::Moment;
 use message::MessageId;
 use queue_config::Settings;
@@ -39,6 +40,14 @@ pub enum Reply {
     Received(Offers),
     /// To a look.
     Looked(Look),
+    /// To a parcel that arrives.
+    Arrived(Arrival),
+    /// To a confirmation: whether the message waited for it.
+    Settled(bool),
+    /// To the loss of a dead-letter queue: how many messages came back.
+    Orphaned(u64),
+    /// To the question for the first parcel.
+    Parcel(Option<Parcel>),
     /// To the other commands.
     Done,
 }

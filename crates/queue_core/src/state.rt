@@ -1,24 +1,36 @@
 //! A queue, kept as its journal and a clock.
 
-ghost use Rattle.std.specs.Prelude.{◌≡◌, ◌-◌, ◌<◌, ◌≤◌, ◌^◌, ◌≢◌, nat_lt, nat_le, false, if◌then◌else◌, unwrap_or, Some, None, IsTrue, IfSome, IfOk, OnOk, OnErr, IfErr};
+ghost use Rattle.std.specs.Prelude.{◌≡◌, ◌-◌, ◌<◌, ◌≤◌, ◌^◌, ◌≢◌, nat_lt, nat_le, not, filter, false, if◌then◌else◌, unwrap_or, Some, None, IsTrue, IfSome, IfOk, OnOk, OnErr, IfErr};
 ghost use Rattle.std.specs.Option.{ForSome};
 ghost use Rattle.message.specs.declared.fault.Fault.TheVariants.{OutOfMemory};
 ghost use Rattle.message.specs.Fault.{Meets, is_out_of_memory};
 ghost use Rattle.message.specs.Content.{content_size, is_content};
 ghost use Rattle.queue_config.specs.Settings.{AreSettings, settings_with};
 
-use crate::command::{Command, Step};
-use crate::facts::{Candidate, MessageState};
+use crate::command::{Command, Maximum, Step, Timeout};
+use crate::facts::{Candidate, Message, MessageState};
 use crate::gauges::Gauges;
 use crate::offers::{Offer, Offers};
 use crate::reply::{Look, Posted, Reply};
 use crate::{order, reading};
-use journal::{Entry, Event, Journal, Moment, Numbers, Ticks};
+use journal::{Entry, Event, Journal, Moment, Ticks};
 use message::{Content, Fault, MessageId, QueueName};
 use queue_config::{Limits, Settings, Wish};
 use receipt_handle::Handle;
 use std::alloc::Global;
 use std::marker::Model;
+
+mod dead_letters;
+
+/// How many messages may leave by one receive. This project's own choice.
+const MOST_DEPARTURES: u64 = 100;
+
+/// What a receive does: the messages that it offers and those that leave, each in order.
+#[derive(Drop)]
+struct Scan {
+    offered: Vec<Candidate>,
+    leaving: Vec<Candidate>,
+}
 
 /// One queue. Contracts see its uid, its name, its limits, its clock and its journal's lines.
 ///
@@ -48,9 +60,9 @@ impl Model for QueueState {
 impl QueueState {
     ghost use Rattle.journal.specs.declared.entry.Event.TheVariants.{Deleted, DeletedAgain, Refused};
     ghost use Rattle.queue_core.specs.declared.facts.MessageState.TheVariants.{InFlight};
-    ghost use Rattle.queue_core.specs.Messages.{is_closed, message_count, content_of, settings_of, receive_count, first_receive_time};
+    ghost use Rattle.queue_core.specs.Messages.{is_closed, message_count, own_id, message_id, content_of, settings_of, receive_count, first_receive_time};
     ghost use Rattle.queue_core.specs.States.{is_live, is_in_state, is_numbered, gauges_of};
-    ghost use Rattle.queue_core.specs.Queue.{at_moment, is_full, first_refusal, in_flight_count, offered_candidates, offer_of, offers_of, is_valid_handle, is_latest_handle, holds_in_flight, holds_live, passes_twelve_hours, change_refusal, look_of, outcome_at, IsExact, with_event, after_answer, as_reply};
+    ghost use Rattle.queue_core.specs.Queue.{at_moment, is_full, first_refusal, in_flight_count, offer_limit, is_exhausted, most_departures, scanned, offered_candidates, leaving_candidates, policy_target, offer_of, offers_of, is_valid_handle, is_latest_handle, holds_in_flight, holds_live, passes_twelve_hours, change_refusal, look_of, outcome_at, IsExact, with_event, after_answer, as_reply};
     ghost use Rattle.queue_core.specs.Ranges.{IsDelay, IsTimeout, IsMaximum};
     ghost use Rattle.queue_core.specs.Legal.{IsLegal, IsCausedIn};
     ghost use Rattle.queue_core.specs.Kept.{opened_queue};
@@ -166,8 +178,8 @@ impl QueueState {
         delay.unwrap_or(self.settings().delay_seconds)
     }
 
-    /// The number of the next message.
-    fn message_count(&self) -> u64
+    /// How many messages the queue ever had, which is the number of the next.
+    pub fn message_count(&self) -> u64
         ensures { result ≡ message_count self.now.lines }
     {
         reading::message_count(&self.journal)
@@ -194,15 +206,70 @@ impl QueueState {
         u64::from(self.limits.in_flight).saturating_sub(self.in_flight_count())
     }
 
-    /// The messages that a receive of at most so many offers, in order.
-    fn offered_candidates(&self, alloc: Global, maximum: u8) -> Result<Vec<Candidate>, Fault>
-        ensures ok { IfOk result (λ candidates. candidates.items ≡ offered_candidates self.now maximum) }
+    /// How many messages a receive of at most so many may offer.
+    fn offer_limit(&self, maximum: u8) -> u64
+        ensures { result ≡ offer_limit self.now maximum }
+    {
+        u64::from(maximum).min(self.free_in_flight())
+    }
+
+    /// Whether a message was received as often as the queue's policy allows.
+    fn is_exhausted(&self, candidate: &Candidate) -> bool
+        ensures { result ≡ is_exhausted self.now candidate.now }
+    {
+        match self.settings().redrive_policy {
+            Some(policy) => {
+                u64::from(policy.max_receive_count) <= self.receive_count(candidate.message.number)
+            }
+            None => false,
+        }
+    }
+
+    /// The messages that a receive of at most so many offers, and those that leave by it.
+    fn scan(&self, alloc: Global, maximum: u8) -> Result<Scan, Fault>
+        ensures offered { IfOk result (λ scan. scan.offered.items ≡ offered_candidates self.now maximum) }
+        ensures leaving { IfOk result (λ scan. scan.leaving.items ≡ leaving_candidates self.now maximum) }
         ensures errors { IfErr result (λ fault. fault ≡ OutOfMemory) }
     {
-        let most = u64::from(maximum).min(self.free_in_flight());
-        let mut order = order::receive_order(alloc, &self.journal, self.clock)?;
-        order.truncate(most as usize);
-        Ok(order)
+        let order = order::receive_order(alloc, &self.journal, self.clock)?;
+        self.scan_in_order(alloc, order.as_slice(), self.offer_limit(maximum))
+    }
+
+    /// Goes through the candidates until so many are offered or 100 leave.
+    fn scan_in_order(&self, alloc: Global, order: &[Candidate], offers: u64) -> Result<Scan, Fault>
+        ensures offered { IfOk result (λ scan. scan.offered.items
+            ≡ filter (λ c. not (is_exhausted self.now c)) (scanned (λ c. is_exhausted self.now c) offers most_departures order.now)) }
+        ensures leaving { IfOk result (λ scan. scan.leaving.items
+            ≡ filter (λ c. is_exhausted self.now c) (scanned (λ c. is_exhausted self.now c) offers most_departures order.now)) }
+        ensures errors { IfErr result (λ fault. fault ≡ OutOfMemory) }
+    {
+        let mut offered = Vec::new(alloc);
+        let mut leaving = Vec::new(alloc);
+        let mut may_be_offered = offers;
+        let mut may_leave = MOST_DEPARTURES;
+        for candidate in order {
+            if may_be_offered == 0 || may_leave == 0 {
+                return Ok(Scan { offered, leaving });
+            }
+            if self.is_exhausted(candidate) {
+                leaving.push(*candidate)?;
+                may_leave -= 1;
+            } else {
+                offered.push(*candidate)?;
+                may_be_offered -= 1;
+            }
+        }
+        Ok(Scan { offered, leaving })
+    }
+
+    /// The uid of the queue's dead-letter queue, 0 where it has none.
+    fn policy_target(&self) -> u64
+        ensures { result ≡ policy_target self.now }
+    {
+        match self.settings().redrive_policy {
+            Some(policy) => policy.target,
+            None => 0,
+        }
     }
 
     /// The offer of a message with its content.
@@ -213,10 +280,10 @@ impl QueueState {
         Offer {
             number,
             receipt: self.receive_count(number) + 1,
-            id: self.message_id(number),
+            id: self.message_id(&candidate.message),
             sent: candidate.message.first_send_time,
             first_receive: self.first_receive_or_now(number),
-            source: None,
+            source: candidate.message.origin.map(|origin| origin.name),
             content,
         }
     }
@@ -336,12 +403,22 @@ impl QueueState {
     }
 
     /// The id of a message that is sent to this queue.
-    fn message_id(&self, number: u64) -> MessageId
-        ensures { result ≡ record { uid = self.now.uid; number = number } }
+    fn own_id(&self, number: u64) -> MessageId
+        ensures { result ≡ own_id self.now.uid number }
     {
         MessageId {
             uid: self.uid,
             number,
+        }
+    }
+
+    /// The id of a message, which it may have brought with it.
+    fn message_id(&self, message: &Message) -> MessageId
+        ensures { result ≡ message_id self.now.uid message.now }
+    {
+        match message.origin {
+            Some(origin) => origin.id,
+            None => self.own_id(message.number),
         }
     }
 
@@ -388,7 +465,7 @@ impl QueueState {
             return self.refuse(alloc, Fault::InvalidParameterValue);
         }
         let number = self.message_count();
-        let id = self.message_id(number);
+        let id = self.own_id(number);
         let delay = self.delay_or_own(delay);
         self.add(alloc, Event::Sent { delay, content })?;
         Ok(Posted { number, id })
@@ -396,8 +473,9 @@ impl QueueState {
 
     /// Offers visible messages, the earliest due first and of those due at one time the lower number
     /// first, at most as many as asked for and as the in-flight limit leaves room for. Each is due
-    /// again a timeout in seconds later, or the queue's own; with 0 seconds it stays visible. A
-    /// receive that offers nothing is an entry too. At the in-flight limit it answers `OverLimit`,
+    /// again a timeout in seconds later, or the queue's own; with 0 seconds it stays visible. Where the
+    /// queue has a dead-letter queue, a message that was received as often as its policy allows is not
+    /// offered: it leaves, at most 100 at a time. A receive that offers nothing is an entry too. At the in-flight limit it answers `OverLimit`,
     /// which is an entry; a full journal answers `JournalFull`; with `OutOfMemory` only the clock has
     /// moved.
     pub fn receive(
@@ -418,16 +496,34 @@ impl QueueState {
         if self.is_at_in_flight_limit() {
             return self.refuse(alloc, Fault::OverLimit);
         }
-        let candidates = self.offered_candidates(alloc, maximum)?;
-        let offers = self.offers_of(alloc, candidates.as_slice())?;
+        let scan = self.scan(alloc, maximum)?;
+        let offers = self.offers_of(alloc, scan.offered.as_slice())?;
         let event = Event::Received {
             timeout: self.timeout_or_own(timeout),
-            offered: order::numbers_of(alloc, candidates.as_slice())?,
-            leaving: Numbers::new(alloc),
-            target: 0,
+            offered: order::numbers_of(alloc, scan.offered.as_slice())?,
+            leaving: order::numbers_of(alloc, scan.leaving.as_slice())?,
+            target: self.policy_target(),
         };
         self.add(alloc, event)?;
         Ok(offers)
+    }
+
+    /// The same for numbers that are in range by their type, with the reply as a whole.
+    fn receive_checked(
+        &mut self,
+        alloc: Global,
+        at: Moment,
+        maximum: Maximum,
+        timeout: Option<Timeout>,
+        ticks: &mut Ticks,
+    ) -> Result<Reply, Fault>
+        ensures answer { Meets result (outcome_at self.old at (Command.Receive maximum timeout)).reply }
+        ensures exact { IsExact (outcome_at self.old at (Command.Receive maximum timeout)) result }
+        ensures state { self.new ≡ after_answer self.old at (Command.Receive maximum timeout) result }
+    {
+        let timeout = timeout.map(|timeout| timeout.seconds());
+        let offers = self.receive(alloc, at, maximum.messages(), timeout, ticks)?;
+        Ok(Reply::Received(offers))
     }
 
     /// Gives a message in flight another timeout in seconds from now on; 0 makes it visible. A
@@ -545,7 +641,7 @@ impl QueueState {
 
     /// The settings with what is requested in its place. Their numbers are in range by their type.
     fn settings_with(&self, wish: &Wish, target: u64) -> Settings
-        ensures settings { result ≡ settings_with (settings_of self.now.lines) wish.now }
+        ensures settings { result ≡ settings_with (settings_of self.now.lines) wish.now target }
         ensures range { AreSettings result }
     {
         let settings = self.settings().with(wish, target);
@@ -630,9 +726,7 @@ impl QueueState {
                 Ok(Reply::Sent(self.send(alloc, at, content, delay, ticks)?))
             }
             Command::Receive { maximum, timeout } => {
-                let timeout = timeout.map(|timeout| timeout.seconds());
-                let maximum = maximum.messages();
-                Ok(Reply::Received(self.receive(alloc, at, maximum, timeout, ticks)?))
+                self.receive_checked(alloc, at, *maximum, *timeout, ticks)
             }
             Command::Change { handle, timeout } => {
                 self.change(alloc, at, *handle, timeout.seconds(), ticks)?;
@@ -650,11 +744,21 @@ impl QueueState {
                 self.set(alloc, at, wish, *target, ticks)?;
                 Ok(Reply::Done)
             }
+            Command::Arrive { parcel } => {
+                Ok(Reply::Arrived(self.arrive_shared(alloc, at, parcel, ticks)?))
+            }
+            Command::Settle { number } => {
+                Ok(Reply::Settled(self.settle(alloc, at, *number, ticks)?))
+            }
+            Command::Orphan { target } => {
+                Ok(Reply::Orphaned(self.orphan(alloc, at, *target, ticks)?))
+            }
             Command::Close => {
                 self.close(alloc, at, ticks)?;
                 Ok(Reply::Done)
             }
             Command::Look => Ok(Reply::Looked(self.look(at, ticks))),
+            Command::FirstParcel => Ok(Reply::Parcel(self.first_parcel(alloc)?)),
         }
     }
 

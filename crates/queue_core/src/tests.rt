@@ -2,6 +2,7 @@
 //! and what a refused allocation leaves.
 
 mod closing;
+mod dead_letters;
 mod limits;
 mod looking;
 mod receiving;

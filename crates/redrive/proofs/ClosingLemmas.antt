@@ -11,9 +11,9 @@ use Rattle.journal.specs.declared.entry.Event.{Event}
 use Rattle.journal.specs.declared.entry.Event.TheVariants.{Deleted, DeletedAgain}
 use Rattle.queue_core.specs.declared.command.Command.{Command}
 use Rattle.queue_core.specs.declared.command.Command.TheVariants as commands
-use Rattle.queue_core.specs.Messages.{closes, is_closed, settings_of}
-use Rattle.queue_core.specs.Queue.{QueueHistory, Outcome, at_moment, first_refusal, unless_refused, refused_or, done, in_flight_count, is_valid_handle, holds_live, change_refusal, send_outcome, receive_outcome, change_outcome, delete_outcome, outcome_of, outcome_at, with_optional_event, after_answer}
-use Rattle.redrive.specs.World.{closes_queue}
+use Rattle.queue_core.specs.Messages.{closes, is_closed, settings_of, has_accepted}
+use Rattle.queue_core.specs.Queue.{QueueHistory, Outcome, at_moment, first_refusal, unless_refused, refused_or, done, in_flight_count, is_valid_handle, holds_live, change_refusal, send_outcome, receive_outcome, change_outcome, delete_outcome, is_pending, arrive_outcome, settle_outcome, orphan_outcome, outcome_of, leaves_clock, reached, outcome_at, with_optional_event, after_answer}
+use Rattle.redrive.specs.ByPlace.{closes_queue}
 
 abbrev adds_closing : Outcome → Bool
 adds_closing o = option_map_or (λ (e : Event ContentText). closes e) o.event false
@@ -43,8 +43,13 @@ outcome-unclosed q (commands.Delete handle) h =
     by_refusal (first_refusal q) (delete_outcome q handle) (by_cond (is_valid_handle q handle) _ _ (by_deletion (holds_live q handle) handle.number) refl)
 outcome-unclosed q commands.Purge h = by_refusal (first_refusal q) _ refl
 outcome-unclosed q (commands.Set wish target) h = by_refusal (first_refusal q) _ refl
+outcome-unclosed q (commands.Arrive parcel) h =
+    by_refusal (first_refusal q) (arrive_outcome q parcel) (by_cond (has_accepted q.lines parcel.origin.uid parcel.origin.number) _ _ refl refl)
+outcome-unclosed q (commands.Settle number) h = by_refusal (first_refusal q) (settle_outcome q number) (by_cond (is_pending q number) _ _ refl refl)
+outcome-unclosed q (commands.Orphan target) h = by_refusal (first_refusal q) (orphan_outcome q target) refl
 outcome-unclosed q commands.Close h = absurd cc
 outcome-unclosed q commands.Look h = refl
+outcome-unclosed q commands.FirstParcel h = refl
 
 unclosed-push : (lines : List (Entry ContentText)) (e : Entry ContentText) → is_closed lines ≡ false → closes e.event ≡ false → is_closed (lines ++ e ∷ []) ≡ false
 unclosed-push [] e h k = rw k refl
@@ -58,7 +63,12 @@ unclosed-left true q event h k = k
 unclosed-left false q None h k = k
 unclosed-left false q (Some event) h k = unclosed-push q.lines (record { at = q.clock; event = event }) k h
 
+unclosed-reached : (b : Bool) (q : QueueHistory) (at : ℕ) → is_closed q.lines ≡ false → is_closed (cond b q (at_moment q at)).lines ≡ false
+unclosed-reached true q at h = h
+unclosed-reached false q at h = h
+
 pub unclosed-after_answer : {T : Type 0} (at : ℕ) (command : Command) (answer : Result T Fault) (q : QueueHistory) → closes_queue command ≡ false → is_closed q.lines ≡ false
     → is_closed (after_answer q at command answer).lines ≡ false
 unclosed-after_answer at command answer q h k =
-    unclosed-left (is_out_of_memory answer) (at_moment q at) (outcome_at q at command).event (outcome-unclosed (at_moment q at) command h) k
+    unclosed-left (is_out_of_memory answer) (reached q at command) (outcome_at q at command).event (outcome-unclosed (reached q at command) command h)
+    (unclosed-reached (leaves_clock command) q at k)

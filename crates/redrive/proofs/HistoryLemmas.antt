@@ -8,22 +8,27 @@ use Rattle.std.proofs.lemmas.List.{map-append}
 use Rattle.std.proofs.lemmas.Option.{same_Some}
 use Rattle.std.proofs.lemmas.List.Elements.{All-nil, All-cons, All-head, All-tail, All-append, All-weaker}
 use Rattle.message.specs.declared.fault.Fault.{Fault}
-use Rattle.message.specs.declared.fault.Fault.TheVariants.{OverLimit, QueueDoesNotExist}
+use Rattle.message.specs.declared.fault.Fault.TheVariants.{QueueDoesNotExist}
 use Rattle.message.specs.Fault.{Meets, is_out_of_memory}
 use Rattle.queue_config.specs.Settings.{RequestedAttributes}
+use Rattle.queue_core.specs.declared.command.Command.{Command}
+use Rattle.queue_core.specs.declared.command.Command.TheVariants as commands
+use Rattle.queue_core.specs.declared.parcel.Parcel.{Parcel}
 use Rattle.queue_core.specs.declared.reply.Reply.{Reply}
 use Rattle.queue_core.specs.Messages.{is_closed}
 use Rattle.queue_core.specs.Queue.{QueueHistory, at_moment, after_answer}
 use Rattle.redrive.specs.declared.steps.HouseReply.{HouseReply}
-use Rattle.redrive.specs.declared.steps.HouseReply.TheVariants.{Created, Deleted, Performed, Advanced}
+use Rattle.redrive.specs.declared.steps.HouseReply.TheVariants.{Created, Deleted, Performed, HandedOver, Confirmed, Advanced}
 use Rattle.redrive.specs.declared.steps.HouseStep.{HouseStep}
 use Rattle.redrive.specs.declared.steps.HouseStep.TheVariants as steps
-use Rattle.redrive.specs.World.{World, queue_named, queue_of_uid, has_no_place, existing_answer, with_queue, new_queue, closed_queue, without_queue, closes_queue, with_queue_changed, step_answer, IsRegistry}
+use Rattle.redrive.specs.declared.moved.Moved.{Moved}
+use Rattle.redrive.specs.World.{World, queue_of_uid, has_queue, opens_queue, create_answer, with_queue, new_queue, closed_queue, take_answer, without_queue, step_refusal, with_queue_changed, world_after_command, step_answer, first_parcel_in, delivery_of, hand_over_answer, accepted_number, confirm_answer, IsRegistry}
 use Rattle.redrive.specs.History.{AllQueues, IsWholeHistory}
-use Rattle.redrive.specs.WorldRun.{Answer, as_house_reply, answer_of_step, with_deleted, all_after}
+use Rattle.redrive.specs.WorldRun.{Answer, as_house_reply, answer_of_step, MeetsAnswer, world_after, with_deleted, all_after}
 use Rattle.redrive.proofs.KeyedLemmas.{IsDistinct-push, IsDistinct-filter, map-key, find-unused, find-passes}
 use Rattle.redrive.proofs.RegistryLemmas.{after_answer-uid, at_uid-keeps}
 use Rattle.redrive.proofs.DeletionLemmas.{closed_queue-closed}
+use Rattle.redrive.proofs.StepLemmas.{meets_created, meets_deleted, meets_performed, meets_confirmed, meets_advanced}
 
 abbrev uid_of : QueueHistory → ℕ
 uid_of q = q.uid
@@ -134,15 +139,11 @@ deleted-history all own at q here registry h =
 
 -- ---- a step
 
-created-history : (all : AllQueues) (at : ℕ) (name : List ℕ) (wish : RequestedAttributes) (failed full : Bool) (known : Option QueueHistory) → IsRegistry all.world → IsWholeHistory all
-    → IsWholeHistory (record {
-      world = cond failed all.world (option_map_or (λ q. all.world) known (cond full all.world (with_queue all.world (new_queue all.world at name wish))));
-      deleted = all.deleted;
-    })
-created-history all at name wish true full known registry h = h
-created-history all at name wish false full (Some q) registry h = h
-created-history all at name wish false true None registry h = h
-created-history all at name wish false false None registry h = opened-history all (new_queue all.world at name wish) refl registry h
+created-history : (all : AllQueues) (at : ℕ) (name : List ℕ) (wish : RequestedAttributes) (failed opens : Bool) → IsRegistry all.world → IsWholeHistory all
+    → IsWholeHistory (record { world = cond failed all.world (cond opens (with_queue all.world (new_queue all.world at name wish)) all.world); deleted = all.deleted })
+created-history all at name wish true opens registry h = h
+created-history all at name wish false true registry h = opened-history all (new_queue all.world at name wish) refl registry h
+created-history all at name wish false false registry h = h
 
 either-history : (b : Bool) (x y : World) (deleted : List QueueHistory) → IsWholeHistory (record { world = x; deleted = deleted }) → IsWholeHistory (record { world = y; deleted = deleted })
     → IsWholeHistory (record { world = cond b x y; deleted = deleted })
@@ -164,6 +165,42 @@ only-performed : (r : Result Reply Fault) (reply : HouseReply) (deleted : List Q
 only-performed (Ok x) reply deleted h = let same : reply ≡ Performed x = cc in rw same refl
 only-performed (Err fault) reply deleted h = absurd cc
 
+only-handed : (there : Bool) (wanted : Result Moved Fault) (reply : HouseReply) (deleted : List QueueHistory)
+    → MeetsAnswer (Ok reply) (cond there (Ok (HandedOver wanted)) (Err QueueDoesNotExist)) → with_deleted (Ok reply) deleted ≡ deleted
+only-handed there wanted (Deleted q) deleted meets = absurd (never there meets) where
+  never : (b : Bool) → MeetsAnswer (Ok (Deleted q)) (cond b (Ok (HandedOver wanted)) (Err QueueDoesNotExist)) → ⊥
+  never true h = cc
+  never false h = cc
+only-handed there wanted reply deleted meets = refl
+
+only-confirmed : (there : Bool) (r : Result Reply Fault) (reply : HouseReply) (deleted : List QueueHistory) → Ok reply ≡ cond there (as_house_reply Confirmed r) (Err QueueDoesNotExist)
+    → with_deleted (Ok reply) deleted ≡ deleted
+only-confirmed true (Ok x) reply deleted h = let same : reply ≡ Confirmed x = cc in rw same refl
+only-confirmed true (Err fault) reply deleted h = absurd cc
+only-confirmed false r reply deleted h = absurd cc
+
+commanded-history : {T : Type 0} (all : AllQueues) (own at : ℕ) (command : Command) (answer : Result T Fault) → IsWholeHistory all
+    → IsWholeHistory (record { world = world_after_command all.world own at command answer; deleted = all.deleted })
+commanded-history all own at command answer h = changed-history all own (λ q. after_answer q at command answer) (after_answer-uid at command answer) h
+
+performed-history : {T : Type 0} (all : AllQueues) (own at : ℕ) (command : Command) (answer : Result T Fault) (refused : Option Fault) → IsWholeHistory all
+    → IsWholeHistory (record { world = option_map_or (λ fault. all.world) refused (world_after_command all.world own at command answer); deleted = all.deleted })
+performed-history all own at command answer (Some fault) h = h
+performed-history all own at command answer None h = commanded-history all own at command answer h
+
+handed-history : {T : Type 0} (all : AllQueues) (source at : ℕ) (answer : Result T Fault) (first : Option Parcel) → IsWholeHistory all
+    → IsWholeHistory (record {
+      world = option_map_or (λ p. world_after_command all.world (delivery_of all.world source p).uid at (delivery_of all.world source p).command answer) first all.world;
+      deleted = all.deleted;
+    })
+handed-history all source at answer None h = h
+handed-history all source at answer (Some p) h = commanded-history all (delivery_of all.world source p).uid at (delivery_of all.world source p).command answer h
+
+confirmed-history : {T : Type 0} (all : AllQueues) (source at : ℕ) (answer : Result T Fault) (number : Option ℕ) → IsWholeHistory all
+    → IsWholeHistory (record { world = option_map_or (λ n. world_after_command all.world source at (commands.Settle n) answer) number all.world; deleted = all.deleted })
+confirmed-history all source at answer None h = h
+confirmed-history all source at answer (Some n) h = commanded-history all source at (commands.Settle n) answer h
+
 deletion-history : (all : AllQueues) (at own : ℕ) (answer : Answer) (o : Option QueueHistory) → queue_of_uid all.world own ≡ o → IsRegistry all.world
     → Meets answer (as_house_reply Deleted (option_map_or (λ q. Ok (closed_queue q at)) o (Err QueueDoesNotExist))) → IsWholeHistory all
     → IsWholeHistory (record {
@@ -182,24 +219,38 @@ with_same : (w : World) (answer : Answer) (deleted : List QueueHistory) → with
     → IsWholeHistory (record { world = w; deleted = with_deleted answer deleted })
 with_same w answer deleted same h = rw same h
 
-pub IsWholeHistory-after : (all : AllQueues) (step : HouseStep) (answer : Answer) → IsRegistry all.world → Meets answer (answer_of_step all.world step) → IsWholeHistory all
+-- a hand-over whose parcel could not be made leaves everything
+handed-step : (all : AllQueues) (source at : ℕ) (reply : HouseReply) → IsWholeHistory all
+    → IsWholeHistory (record { world = world_after all.world (steps.HandOver at source) (Ok reply); deleted = all.deleted })
+handed-step all source at (HandedOver answer) h = handed-history all source at answer (first_parcel_in all.world source) h
+handed-step all source at reply h = h
+
+pub IsWholeHistory-after : (all : AllQueues) (step : HouseStep) (answer : Answer) → IsRegistry all.world → MeetsAnswer answer (answer_of_step all.world step) → IsWholeHistory all
     → IsWholeHistory (all_after all step answer)
 IsWholeHistory-after all (steps.Create at name wish) (Ok reply) registry meets h =
     with_same _ (Ok reply) all.deleted
-    (only-created (option_map_or (λ q. existing_answer wish q) (queue_named all.world name) (cond (has_no_place all.world) (Err OverLimit) (Ok all.world.next_uid))) reply all.deleted meets)
-    (created-history all at name wish false (has_no_place all.world) (queue_named all.world name) registry h)
+    (only-created (create_answer all.world name wish) reply all.deleted (meets_created (create_answer all.world name wish) (Ok reply) meets))
+    (created-history all at name wish false (opens_queue all.world name wish) registry h)
 IsWholeHistory-after all (steps.Create at name wish) (Err fault) registry meets h =
-    created-history all at name wish (is_out_of_memory {T = HouseReply} (Err fault)) (has_no_place all.world) (queue_named all.world name) registry h
-IsWholeHistory-after all (steps.Delete at own) answer registry meets h = deletion-history all at own answer (queue_of_uid all.world own) refl registry meets h
+    created-history all at name wish (is_out_of_memory {T = HouseReply} (Err fault)) (opens_queue all.world name wish) registry h
+IsWholeHistory-after all (steps.Delete at own) answer registry meets h =
+    deletion-history all at own answer (queue_of_uid all.world own) refl registry (meets_deleted (take_answer all.world own at) answer meets) h
 IsWholeHistory-after all (steps.Perform at own command) (Ok reply) registry meets h =
-    with_same _ (Ok reply) all.deleted (only-performed (step_answer all.world own at command) reply all.deleted meets)
-    (either-history (closes_queue command) all.world (with_queue_changed all.world own (λ q. after_answer q at command (Ok reply))) all.deleted h
-    (changed-history all own (λ q. after_answer q at command (Ok reply)) (after_answer-uid at command (Ok reply)) h))
+    with_same _ (Ok reply) all.deleted (only-performed (step_answer all.world own at command) reply all.deleted (meets_performed (step_answer all.world own at command) (Ok reply) meets))
+    (performed-history {T = HouseReply} all own at command (Ok reply) (step_refusal all.world own command) h)
 IsWholeHistory-after all (steps.Perform at own command) (Err fault) registry meets h =
-    let answer : Answer = Err fault in
-    either-history (closes_queue command) all.world (with_queue_changed all.world own (λ q. after_answer q at command answer)) all.deleted h
-    (changed-history all own (λ q. after_answer q at command answer) (after_answer-uid at command answer) h)
+    performed-history {T = HouseReply} all own at command (Err fault) (step_refusal all.world own command) h
+IsWholeHistory-after all (steps.HandOver at source) (Ok reply) registry meets h =
+    with_same _ (Ok reply) all.deleted (only-handed (has_queue all.world source) (hand_over_answer all.world source at) reply all.deleted meets) (handed-step all source at reply h)
+IsWholeHistory-after all (steps.HandOver at source) (Err fault) registry meets h = h
+IsWholeHistory-after all (steps.Confirm at source) (Ok reply) registry meets h =
+    with_same _ (Ok reply) all.deleted
+    (only-confirmed (has_queue all.world source) (confirm_answer all.world source at) reply all.deleted (meets_confirmed (has_queue all.world source) (confirm_answer all.world source at) (Ok reply) meets))
+    (confirmed-history {T = HouseReply} all source at (Ok reply) (accepted_number all.world source) h)
+IsWholeHistory-after all (steps.Confirm at source) (Err fault) registry meets h =
+    confirmed-history {T = HouseReply} all source at (Err fault) (accepted_number all.world source) h
 IsWholeHistory-after all (steps.Advance at) (Ok reply) registry meets h =
+    let plain = meets_advanced (Ok reply) meets in
     let same : reply ≡ Advanced = cc in
     rw same (keeps-uids all _ (map-key nat_eq uid_of (λ q. at_moment q at) (λ q. refl) all.world.queues) refl h)
 IsWholeHistory-after all (steps.Advance at) (Err fault) registry meets h =

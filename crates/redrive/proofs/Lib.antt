@@ -4,9 +4,13 @@ pub mod ListingLemmas
 pub mod OpeningLemmas
 pub mod OrderLemmas
 pub mod RegistryLemmas
+pub mod PlaceLemmas
 pub mod DeletionLemmas
+pub mod MovingLemmas
+pub mod AnswerLemmas
 pub mod StepLemmas
 pub mod CatalogLemmas
 pub mod HistoryLemmas
 pub mod ToldLemmas
 pub mod RunLemmas
+pub mod transfers

@@ -1,17 +1,17 @@
 -- What is true of every registry stays true as queues are added and changed.
-use Rattle.std.proofs.Common.{◌≡◌, ◌≢◌, ℕ, ◌+◌, ◌<◌, ◌≤◌, Bool, true, false, not, cond, List, [], ◌∷◌, ◌++◌, length, get_or, set, take, drop, map, Option, Some, None, Result, Ok, Err, refl, sym, ap, subst, ◌∙◌, arith, Decides, append_assoc}
-use Rattle.std.specs.Prelude.{remove, nat_eq, OnOk, OnErr, IfOk}
+use Rattle.std.proofs.Common.{◌≡◌, ◌≢◌, ℕ, ◌+◌, ◌<◌, ◌≤◌, Bool, true, false, not, cond, List, [], ◌∷◌, ◌++◌, length, get_or, set, take, drop, map, Option, Some, None, Result, Ok, Err, refl, sym, ap, subst, ◌∙◌, arith, Decides, append_assoc, eqb-true}
+use Rattle.std.specs.Prelude.{nat_eq, OnOk, OnErr, IfOk}
 use Rattle.std.specs.List.{find, position, IsDistinct}
 use Rattle.std.specs.Option.{option_map, option_or}
 use Rattle.std.specs.Str.{bytes_eq}
-use Rattle.std.proofs.lemmas.List.{append-nil, length-map, length-append, length-take-le, take_all, take_at, drop_all, drop_more, get_or_at, set_at, map_more}
-use Rattle.std.proofs.lemmas.List.Elements.{All-nil, All-get_or, All-filter, All-push, All-map, All-weaker}
+use Rattle.std.proofs.lemmas.Cmp.{nat_eq_equiv}
+use Rattle.std.proofs.lemmas.List.{length-map, length-append, length-take-le, drop_more, get_or_at, set_at, map_more}
+use Rattle.std.proofs.lemmas.List.Elements.{All-nil, All-filter, All-push, All-map, All-weaker}
 use Rattle.std.proofs.lemmas.List.Filters.{length-filter_both}
 use Rattle.std.proofs.lemmas.List.Folds.{find-append}
-use Rattle.std.proofs.lemmas.List.Quantifiers.{position-Some}
 use Rattle.std.proofs.lemmas.Slice.Eq.{bytes_eq-Decides}
 use Rattle.message.specs.declared.fault.Fault.{Fault}
-use Rattle.message.specs.declared.fault.Fault.TheVariants.{QueueDoesNotExist, UnsupportedOperation}
+use Rattle.message.specs.declared.fault.Fault.TheVariants.{QueueDoesNotExist}
 use Rattle.message.specs.Fault.{Meets, is_out_of_memory}
 use Rattle.message.specs.Content.{ContentText}
 use Rattle.queue_config.specs.Limits.{QueueLimits, default_limits}
@@ -19,10 +19,10 @@ use Rattle.queue_config.specs.Settings.{QueueSettings, default_settings}
 use Rattle.journal.specs.declared.entry.Event.{Event}
 use Rattle.queue_core.specs.declared.command.Command.{Command}
 use Rattle.queue_core.specs.Messages.{is_closed}
-use Rattle.queue_core.specs.Queue.{QueueHistory, at_moment, adds_entry, outcome_at, with_optional_event, after_answer}
-use Rattle.queue_core.specs.Kept.{opened_queue}
-use Rattle.redrive.specs.World.{World, has_no_place, empty_world, queue_named, queue_of_uid, found_uid, with_queue, next_queue, without_queue, closes_queue, step_answer, adds_entry_at, with_queue_changed, world_after_step, world_at_moment, IsRegistry}
-use Rattle.redrive.proofs.KeyedLemmas.{places_left, IsDistinct-push, IsDistinct-filter, map-key, find-unused, filter-absent, find-position, find-no_position, map-absent, map-present, remove-present}
+use Rattle.queue_core.specs.Queue.{QueueHistory, at_moment, leaves_clock, reached, outcome_at, with_event, with_optional_event, after_answer}
+use Rattle.redrive.specs.World.{World, has_no_place, empty_world, queue_named, queue_of_uid, found_uid, with_queue, next_queue, without_queue, queue_answer, with_queue_changed, world_at_moment, IsRegistry}
+use Rattle.redrive.specs.ByPlace.{closes_queue}
+use Rattle.redrive.proofs.KeyedLemmas.{find-map, find-passes, places_left, IsDistinct-push, IsDistinct-filter, map-key, find-unused, filter-absent, find-position, find-no_position, map-absent}
 use Rattle.redrive.proofs.ClosingLemmas.{unclosed-after_answer}
 
 pub IsRegistry-empty : (limits : QueueLimits) → IsRegistry (empty_world limits)
@@ -49,10 +49,10 @@ IsRegistry-with_queue w q h none uid limits unclosed place =
       unclosed = All-push (λ x. is_closed x.lines ≡ false) w.queues q h.unclosed unclosed;
     }
 
-pub IsRegistry-opened : (w : World) (at : ℕ) (name : List ℕ) (settings : QueueSettings) (q : QueueHistory) (queues : List QueueHistory) → IsRegistry w → queue_named w name ≡ None
-    → has_no_place w ≡ false → q ≡ opened_queue w.next_uid name settings w.limits at → queues ≡ w.queues ++ q ∷ [] → IsRegistry (record w { next_uid = w.next_uid + 1; queues = queues })
-IsRegistry-opened w at name settings q queues h none place is added =
-    rw (added, is) (IsRegistry-with_queue w (opened_queue w.next_uid name settings w.limits at) h none refl refl refl place)
+pub IsRegistry-opened : (w new : World) (at : ℕ) (name : List ℕ) (settings : QueueSettings) (r : Result ℕ Fault) → IsRegistry w → queue_named w name ≡ None
+    → has_no_place w ≡ false → OnOk r (new ≡ with_queue w (next_queue w at name settings)) → OnErr r (new ≡ w) → IsRegistry new
+IsRegistry-opened w new at name settings (Ok uid) h none place ok err = rw ok (IsRegistry-with_queue w (next_queue w at name settings) h none refl refl refl place)
+IsRegistry-opened w new at name settings (Err fault) h none place ok err = rw err h
 
 -- ---- queues changed, each under its uid, name and limits
 
@@ -72,31 +72,31 @@ module _ (f : QueueHistory → QueueHistory) where
   }
 
 -- a command keeps its queue's uid, name and limits
-left-uid : (b : Bool) (q : QueueHistory) (event : Option (Event ContentText)) → (cond b q (with_optional_event q event)).uid ≡ q.uid
-left-uid true q event = refl
-left-uid false q None = refl
-left-uid false q (Some event) = refl
+module _ {K : Type 0} (key : QueueHistory → K) (clock : (q : QueueHistory) (at : ℕ) → key (at_moment q at) ≡ key q)
+    (entry : (q : QueueHistory) (event : Event ContentText) → key (with_event q event) ≡ key q) where
+  left-keeps : (b : Bool) (q : QueueHistory) (event : Option (Event ContentText)) → key (cond b q (with_optional_event q event)) ≡ key q
+  left-keeps true q event = refl
+  left-keeps false q None = refl
+  left-keeps false q (Some event) = entry q event
 
-left-name : (b : Bool) (q : QueueHistory) (event : Option (Event ContentText)) → (cond b q (with_optional_event q event)).name ≡ q.name
-left-name true q event = refl
-left-name false q None = refl
-left-name false q (Some event) = refl
+  reached-keeps : (b : Bool) (q : QueueHistory) (at : ℕ) → key (cond b q (at_moment q at)) ≡ key q
+  reached-keeps true q at = refl
+  reached-keeps false q at = clock q at
 
-left-limits : (b : Bool) (q : QueueHistory) (event : Option (Event ContentText)) → (cond b q (with_optional_event q event)).limits ≡ q.limits
-left-limits true q event = refl
-left-limits false q None = refl
-left-limits false q (Some event) = refl
+  after_answer-keeps : {T : Type 0} (at : ℕ) (command : Command) (answer : Result T Fault) (q : QueueHistory) → key (after_answer q at command answer) ≡ key q
+  after_answer-keeps at command answer q =
+      left-keeps (is_out_of_memory answer) (reached q at command) (outcome_at q at command).event ∙ reached-keeps (leaves_clock command) q at
 
 pub at_uid-keeps : {K : Type 0} (key : QueueHistory → K) (b : Bool) (q next : QueueHistory) → key next ≡ key q → key (cond b next q) ≡ key q
 at_uid-keeps key true q next h = h
 at_uid-keeps key false q next h = refl
 
 pub after_answer-uid : {T : Type 0} (at : ℕ) (command : Command) (answer : Result T Fault) (q : QueueHistory) → (after_answer q at command answer).uid ≡ q.uid
-after_answer-uid at command answer q = left-uid (is_out_of_memory answer) (at_moment q at) (outcome_at q at command).event
+after_answer-uid at command answer q = after_answer-keeps (λ q. q.uid) (λ q at. refl) (λ q event. refl) at command answer q
 
 pub after_step-uid : {T : Type 0} (uid at : ℕ) (command : Command) (answer : Result T Fault) (q : QueueHistory) → (cond (nat_eq q.uid uid) (after_answer q at command answer) q).uid ≡ q.uid
 after_step-uid uid at command answer q =
-    at_uid-keeps (λ q. q.uid) (nat_eq q.uid uid) q (after_answer q at command answer) (left-uid (is_out_of_memory answer) (at_moment q at) (outcome_at q at command).event)
+    at_uid-keeps (λ q. q.uid) (nat_eq q.uid uid) q (after_answer q at command answer) (after_answer-uid at command answer q)
 
 at_uid-unclosed : (b : Bool) (q next : QueueHistory) → (is_closed q.lines ≡ false → is_closed next.lines ≡ false) → is_closed q.lines ≡ false → is_closed (cond b next q).lines ≡ false
 at_uid-unclosed true q next h k = h k
@@ -107,8 +107,8 @@ pub IsRegistry-after_step : {T : Type 0} (w : World) (uid at : ℕ) (command : C
 IsRegistry-after_step w uid at command answer stays h =
     IsRegistry-map (λ q. cond (nat_eq q.uid uid) (after_answer q at command answer) q) w
     (after_step-uid uid at command answer)
-    (λ q. at_uid-keeps (λ q. q.name) (nat_eq q.uid uid) q (after_answer q at command answer) (left-name (is_out_of_memory answer) (at_moment q at) (outcome_at q at command).event))
-    (λ q. at_uid-keeps (λ q. q.limits) (nat_eq q.uid uid) q (after_answer q at command answer) (left-limits (is_out_of_memory answer) (at_moment q at) (outcome_at q at command).event))
+    (λ q. at_uid-keeps (λ q. q.name) (nat_eq q.uid uid) q (after_answer q at command answer) (after_answer-keeps (λ q. q.name) (λ q at. refl) (λ q event. refl) at command answer q))
+    (λ q. at_uid-keeps (λ q. q.limits) (nat_eq q.uid uid) q (after_answer q at command answer) (after_answer-keeps (λ q. q.limits) (λ q at. refl) (λ q event. refl) at command answer q))
     (λ q. at_uid-unclosed (nat_eq q.uid uid) q (after_answer q at command answer) (unclosed-after_answer at command answer q stays))
     h
 
@@ -121,7 +121,7 @@ abbrev uid_of : QueueHistory → ℕ
 uid_of q = q.uid
 
 -- some queue, read only past the end of a list
-some_queue : QueueHistory
+pub some_queue : QueueHistory
 some_queue = next_queue (empty_world default_limits) 0 [] default_settings
 
 pub present-absent : (w : World) (uid place : ℕ) → position (λ q. nat_eq q.uid uid) w.queues ≡ Some place → queue_of_uid w uid ≡ None → ⊥
@@ -129,53 +129,36 @@ present-absent w uid place h none =
     let here : find (λ q. nat_eq q.uid uid) w.queues ≡ Some (get_or w.queues place some_queue) = find-position uid_of uid w.queues place some_queue h in
     cc
 
-pub step-absent_answer : (w : World) (uid at : ℕ) (command : Command) → position (λ q. nat_eq q.uid uid) w.queues ≡ None → step_answer w uid at command ≡ Err QueueDoesNotExist
-step-absent_answer w uid at command h = rw (find-no_position uid_of uid w.queues h) refl
-
-either-way : {X : Type 0} (b : Bool) (x y : X) → y ≡ x → cond b x y ≡ x
-either-way true x y h = refl
-either-way false x y h = h
+pub command-absent_answer : (w : World) (uid at : ℕ) (command : Command) → position (λ q. nat_eq q.uid uid) w.queues ≡ None → queue_answer w uid at command ≡ Err QueueDoesNotExist
+command-absent_answer w uid at command h = rw (find-no_position uid_of uid w.queues h) refl
 
 pub changed-absent : (w : World) (uid : ℕ) (f : QueueHistory → QueueHistory) → position (λ q. nat_eq q.uid uid) w.queues ≡ None → with_queue_changed w uid f ≡ w
 changed-absent w uid f h = ap (λ (queues : List QueueHistory). record w { queues = queues }) (map-absent uid_of uid f w.queues (find-no_position uid_of uid w.queues h))
 
-pub step-absent_state : {T : Type 0} (w : World) (uid at : ℕ) (command : Command) (answer : Result T Fault) → position (λ q. nat_eq q.uid uid) w.queues ≡ None → world_after_step w uid at command answer ≡ w
-step-absent_state w uid at command answer h =
-    either-way (closes_queue command) w (with_queue_changed w uid (λ q. after_answer q at command answer)) (changed-absent w uid (λ q. after_answer q at command answer) h)
+module _ (w : World) (own uid : ℕ) where
+  uid-found : (q : QueueHistory) → queue_of_uid w uid ≡ Some q → q.uid ≡ uid
+  uid-found q here = eqb-true q.uid uid (find-passes (λ x. nat_eq x.uid uid) w.queues q here)
 
-pub step-present_answer : (w : World) (uid at : ℕ) (command : Command) (place : ℕ) (old : QueueHistory) → position (λ q. nat_eq q.uid uid) w.queues ≡ Some place → old ≡ get_or w.queues place old
-    → closes_queue command ≡ false → step_answer w uid at command ≡ (outcome_at old at command).reply
-step-present_answer w uid at command place old h e stays = rw (find-position uid_of uid w.queues place old h, ← e, stays) refl
+  changed-found : (f : QueueHistory → QueueHistory) (b : Bool) (o : Option QueueHistory) → queue_of_uid w uid ≡ o → nat_eq own uid ≡ b
+      → option_map (λ q. cond (nat_eq q.uid own) (f q) q) o ≡ cond b (option_map f o) o
+  changed-found f true None here e = refl
+  changed-found f false None here e = refl
+  changed-found f true (Some q) here e = rw (ap (λ (u : ℕ). nat_eq u own) (uid-found q here) ∙ nat_eq_equiv.symm uid own ∙ e) refl
+  changed-found f false (Some q) here e = rw (ap (λ (u : ℕ). nat_eq u own) (uid-found q here) ∙ nat_eq_equiv.symm uid own ∙ e) refl
 
-pub step-present_exact : (w : World) (uid at : ℕ) (command : Command) (place : ℕ) (old : QueueHistory) → position (λ q. nat_eq q.uid uid) w.queues ≡ Some place → old ≡ get_or w.queues place old
-    → closes_queue command ≡ false → adds_entry_at w uid at command ≡ false → adds_entry (outcome_at old at command) ≡ false
-step-present_exact w uid at command place old h e stays none = rw (find-position uid_of uid w.queues place old h, ← e, stays) at none
-
-pub step-refused_answer : (w : World) (uid at : ℕ) (command : Command) (place : ℕ) → position (λ q. nat_eq q.uid uid) w.queues ≡ Some place
-    → closes_queue command ≡ true → step_answer w uid at command ≡ Err UnsupportedOperation
-step-refused_answer w uid at command place h closing = rw (find-position uid_of uid w.queues place some_queue h, closing) refl
-
-pub step-refused_state : {T : Type 0} (w : World) (uid at : ℕ) (command : Command) (answer : Result T Fault) → closes_queue command ≡ true → world_after_step w uid at command answer ≡ w
-step-refused_state w uid at command answer closing = rw closing refl
+  -- the queue of a uid, where that of the same or of another uid is changed
+  pub changed-queue : (f : QueueHistory → QueueHistory) (b : Bool) → ((q : QueueHistory) → (f q).uid ≡ q.uid) → nat_eq own uid ≡ b
+      → queue_of_uid (with_queue_changed w own f) uid ≡ cond b (option_map f (queue_of_uid w uid)) (queue_of_uid w uid)
+  changed-queue f b keeps e =
+      find-map (λ x. nat_eq x.uid uid) (λ q. cond (nat_eq q.uid own) (f q) q)
+      (λ x. ap (λ (u : ℕ). nat_eq u uid) (at_uid-keeps (λ q. q.uid) (nat_eq x.uid own) x (f x) (keeps x))) w.queues
+      ∙ changed-found f b (queue_of_uid w uid) refl e
 
 -- ---- a queue deleted
-
-pub unclosed-present : (w : World) (uid place : ℕ) (old : QueueHistory) → IsRegistry w → position (λ q. nat_eq q.uid uid) w.queues ≡ Some place → old ≡ get_or w.queues place old
-    → is_closed old.lines ≡ false
-unclosed-present w uid place old r h e =
-    let p = position-Some (λ q. nat_eq q.uid uid) w.queues place old h in
-    ap (λ (q : QueueHistory). is_closed q.lines) e ∙ All-get_or (λ q. is_closed q.lines ≡ false) w.queues place old p.0 r.unclosed
 
 pub delete-absent_state : (w : World) (uid : ℕ) → position (λ q. nat_eq q.uid uid) w.queues ≡ None → without_queue w uid ≡ w
 delete-absent_state w uid h =
     ap (λ (queues : List QueueHistory). record w { queues = queues }) (filter-absent uid_of uid w.queues (find-no_position uid_of uid w.queues h))
-
--- the list that is left
-pub delete-present_state : (w : World) (uid place : ℕ) (old new : QueueHistory) (queues : List QueueHistory) → IsRegistry w → position (λ q. nat_eq q.uid uid) w.queues ≡ Some place
-    → queues ≡ remove (set w.queues place new) place → record w { queues = queues } ≡ without_queue w uid
-delete-present_state w uid place old new queues r h is =
-    let p = position-Some (λ q. nat_eq q.uid uid) w.queues place old h in
-    ap (λ (queues : List QueueHistory). record w { queues = queues }) (is ∙ remove-present uid_of uid w.queues place old new r.uids p.0 p.1)
 
 pub IsRegistry-without : (w : World) (uid : ℕ) → IsRegistry w → IsRegistry (without_queue w uid)
 IsRegistry-without w uid h =
@@ -201,23 +184,6 @@ IsRegistry-moved w uid at h =
     (λ q. at_uid-keeps (λ q. q.limits) (nat_eq q.uid uid) q (at_moment q at) refl)
     (λ q. at_uid-unclosed (nat_eq q.uid uid) q (at_moment q at) (λ k. k))
     h
-
-pub moved-present_state : (w : World) (uid at place : ℕ) (old new : QueueHistory) → IsRegistry w → position (λ q. nat_eq q.uid uid) w.queues ≡ Some place → old ≡ get_or w.queues place old
-    → new ≡ at_moment old at → record w { queues = set w.queues place new } ≡ with_queue_changed w uid (λ q. at_moment q at)
-moved-present_state w uid at place old new r h e after =
-    let p = position-Some (λ q. nat_eq q.uid uid) w.queues place old h in
-    ap (λ (queues : List QueueHistory). record w { queues = queues })
-    (ap (λ (q : QueueHistory). set w.queues place q) (after ∙ ap (λ (q : QueueHistory). at_moment q at) e)
-    ∙ map-present uid_of uid (λ q. at_moment q at) w.queues place old r.uids p.0 p.1)
-
-pub step-present_state : {T : Type 0} (w : World) (uid at : ℕ) (command : Command) (answer : Result T Fault) (place : ℕ) (old new : QueueHistory) → IsRegistry w
-    → position (λ q. nat_eq q.uid uid) w.queues ≡ Some place → old ≡ get_or w.queues place old → new ≡ after_answer old at command answer
-    → record w { queues = set w.queues place new } ≡ with_queue_changed w uid (λ q. after_answer q at command answer)
-step-present_state w uid at command answer place old new r h e after =
-    let p = position-Some (λ q. nat_eq q.uid uid) w.queues place old h in
-    ap (λ (queues : List QueueHistory). record w { queues = queues })
-    (ap (λ (q : QueueHistory). set w.queues place q) (after ∙ ap (λ (q : QueueHistory). after_answer q at command answer) e)
-    ∙ map-present uid_of uid (λ q. after_answer q at command answer) w.queues place old r.uids p.0 p.1)
 
 -- ---- names after a create
 
@@ -263,12 +229,3 @@ map-next f qs now i item new is l read changed =
     ∙ ap (λ (q : QueueHistory). done ++ q ∷ drop (i + 1) qs) (changed ∙ ap f same)
     ∙ sym (append_assoc done (f (get_or qs i item) ∷ []) (drop (i + 1) qs))
     ∙ ap (λ (all : List QueueHistory). all ++ drop (i + 1) qs) (sym (map_more f qs i item l))
-
--- the list as it is written back
-pub IsRegistry-written : (w : World) (at : ℕ) (qs now : List QueueHistory) (i len : ℕ) → IsRegistry w → now ≡ map (λ q. at_moment q at) (take i qs) ++ drop i qs → length qs ≤ i
-    → qs ≡ w.queues → length qs ≡ len → length now ≡ length qs → IsRegistry (record w { queues = take len (now ++ drop (length now) w.queues) })
-IsRegistry-written w at qs now i len h is past same count kept =
-    let all : now ≡ map (λ (q : QueueHistory). at_moment q at) w.queues =
-    is ∙ ap (λ (rest : List QueueHistory). map (λ (q : QueueHistory). at_moment q at) (take i qs) ++ rest) (drop_all i qs past) ∙ append-nil (map (λ (q : QueueHistory). at_moment q at) (take i qs))
-    ∙ ap (λ (all : List QueueHistory). map (λ (q : QueueHistory). at_moment q at) all) (take_all i qs past ∙ same) in
-    subst (λ (queues : List QueueHistory). IsRegistry (record w { queues = queues })) (sym (take_at now (drop (length now) w.queues) len (kept ∙ count) ∙ all)) (IsRegistry-at_moment w at h)

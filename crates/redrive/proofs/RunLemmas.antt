@@ -1,8 +1,6 @@
 -- A run of steps in the registry: one step on, at its end, and what holds of all of it.
 use Rattle.std.proofs.Common.{◌≡◌, ℕ, ◌+◌, ◌<◌, ◌≤◌, false, length, List, [], ◌∷◌, ◌++◌, get_or, map, take, drop, Option, refl, sym, ap, subst, ◌∙◌, append_assoc}
 use Rattle.std.proofs.lemmas.List.{append-nil, drop_all, map_more}
-use Rattle.message.specs.Fault.{Meets}
-use Rattle.queue_config.specs.Limits.{QueueLimits}
 use Rattle.queue_core.specs.declared.gauges.Gauges.{Gauges}
 use Rattle.queue_core.specs.States.{gauges_of}
 use Rattle.queue_core.specs.Queue.{QueueHistory}
@@ -10,8 +8,8 @@ use Rattle.redrive.specs.declared.steps.HouseStep.{HouseStep}
 use Rattle.redrive.specs.declared.steps.QueueGauges.{QueueGauges}
 use Rattle.redrive.specs.World.{World, queue_of_uid, IsRegistry}
 use Rattle.redrive.specs.History.{AllQueues, IsWholeHistory}
-use Rattle.redrive.specs.WorldRun.{Answer, answer_of_step, needs_memory, IsAnswerOf, world_after, all_after, AreHouseAnswers, world_after_all, history_after, queue_after, IsAsIfAlone, AreTold, measured_queue}
-use Rattle.redrive.proofs.StepLemmas.{world_after-limits, queue_after-world, IsOwnAnswer-world}
+use Rattle.redrive.specs.WorldRun.{Answer, answer_of_step, needs_memory, MeetsAnswer, IsAnswerOf, world_after, all_after, AreHouseAnswers, world_after_all, history_after, queue_after, IsAsIfAlone, AreTold, measured_queue}
+use Rattle.redrive.proofs.StepLemmas.{queue_after-world, IsOwnAnswer-world}
 use Rattle.redrive.proofs.HistoryLemmas.{IsWholeHistory-after}
 use Rattle.redrive.proofs.ToldLemmas.{IsToldBy-world}
 
@@ -31,7 +29,7 @@ pub Continues-first : (w : World) (steps : List HouseStep) → Continues w steps
 Continues-first w steps = record { answered = λ rest h. h; state = λ rest. refl }
 
 pub Continues-step : (first : World) (steps : List HouseStep) (answers : List Answer) (now : World) (left rest : List HouseStep) (step : HouseStep) (answer : Answer) (next : World)
-    → Continues first steps answers now left → left ≡ step ∷ rest → IsRegistry now → Meets answer (answer_of_step now step) → (needs_memory now step ≡ false → answer ≡ answer_of_step now step) → next ≡ world_after now step answer
+    → Continues first steps answers now left → left ≡ step ∷ rest → IsRegistry now → MeetsAnswer answer (answer_of_step now step) → (needs_memory now step ≡ false → answer ≡ answer_of_step now step) → next ≡ world_after now step answer
     → Continues first steps (answers ++ answer ∷ []) next rest
 Continues-step first steps answers now left rest step answer next h is registry meets exact after = record {
   answered = λ others p.
@@ -56,20 +54,20 @@ AreHouseAnswers-run w [] (answer ∷ answers) h = h
 AreHouseAnswers-run w (step ∷ steps) [] h = h
 AreHouseAnswers-run w (step ∷ steps) (answer ∷ answers) h = (h.1.0, AreHouseAnswers-run (world_after w step answer) steps answers h.1.1)
 
-alone-next : (limits next_limits : QueueLimits) (uid : ℕ) (q next : Option QueueHistory) (steps : List HouseStep) (answers : List Answer) (new : Option QueueHistory)
-    → next_limits ≡ limits → next ≡ q → IsAsIfAlone next_limits uid next steps answers new → IsAsIfAlone limits uid q steps answers new
-alone-next limits next_limits uid q next steps answers new same_limits same h = rw (← same_limits, ← same) h
+alone-next : (w : World) (uid : ℕ) (q next : Option QueueHistory) (steps : List HouseStep) (answers : List Answer) (new : Option QueueHistory)
+    → next ≡ q → IsAsIfAlone w uid next steps answers new → IsAsIfAlone w uid q steps answers new
+alone-next w uid q next steps answers new same h = rw (← same) h
 
 pub IsAsIfAlone-run : (w : World) (steps : List HouseStep) (answers : List Answer) (uid : ℕ) → AreAnswered w steps answers
-    → IsAsIfAlone w.limits uid (queue_of_uid w uid) steps answers (queue_of_uid (world_after_all w steps answers) uid)
+    → IsAsIfAlone w uid (queue_of_uid w uid) steps answers (queue_of_uid (world_after_all w steps answers) uid)
 IsAsIfAlone-run w [] [] uid h = refl
 IsAsIfAlone-run w [] (answer ∷ answers) uid h = absurd h
 IsAsIfAlone-run w (step ∷ steps) [] uid h = absurd h
 IsAsIfAlone-run w (step ∷ steps) (answer ∷ answers) uid h = (
   IsOwnAnswer-world w uid step answer h.1.0.meets,
-  alone-next w.limits (world_after w step answer).limits uid (queue_after w.limits uid (queue_of_uid w uid) step answer) (queue_of_uid (world_after w step answer) uid) steps answers
+  alone-next (world_after w step answer) uid (queue_after w uid (queue_of_uid w uid) step answer) (queue_of_uid (world_after w step answer) uid) steps answers
       (queue_of_uid (world_after_all w (step ∷ steps) (answer ∷ answers)) uid)
-      (world_after-limits w step answer) (queue_after-world w uid step answer h.0 h.1.0.meets) (IsAsIfAlone-run (world_after w step answer) steps answers uid h.1.1),
+      (queue_after-world w uid step answer h.0 h.1.0.meets) (IsAsIfAlone-run (world_after w step answer) steps answers uid h.1.1),
 )
 
 pub IsWholeHistory-run : (all : AllQueues) (steps : List HouseStep) (answers : List Answer) → AreAnswered all.world steps answers → IsWholeHistory all

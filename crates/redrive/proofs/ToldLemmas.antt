@@ -4,17 +4,17 @@ use Rattle.std.specs.Prelude.{nat_le, IfSome}
 use Rattle.std.specs.Option.{option_map_or}
 use Rattle.message.specs.declared.fault.Fault.{Fault}
 use Rattle.message.specs.declared.fault.Fault.TheVariants.{OverLimit, QueueDoesNotExist}
-use Rattle.message.specs.Fault.{Meets}
 use Rattle.queue_core.specs.declared.command.Command.{Command}
 use Rattle.queue_core.specs.declared.command.Command.TheVariants as commands
 use Rattle.queue_core.specs.declared.reply.Reply.{Reply}
 use Rattle.queue_core.specs.declared.reply.Reply.TheVariants as replies
-use Rattle.queue_core.specs.Queue.{QueueHistory, Outcome, at_moment, first_refusal, unless_refused, refusal, in_flight_count, offered_candidates, offers_of, look_of}
-use Rattle.redrive.specs.declared.steps.HouseReply.TheVariants.{Created, Deleted, Performed, Advanced}
+use Rattle.queue_core.specs.Queue.{QueueHistory, Outcome, at_moment, outcome_at, first_refusal, unless_refused, refusal, in_flight_count, offered_candidates, offers_of, look_of}
+use Rattle.redrive.specs.declared.steps.HouseReply.TheVariants.{Performed}
 use Rattle.redrive.specs.declared.steps.HouseStep.{HouseStep}
 use Rattle.redrive.specs.declared.steps.HouseStep.TheVariants as steps
-use Rattle.redrive.specs.World.{World, queue_of_uid, answer_of_queue}
-use Rattle.redrive.specs.WorldRun.{Answer, as_house_reply, answer_of_step, IsTold, IsToldBy}
+use Rattle.redrive.specs.World.{World, queue_of_uid, step_refusal, step_answer}
+use Rattle.redrive.specs.WorldRun.{Answer, as_house_reply, answer_of_step, MeetsAnswer, IsTold, IsToldBy}
+use Rattle.redrive.proofs.StepLemmas.{meets_performed}
 
 offered : (q : QueueHistory) (maximum : ℕ) (timeout : Option ℕ) (refused : Option Fault) (full : Bool) (reply : Reply) (o : Outcome) → o.reply ≡ Ok (replies.Received (offers_of q (offered_candidates q maximum)))
     → (unless_refused refused (cond full (refusal OverLimit) o)).reply ≡ Ok reply → IsTold q (commands.Receive maximum timeout) reply
@@ -24,7 +24,7 @@ offered q maximum timeout None false reply o is h =
     let same : replies.Received (offers_of q (offered_candidates q maximum)) ≡ reply = cc in
     subst (λ (reply : Reply). IsTold q (commands.Receive maximum timeout) reply) same refl
 
-told : (q : QueueHistory) (at : ℕ) (command : Command) (reply : Reply) → answer_of_queue q at command ≡ Ok reply → IsTold (at_moment q at) command reply
+told : (q : QueueHistory) (at : ℕ) (command : Command) (reply : Reply) → (outcome_at q at command).reply ≡ Ok reply → IsTold (at_moment q at) command reply
 told q at (commands.Send content delay) reply h = tt
 told q at (commands.Receive maximum timeout) reply h =
     let now : QueueHistory = at_moment q at in
@@ -33,6 +33,10 @@ told q at (commands.Change handle timeout) reply h = tt
 told q at (commands.Delete handle) reply h = tt
 told q at commands.Purge reply h = tt
 told q at (commands.Set wish target) reply h = tt
+told q at (commands.Arrive parcel) reply h = tt
+told q at (commands.Settle number) reply h = tt
+told q at (commands.Orphan target) reply h = tt
+told q at commands.FirstParcel reply h = tt
 told q at commands.Close reply h = tt
 told q at commands.Look reply h =
     let same : replies.Looked (look_of (at_moment q at)) ≡ reply = cc in
@@ -42,18 +46,15 @@ performed-only : (r : Result Reply Fault) (reply : Reply) → Ok (Performed repl
 performed-only (Ok x) reply h = cc
 performed-only (Err fault) reply h = absurd cc
 
-told_by : (o : Option QueueHistory) (at : ℕ) (command : Command) (reply : Reply)
-    → Ok (Performed reply) ≡ as_house_reply Performed (option_map_or (λ q. answer_of_queue q at command) o (Err QueueDoesNotExist))
+told_by : (refused : Option Fault) (o : Option QueueHistory) (at : ℕ) (command : Command) (reply : Reply)
+    → option_map_or (λ fault. Err fault) refused (option_map_or (λ q. (outcome_at q at command).reply) o (Err QueueDoesNotExist)) ≡ Ok reply
     → IfSome o (λ q. IsTold (at_moment q at) command reply)
-told_by None at command reply h = tt
-told_by (Some q) at command reply h = told q at command reply (performed-only (answer_of_queue q at command) reply h)
+told_by (Some fault) o at command reply h = absurd cc
+told_by None None at command reply h = tt
+told_by None (Some q) at command reply h = told q at command reply h
 
-pub IsToldBy-world : (w : World) (step : HouseStep) (answer : Answer) → Meets answer (answer_of_step w step) → IsToldBy w step answer
-IsToldBy-world w (steps.Create at name wish) answer meets = tt
-IsToldBy-world w (steps.Delete at uid) answer meets = tt
-IsToldBy-world w (steps.Perform at uid command) (Ok (Created given)) meets = tt
-IsToldBy-world w (steps.Perform at uid command) (Ok (Deleted q)) meets = tt
-IsToldBy-world w (steps.Perform at uid command) (Ok (Performed reply)) meets = told_by (queue_of_uid w uid) at command reply meets
-IsToldBy-world w (steps.Perform at uid command) (Ok Advanced) meets = tt
-IsToldBy-world w (steps.Perform at uid command) (Err fault) meets = tt
-IsToldBy-world w (steps.Advance at) answer meets = tt
+pub IsToldBy-world : (w : World) (step : HouseStep) (answer : Answer) → MeetsAnswer answer (answer_of_step w step) → IsToldBy w step answer
+IsToldBy-world w (steps.Perform at uid command) (Ok (Performed reply)) meets =
+    told_by (step_refusal w uid command) (queue_of_uid w uid) at command reply
+    (performed-only (step_answer w uid at command) reply (meets_performed (step_answer w uid at command) (Ok (Performed reply)) meets))
+IsToldBy-world w step answer meets = tt

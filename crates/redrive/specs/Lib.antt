@@ -2,5 +2,9 @@ pub mod Listing
 pub mod Listed
 pub mod Catalog
 pub mod World
+pub mod ByPlace
+pub mod Halves
 pub mod History
 pub mod WorldRun
+pub mod Places
+pub mod TransferExamples

@@ -1,22 +1,27 @@
 -- The queue registry: every queue of a server, by name and by uid (Amazon SQS API Reference: CreateQueue, GetQueueUrl). Uids are this project's own.
-use Rattle.std.specs.Prelude.{◌≡◌, ℕ, ◌+◌, ◌^◌, ◌<◌, ◌≤◌, ◌==◌, nat_eq, nat_le, Bool, true, false, not, ◌&&◌, ◌||◌, if◌then◌else◌, List, [], ◌∷◌, ◌++◌, length, map, filter, fold, Option, Result, Ok, Err}
+use Rattle.std.specs.Prelude.{◌≡◌, ◌⊎◌, ℕ, ◌+◌, ◌^◌, ◌<◌, ◌≤◌, ◌==◌, nat_eq, nat_le, Bool, true, false, not, ◌&&◌, ◌||◌, if◌then◌else◌, List, [], ◌∷◌, ◌++◌, length, map, filter, fold, unwrap_or, is_some, option_and_then, Option, Some, None, Result, Ok, Err}
 use Rattle.std.specs.List.{find, IsDistinct, All}
 use Rattle.std.specs.Option.{option_map, option_map_or}
 use Rattle.std.specs.Str.{bytes_eq}
 use Rattle.message.specs.declared.fault.Fault.{Fault}
-use Rattle.message.specs.declared.fault.Fault.TheVariants.{QueueDoesNotExist, QueueNameExists, OverLimit, UnsupportedOperation}
-use Rattle.message.specs.Fault.{is_out_of_memory}
+use Rattle.message.specs.declared.fault.Fault.TheVariants.{QueueDoesNotExist, QueueNameExists, InvalidAttributeValue, OverLimit, UnsupportedOperation}
+use Rattle.message.specs.Fault.{is_out_of_memory, Meets}
 use Rattle.queue_config.specs.Config.{Configuration}
 use Rattle.queue_config.specs.Limits.{QueueLimits}
-use Rattle.queue_config.specs.Settings.{QueueSettings, RequestedAttributes, default_settings, settings_with, same_settings}
+use Rattle.queue_config.specs.Settings.{QueueSettings, RequestedAttributes, default_settings, settings_with, requested_target, same_settings}
 use Rattle.journal.specs.declared.entry.Event.TheVariants.{Closed}
 use Rattle.queue_core.specs.declared.command.Command.{Command}
-use Rattle.queue_core.specs.declared.command.Command.TheVariants.{Close}
+use Rattle.queue_core.specs.declared.command.Command.TheVariants.{Set, Arrive, Settle, Orphan, Close}
+use Rattle.queue_core.specs.declared.parcel.Parcel.{Parcel}
+use Rattle.queue_core.specs.declared.parcel.Arrival.TheVariants.{New, Again}
 use Rattle.queue_core.specs.declared.reply.Reply.{Reply}
-use Rattle.queue_core.specs.Messages.{settings_of, is_closed}
-use Rattle.queue_core.specs.Queue.{QueueHistory, at_moment, outcome_at, adds_entry, with_event, after_answer}
+use Rattle.queue_core.specs.declared.reply.Reply.TheVariants as replies
+use Rattle.queue_core.specs.Messages.{settings_of, is_closed, has_accepted}
+use Rattle.queue_core.specs.Queue.{QueueHistory, at_moment, outcome_at, takes_memory, with_event, after_answer, first_parcel_of}
 use Rattle.queue_core.specs.Kept.{opened_queue}
-use Rattle.redrive.specs.Listing.{listed_names}
+use Rattle.redrive.specs.declared.moved.Moved.{Moved}
+use Rattle.redrive.specs.declared.moved.Moved.TheVariants as moved
+use Rattle.redrive.specs.Listing.{in_order, listed_names}
 
 -- the limits of each queue, the uid of the next queue, and the queues that are there, in the order in which they were created
 pub record World : Type 0 where
@@ -54,15 +59,38 @@ found_uid w name = option_map (λ q. q.uid) (queue_named w name)
 abbrev pub queue_of_uid : World → ℕ → Option QueueHistory
 queue_of_uid w uid = find (λ q. q.uid == uid) w.queues
 
+-- whether a queue has the uid
+abbrev pub has_queue : World → ℕ → Bool
+has_queue w uid = is_some (queue_of_uid w uid)
+
+-- ---- the dead-letter queue that a request names
+
+-- its name; none where no policy is asked for, or it is cleared
+abbrev pub named_target : RequestedAttributes → Option (List ℕ)
+named_target wish = unwrap_or (requested_target wish) None
+
+-- the uid that the name stands for, 0 where none is named or no queue has the name
+abbrev pub target_uid : World → RequestedAttributes → ℕ
+target_uid w wish = option_map_or (λ name. unwrap_or (found_uid w name) 0) (named_target wish) 0
+
+-- whether a queue of this name may ask for it: it has to be there, and to be another queue
+abbrev pub may_name_target : World → List ℕ → RequestedAttributes → Bool
+may_name_target w own wish = option_map_or (λ name. not (bytes_eq name own) && is_some (queue_named w name)) (named_target wish) true
+
+-- whether the queue of a uid may ask for it under this uid: it has to be there, to be another queue, and to be the one of the name
+abbrev pub may_have_target : World → ℕ → RequestedAttributes → ℕ → Bool
+may_have_target w own wish target =
+    option_map_or (λ name. not (target == own) && option_map_or (λ uid. uid == target) (found_uid w name) false) (named_target wish) true
+
 -- ---- creating a queue
 
 -- whether the queue's settings in force already are as requested
-abbrev pub has_all_requested : RequestedAttributes → QueueHistory → Bool
-has_all_requested wish q = same_settings (settings_with (settings_of q.lines) wish) (settings_of q.lines)
+abbrev pub has_all_requested : RequestedAttributes → ℕ → QueueHistory → Bool
+has_all_requested wish target q = same_settings (settings_with (settings_of q.lines) wish target) (settings_of q.lines)
 
 -- what a queue of the name answers
-abbrev pub existing_answer : RequestedAttributes → QueueHistory → Result ℕ Fault
-existing_answer wish q = if has_all_requested wish q then Ok q.uid else Err QueueNameExists
+abbrev pub existing_answer : RequestedAttributes → ℕ → QueueHistory → Result ℕ Fault
+existing_answer wish target q = if has_all_requested wish target q then Ok q.uid else Err QueueNameExists
 
 -- whether there are as many queues as there may be, or no uid is left
 abbrev pub has_no_place : World → Bool
@@ -72,50 +100,195 @@ has_no_place w = nat_le 1000 (length w.queues) || nat_le (2 ^ 62) w.next_uid
 abbrev pub new_answer : World → Result ℕ Fault
 new_answer w = if has_no_place w then Err OverLimit else Ok w.next_uid
 
+-- the dead-letter queue is judged first, then whether the name is there, then whether there is a place
 abbrev pub create_answer : World → List ℕ → RequestedAttributes → Result ℕ Fault
-create_answer w name wish = option_map_or (λ q. existing_answer wish q) (queue_named w name) (new_answer w)
+create_answer w name wish =
+    if may_name_target w name wish
+    then option_map_or (λ q. existing_answer wish (target_uid w wish) q) (queue_named w name) (new_answer w)
+    else Err InvalidAttributeValue
 
 -- whether a create of the name opens a queue
-abbrev pub opens_queue : World → List ℕ → Bool
-opens_queue w name = option_map_or (λ q. false) (queue_named w name) (not (has_no_place w))
+abbrev pub opens_queue : World → List ℕ → RequestedAttributes → Bool
+opens_queue w name wish = may_name_target w name wish && option_map_or (λ q. false) (queue_named w name) (not (has_no_place w))
 
 -- a queue of the next uid with what is requested, and the defaults of Amazon SQS for the rest
 abbrev pub new_queue : World → ℕ → List ℕ → RequestedAttributes → QueueHistory
-new_queue w at name wish = next_queue w at name (settings_with default_settings wish)
+new_queue w at name wish = next_queue w at name (settings_with default_settings wish (target_uid w wish))
 
 -- what a create leaves: one queue more where it opens one, and else the world as it was
 abbrev pub world_after_create : {T : Type 0} → World → ℕ → List ℕ → RequestedAttributes → Result T Fault → World
 world_after_create w at name wish answer =
     if is_out_of_memory answer then w
-    else option_map_or (λ q. w) (queue_named w name) (if has_no_place w then w else with_queue w (new_queue w at name wish))
+    else if opens_queue w name wish then with_queue w (new_queue w at name wish) else w
 
 -- ---- a command for one queue
 
--- whether a command closes a queue, which the registry alone does, where it deletes one
-abbrev pub closes_queue : Command → Bool
-closes_queue Close = true
-closes_queue _ = false
+-- whether a command is one that the registry alone gives: where it deletes a queue, or moves a dead letter
+abbrev pub is_internal : Command → Bool
+is_internal Close = true
+is_internal (Arrive parcel) = true
+is_internal (Settle number) = true
+is_internal (Orphan target) = true
+is_internal _ = false
 
--- the answer of a queue that is there
-abbrev pub answer_of_queue : QueueHistory → ℕ → Command → Result Reply Fault
-answer_of_queue q at command = if closes_queue command then Err UnsupportedOperation else (outcome_at q at command).reply
+-- whether the queue of a uid may be given the settings that a command asks for
+abbrev pub may_set : World → ℕ → Command → Bool
+may_set w uid (Set wish target) = may_have_target w uid wish target
+may_set w uid _ = true
 
--- the answer is that of the queue of the uid
+-- what refuses a command for the queue of a uid before it comes there
+abbrev pub step_refusal : World → ℕ → Command → Option Fault
+step_refusal w uid command =
+    if has_queue w uid
+    then (if is_internal command then Some UnsupportedOperation else if may_set w uid command then None else Some InvalidAttributeValue)
+    else Some QueueDoesNotExist
+
+-- the answer of the queue of a uid
+abbrev pub queue_answer : World → ℕ → ℕ → Command → Result Reply Fault
+queue_answer w uid at command = option_map_or (λ q. (outcome_at q at command).reply) (queue_of_uid w uid) (Err QueueDoesNotExist)
+
+-- the answer is that of the queue of the uid, where nothing refuses the command before it comes there
 abbrev pub step_answer : World → ℕ → ℕ → Command → Result Reply Fault
-step_answer w uid at command = option_map_or (λ q. answer_of_queue q at command) (queue_of_uid w uid) (Err QueueDoesNotExist)
+step_answer w uid at command = option_map_or (λ fault. Err fault) (step_refusal w uid command) (queue_answer w uid at command)
 
--- whether a command adds an entry to a queue; where none is added, no memory is needed
-abbrev pub adds_entry_at : World → ℕ → ℕ → Command → Bool
-adds_entry_at w uid at command = option_map_or (λ q. not (closes_queue command) && adds_entry (outcome_at q at command)) (queue_of_uid w uid) false
+-- whether a queue's answer to a command takes memory
+abbrev pub takes_memory_in : World → ℕ → ℕ → Command → Bool
+takes_memory_in w uid at command = option_map_or (λ q. takes_memory (outcome_at q at command)) (queue_of_uid w uid) false
+
+-- whether a step takes memory: one that is refused before it comes to a queue takes none
+abbrev pub takes_memory_at : World → ℕ → ℕ → Command → Bool
+takes_memory_at w uid at command = option_map_or (λ fault. false) (step_refusal w uid command) (takes_memory_in w uid at command)
 
 -- the world with the queue of a uid changed, and every other queue as it was
 abbrev pub with_queue_changed : World → ℕ → (QueueHistory → QueueHistory) → World
 with_queue_changed w uid change = record w { queues = map (λ q. if q.uid == uid then change q else q) w.queues }
 
--- what a command leaves
+-- what a command leaves that comes to the queue of a uid, and is answered so
+abbrev pub world_after_command : {T : Type 0} → World → ℕ → ℕ → Command → Result T Fault → World
+world_after_command w uid at command answer = with_queue_changed w uid (λ q. after_answer q at command answer)
+
+-- what a step leaves
 abbrev pub world_after_step : {T : Type 0} → World → ℕ → ℕ → Command → Result T Fault → World
 world_after_step w uid at command answer =
-    if closes_queue command then w else with_queue_changed w uid (λ q. after_answer q at command answer)
+    option_map_or (λ fault. w) (step_refusal w uid command) (world_after_command w uid at command answer)
+
+-- ---- dead letters
+
+-- the first parcel of the queue of a uid
+abbrev pub first_parcel_in : World → ℕ → Option Parcel
+first_parcel_in w source = option_and_then (λ q. first_parcel_of q) (queue_of_uid w source)
+
+-- a command, and the uid of the queue that it is for
+pub record Delivery : Type 0 where
+  pub uid : ℕ
+  pub command : Command
+
+-- a parcel goes to its queue where that is there; else its source takes back everything that waits for that queue
+abbrev pub delivery_of : World → ℕ → Parcel → Delivery
+delivery_of w source p =
+    if has_queue w p.target then record { uid = p.target; command = Arrive p } else record { uid = source; command = Orphan p.target }
+
+-- what a queue's answer says of the parcel
+abbrev pub moved_of : Reply → Moved
+moved_of (replies.Arrived New) = moved.Arrived
+moved_of (replies.Arrived Again) = moved.Again
+moved_of (replies.Orphaned count) = moved.Orphaned
+moved_of _ = moved.None
+
+abbrev pub as_moved : Result Reply Fault → Result Moved Fault
+as_moved (Ok reply) = Ok (moved_of reply)
+as_moved (Err fault) = Err fault
+
+abbrev pub delivered_answer : World → ℕ → Delivery → Result Moved Fault
+delivered_answer w at d = as_moved (queue_answer w d.uid at d.command)
+
+-- what becomes of the first parcel of the queue of a uid, which is there
+abbrev pub hand_over_answer : World → ℕ → ℕ → Result Moved Fault
+hand_over_answer w source at = option_map_or (λ p. delivered_answer w at (delivery_of w source p)) (first_parcel_in w source) (Ok moved.None)
+
+abbrev pub arrive_answer : World → ℕ → ℕ → Result Moved Fault
+arrive_answer w source at = if has_queue w source then hand_over_answer w source at else Err QueueDoesNotExist
+
+-- what it leaves, where the queue that the parcel goes to answers so
+abbrev pub world_after_hand_over : {T : Type 0} → World → ℕ → ℕ → Result T Fault → World
+world_after_hand_over w source at answer =
+    option_map_or (λ p. world_after_command w (delivery_of w source p).uid at (delivery_of w source p).command answer) (first_parcel_in w source) w
+
+-- whether the queue that a parcel is for is there and has accepted it
+abbrev pub is_accepted : World → Parcel → Bool
+is_accepted w p = option_map_or (λ q. has_accepted q.lines p.origin.uid p.origin.number) (queue_of_uid w p.target) false
+
+-- the number of the first parcel of the queue of a uid, where that is accepted
+abbrev pub accepted_number : World → ℕ → Option ℕ
+accepted_number w source = option_and_then (λ p. if is_accepted w p then Some p.origin.number else None) (first_parcel_in w source)
+
+-- the confirmation of it, and nothing where it is not accepted
+abbrev pub confirm_answer : World → ℕ → ℕ → Result Reply Fault
+confirm_answer w source at = option_map_or (λ number. queue_answer w source at (Settle number)) (accepted_number w source) (Ok (replies.Settled false))
+
+abbrev pub world_after_confirm : {T : Type 0} → World → ℕ → ℕ → Result T Fault → World
+world_after_confirm w source at answer =
+    option_map_or (λ number. world_after_command w source at (Settle number) answer) (accepted_number w source) w
+
+-- ---- a parcel moved: handed over, and confirmed
+
+-- What a hand-over leaves that is answered so. Memory may run out in two ways: where the queue that the parcel goes to finds none, that queue's clock has
+-- moved; where the parcel itself could not be made, nothing has changed
+abbrev pub IsHandedOver : World → ℕ → ℕ → Result Moved Fault → World → Type 0
+IsHandedOver old source at answer new =
+    (new ≡ world_after_hand_over old source at answer) ⊎ ((is_out_of_memory answer ≡ true) × (new ≡ old))
+
+-- whether the dead-letter queue has the parcel after a hand-over that is answered so: its source has to be told
+abbrev pub needs_confirmation : Result Moved Fault → Bool
+needs_confirmation (Ok moved.Arrived) = true
+needs_confirmation (Ok moved.Again) = true
+needs_confirmation _ = false
+
+-- the answer of a move by those to its halves: the refusal of a confirmation is that of the move
+abbrev pub answer_of_halves : Result Moved Fault → Result Reply Fault → Result Moved Fault
+answer_of_halves answer (Ok reply) = answer
+answer_of_halves answer (Err fault) = Err fault
+
+-- the answer of a move after a hand-over that is answered so and leaves this world
+abbrev pub answer_after_hand_over : World → ℕ → ℕ → Result Moved Fault → Result Moved Fault
+answer_after_hand_over between source at answer =
+    if needs_confirmation answer then answer_of_halves answer (confirm_answer between source at) else answer
+
+abbrev pub move_answer : World → ℕ → ℕ → Result Moved Fault
+move_answer w source at =
+    answer_after_hand_over (world_after_hand_over w source at (arrive_answer w source at)) source at (arrive_answer w source at)
+
+-- The second half of a move, after a hand-over that took the world from `old` to `between`. It confirms the parcel that was handed over, which the
+-- dead-letter queue has accepted; where the confirmation is refused, the parcel waits still
+pub record IsConfirmed (old between : World) (source at : ℕ) (handed_over answer : Result Moved Fault) (new : World) : Type 0 where
+  pub number : ℕ
+  pub first : option_map (λ p. p.origin.number) (first_parcel_in old source) ≡ Some number
+  pub accepted : accepted_number between source ≡ Some number
+  pub confirmed : Result Reply Fault
+  pub meets : Meets confirmed (confirm_answer between source at)
+  pub answered : answer ≡ answer_of_halves handed_over confirmed
+  pub left : new ≡ world_after_confirm between source at confirmed
+
+-- A move, with the answer and the world between its halves. Where the dead-letter queue did not get the parcel, there is no second half
+pub record IsMoved (old : World) (source at : ℕ) (answer : Result Moved Fault) (new : World) : Type 0 where
+  pub handed_over : Result Moved Fault
+  pub between : World
+  pub meets : Meets handed_over (arrive_answer old source at)
+  pub first_half : IsHandedOver old source at handed_over between
+  pub second_half : needs_confirmation handed_over ≡ true → IsConfirmed old between source at handed_over answer new
+  pub no_second_half : needs_confirmation handed_over ≡ false → (answer ≡ handed_over) × (new ≡ between)
+
+-- ---- whose dead-letter queue a queue is
+
+abbrev pub has_target : ℕ → QueueHistory → Bool
+has_target uid q = option_map_or (λ p. p.target == uid) (settings_of q.lines).redrive_policy false
+
+-- the names of the queues whose policy names the queue of a uid, in order
+abbrev pub sources_in_world : World → ℕ → List (List ℕ)
+sources_in_world w uid = in_order (map (λ q. q.name) (filter (λ q. has_target uid q) w.queues))
+
+abbrev pub sources_answer : World → ℕ → Result (List (List ℕ)) Fault
+sources_answer w uid = if has_queue w uid then Ok (sources_in_world w uid) else Err QueueDoesNotExist
 
 -- ---- deleting a queue
 

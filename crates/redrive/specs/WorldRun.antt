@@ -1,24 +1,23 @@
 -- The queue registry over a list of steps: queues created and deleted, commands for one queue, and time that passes for all.
-use Rattle.std.specs.Prelude.{◌≡◌, ℕ, ◌==◌, ◌&&◌, Bool, false, not, if◌then◌else◌, is_some, IfSome, List, [], ◌∷◌, map, Option, Some, None, unwrap_or, Result, Ok, Err}
+use Rattle.std.specs.Prelude.{◌≡◌, ℕ, ◌==◌, Bool, false, if◌then◌else◌, is_some, IfSome, option_and_then, List, [], ◌∷◌, map, Option, Some, None, unwrap_or, Result, Ok, Err}
 use Rattle.std.specs.Option.{option_map, option_map_or}
 use Rattle.message.specs.declared.fault.Fault.{Fault}
 use Rattle.message.specs.declared.fault.Fault.TheVariants.{QueueDoesNotExist}
 use Rattle.message.specs.Fault.{is_out_of_memory, Meets}
-use Rattle.queue_config.specs.Limits.{QueueLimits}
 use Rattle.queue_config.specs.Settings.{default_settings, settings_with}
 use Rattle.queue_core.specs.declared.command.Command.{Command}
 use Rattle.queue_core.specs.declared.command.Command.TheVariants as commands
 use Rattle.queue_core.specs.declared.reply.Reply.{Reply}
 use Rattle.queue_core.specs.declared.reply.Reply.TheVariants as replies
 use Rattle.queue_core.specs.States.{gauges_of}
-use Rattle.queue_core.specs.Queue.{QueueHistory, at_moment, after_answer, offered_candidates, offers_of}
+use Rattle.queue_core.specs.Queue.{QueueHistory, at_moment, outcome_at, after_answer, offered_candidates, offers_of}
 use Rattle.queue_core.specs.Kept.{opened_queue}
 use Rattle.redrive.specs.declared.steps.HouseReply.{HouseReply}
-use Rattle.redrive.specs.declared.steps.HouseReply.TheVariants.{Created, Deleted, Performed, Advanced}
+use Rattle.redrive.specs.declared.steps.HouseReply.TheVariants.{Created, Deleted, Performed, HandedOver, Confirmed, Advanced}
 use Rattle.redrive.specs.declared.steps.HouseStep.{HouseStep}
 use Rattle.redrive.specs.declared.steps.HouseStep.TheVariants as steps
 use Rattle.redrive.specs.declared.steps.QueueGauges.{QueueGauges}
-use Rattle.redrive.specs.World.{World, queue_of_uid, opens_queue, closes_queue, closed_queue, create_answer, world_after_create, take_answer, world_after_delete, answer_of_queue, step_answer, adds_entry_at, world_after_step, world_at_moment}
+use Rattle.redrive.specs.World.{World, queue_of_uid, has_queue, target_uid, opens_queue, step_refusal, closed_queue, create_answer, world_after_create, take_answer, world_after_delete, step_answer, takes_memory_at, world_after_step, first_parcel_in, delivery_of, hand_over_answer, world_after_hand_over, accepted_number, confirm_answer, world_after_confirm, world_at_moment}
 use Rattle.redrive.specs.History.{AllQueues}
 
 abbrev pub Answer : Type 0
@@ -30,24 +29,35 @@ as_house_reply reply (Err fault) = Err fault
 
 -- ---- one step
 
+-- the answer of a queue of a uid that is there
+abbrev pub if_there : World → ℕ → Answer → Answer
+if_there w uid answer = if has_queue w uid then answer else Err QueueDoesNotExist
+
 abbrev pub answer_of_step : World → HouseStep → Answer
 answer_of_step w (steps.Create at name wish) = as_house_reply Created (create_answer w name wish)
 answer_of_step w (steps.Delete at uid) = as_house_reply Deleted (take_answer w uid at)
 answer_of_step w (steps.Perform at uid command) = as_house_reply Performed (step_answer w uid at command)
+answer_of_step w (steps.HandOver at source) = if_there w source (Ok (HandedOver (hand_over_answer w source at)))
+answer_of_step w (steps.Confirm at source) = if_there w source (as_house_reply Confirmed (confirm_answer w source at))
 answer_of_step w (steps.Advance at) = Ok Advanced
 
--- whether a step needs memory: where it opens a queue, or adds to the journal of one
+-- whether a step needs memory: where it opens a queue, adds to the journal of one, or shares the content of a parcel
 abbrev pub needs_memory : World → HouseStep → Bool
-needs_memory w (steps.Create at name wish) = opens_queue w name
-needs_memory w (steps.Delete at uid) = is_some (queue_of_uid w uid)
-needs_memory w (steps.Perform at uid command) = adds_entry_at w uid at command
+needs_memory w (steps.Create at name wish) = opens_queue w name wish
+needs_memory w (steps.Delete at uid) = has_queue w uid
+needs_memory w (steps.Perform at uid command) = takes_memory_at w uid at command
+needs_memory w (steps.HandOver at source) = is_some (first_parcel_in w source)
+needs_memory w (steps.Confirm at source) = is_some (accepted_number w source)
 needs_memory w (steps.Advance at) = false
 
--- the registry that a step leaves which is answered so
+-- the registry that a step leaves which is answered so. Where the first parcel is not found for want of memory, nothing is handed over
 abbrev pub world_after : World → HouseStep → Answer → World
 world_after w (steps.Create at name wish) answer = world_after_create w at name wish answer
 world_after w (steps.Delete at uid) answer = world_after_delete w uid at answer
 world_after w (steps.Perform at uid command) answer = world_after_step w uid at command answer
+world_after w (steps.HandOver at source) (Ok (HandedOver answer)) = world_after_hand_over w source at answer
+world_after w (steps.HandOver at source) _ = w
+world_after w (steps.Confirm at source) answer = world_after_confirm w source at answer
 world_after w (steps.Advance at) answer = world_at_moment w at
 
 -- a queue that was deleted is handed over closed
@@ -61,9 +71,14 @@ all_after all step answer = record { world = world_after all.world step answer; 
 
 -- ---- a list of steps
 
+-- the answer is the one wanted, or memory ran out; that a queue found no memory for a parcel is part of the answer
+abbrev pub MeetsAnswer : Answer → Answer → Type 0
+MeetsAnswer (Ok (HandedOver answer)) (Ok (HandedOver wanted)) = Meets answer wanted
+MeetsAnswer answer wanted = Meets answer wanted
+
 -- the answer is that of the registry; only a step that needs memory may find none
 pub record IsAnswerOf (w : World) (step : HouseStep) (answer : Answer) : Type 0 where
-  pub meets : Meets answer (answer_of_step w step)
+  pub meets : MeetsAnswer answer (answer_of_step w step)
   pub exact : needs_memory w step ≡ false → answer ≡ answer_of_step w step
 
 -- each answer is that of the registry which the answers before it leave
@@ -92,31 +107,45 @@ abbrev pub answers_uid : ℕ → Answer → Bool
 answers_uid uid (Ok (Created given)) = given == uid
 answers_uid uid _ = false
 
--- what a step leaves of the queue of a uid, if there is one: it sees its own creation, commands and deletion, and time, and nothing else
-abbrev pub queue_after : QueueLimits → ℕ → Option QueueHistory → HouseStep → Answer → Option QueueHistory
-queue_after limits uid q (steps.Create at name wish) answer =
-    if answers_uid uid answer then Some (unwrap_or q (opened_queue uid name (settings_with default_settings wish) limits at)) else q
-queue_after limits uid q (steps.Delete at own) answer =
+-- the command that a step gives the queue of a uid
+abbrev pub command_for : World → ℕ → HouseStep → Option Command
+command_for w uid (steps.Perform at own command) = if own == uid then option_map_or (λ fault. None) (step_refusal w uid command) (Some command) else None
+command_for w uid (steps.HandOver at source) =
+    option_and_then (λ p. if (delivery_of w source p).uid == uid then Some (delivery_of w source p).command else None) (first_parcel_in w source)
+command_for w uid (steps.Confirm at source) = if source == uid then option_map (λ number. commands.Settle number) (accepted_number w source) else None
+command_for w uid _ = None
+
+-- what a command leaves of a queue, where there is one
+abbrev pub after_command : {T : Type 0} → Option QueueHistory → ℕ → Option Command → Result T Fault → Option QueueHistory
+after_command q at None answer = q
+after_command q at (Some command) answer = option_map (λ q. after_answer q at command answer) q
+
+-- what a step leaves of the queue of a uid, if there is one: it sees its own creation, the commands that are for it, its deletion, and time, and nothing else
+abbrev pub queue_after : World → ℕ → Option QueueHistory → HouseStep → Answer → Option QueueHistory
+queue_after w uid q (steps.Create at name wish) answer =
+    if answers_uid uid answer then Some (unwrap_or q (opened_queue uid name (settings_with default_settings wish (target_uid w wish)) w.limits at)) else q
+queue_after w uid q (steps.Delete at own) answer =
     if own == uid then (if is_out_of_memory answer then option_map (λ q. at_moment q at) q else None) else q
-queue_after limits uid q (steps.Perform at own command) answer =
-    if (own == uid) && not (closes_queue command) then option_map (λ q. after_answer q at command answer) q else q
-queue_after limits uid q (steps.Advance at) answer = option_map (λ q. at_moment q at) q
+queue_after w uid q (steps.Perform at own command) answer = after_command q at (command_for w uid (steps.Perform at own command)) answer
+queue_after w uid q (steps.HandOver at source) (Ok (HandedOver answer)) = after_command q at (command_for w uid (steps.HandOver at source)) answer
+queue_after w uid q (steps.HandOver at source) _ = q
+queue_after w uid q (steps.Confirm at source) answer = after_command q at (command_for w uid (steps.Confirm at source)) answer
+queue_after w uid q (steps.Advance at) answer = option_map (λ q. at_moment q at) q
 
 -- its own commands and its own deletion are answered by it alone
-abbrev pub IsOwnAnswer : ℕ → Option QueueHistory → HouseStep → Answer → Type 0
-IsOwnAnswer uid q (steps.Create at name wish) answer = Unit {0}
-IsOwnAnswer uid q (steps.Delete at own) answer =
+abbrev pub IsOwnAnswer : World → ℕ → Option QueueHistory → HouseStep → Answer → Type 0
+IsOwnAnswer w uid q (steps.Delete at own) answer =
     own ≡ uid → Meets answer (as_house_reply Deleted (option_map_or (λ q. Ok (closed_queue q at)) q (Err QueueDoesNotExist)))
-IsOwnAnswer uid q (steps.Perform at own command) answer =
-    own ≡ uid → Meets answer (as_house_reply Performed (option_map_or (λ q. answer_of_queue q at command) q (Err QueueDoesNotExist)))
-IsOwnAnswer uid q (steps.Advance at) answer = Unit {0}
+IsOwnAnswer w uid q (steps.Perform at own command) answer =
+    own ≡ uid → step_refusal w uid command ≡ None → Meets answer (as_house_reply Performed (option_map_or (λ q. (outcome_at q at command).reply) q (Err QueueDoesNotExist)))
+IsOwnAnswer w uid q step answer = Unit {0}
 
--- the queue of a uid answers its own steps, and becomes what they leave, as if no other queue were there
-abbrev pub IsAsIfAlone : QueueLimits → ℕ → Option QueueHistory → List HouseStep → List Answer → Option QueueHistory → Type 0
-IsAsIfAlone limits uid q [] answers new = new ≡ q
-IsAsIfAlone limits uid q (step ∷ steps) [] new = new ≡ q
-IsAsIfAlone limits uid q (step ∷ steps) (answer ∷ answers) new =
-    IsOwnAnswer uid q step answer × IsAsIfAlone limits uid (queue_after limits uid q step answer) steps answers new
+-- the queue of a uid answers its own steps, and becomes what the commands for it leave, as if no other queue were there
+abbrev pub IsAsIfAlone : World → ℕ → Option QueueHistory → List HouseStep → List Answer → Option QueueHistory → Type 0
+IsAsIfAlone w uid q [] answers new = new ≡ q
+IsAsIfAlone w uid q (step ∷ steps) [] new = new ≡ q
+IsAsIfAlone w uid q (step ∷ steps) (answer ∷ answers) new =
+    IsOwnAnswer w uid q step answer × IsAsIfAlone (world_after w step answer) uid (queue_after w uid q step answer) steps answers new
 
 -- ---- what is told of the queues is recomputed from their journals
 

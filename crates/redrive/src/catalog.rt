@@ -44,9 +44,9 @@ impl Model for Catalog {
 impl Catalog {
     ghost use Rattle.redrive.specs.Catalog.{IsDirectory, empty_directory, uid_of_name, has_uid, is_directory_full, add_answer, with_registered, without_uid, retargeted, with_target, names_listed, source_names, sources_answer};
 
-    /// A directory without queues. Uids begin at 1. `OutOfMemory` is the only refusal.
+    /// A directory without queues. Uids begin at 1. It takes no memory.
     pub fn new(alloc: Global) -> Result<Catalog, Fault>
-        ensures { Meets result (Ok empty_directory) }
+        ensures { result ≡ Ok empty_directory }
     {
         Ok(Catalog {
             next_uid: 1,

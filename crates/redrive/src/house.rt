@@ -1,18 +1,18 @@
 //! The queue registry.
 
-ghost use Rattle.std.specs.Prelude.{◌≡◌, ◌≢◌, ℕ, ◌<◌, ◌≤◌, ◌==◌, List, [], ◌∷◌, map, remove, slice_get, vec_len, vec_capacity, IfSome, IfOk, OnOk, OnErr, IfErr, true, false};
+ghost use Rattle.std.specs.Prelude.{◌≡◌, ◌≢◌, ℕ, ◌<◌, ◌≤◌, ◌==◌, List, [], ◌∷◌, map, vec_capacity, IfSome, IfOk, OnOk, OnErr, IfErr, true, false};
 ghost use Rattle.std.specs.List.{position};
 ghost use Rattle.std.specs.Option.{option_copied, option_map};
 ghost use Rattle.message.specs.Fault.{Meets};
-ghost use Rattle.queue_core.specs.Messages.{is_closed};
-ghost use Rattle.queue_core.specs.Queue.{QueueHistory, at_moment};
+ghost use Rattle.queue_core.specs.Queue.{QueueHistory};
+ghost use Rattle.redrive.specs.Listed.{items_of};
 
-use crate::catalog::UID_LIMIT;
-use crate::listing::list_name;
+use crate::listing::{list_name, put_name};
+use crate::queues::Queues;
 use crate::steps::QueueGauges;
 use journal::{Moment, Ticks};
 use message::{Fault, QueueName};
-use queue_config::{Config, Limits, QUEUE_LIMIT, Settings, Wish};
+use queue_config::{Config, Limits, Settings, Wish};
 use queue_core::{Command, QueueState, Reply};
 use std::alloc::Global;
 use std::marker::Model;
@@ -22,9 +22,7 @@ use std::marker::Model;
 /// they were created.
 #[derive(Debug, Drop)]
 pub struct House {
-    limits: Limits,
-    next_uid: u64,
-    queues: Vec<QueueState>,
+    queues: Queues,
 }
 
 impl Model for House {
@@ -32,61 +30,62 @@ impl Model for House {
 
     ghost Value = { World };
 
-    ghost view = { λ h. record { limits = h.limits; next_uid = h.next_uid; queues = h.queues.items } };
+    ghost view = { λ h. h.queues };
 
-    ghost invariant = { λ h. IsRegistry (record { limits = h.limits; next_uid = h.next_uid; queues = h.queues.items }) };
+    ghost invariant = { λ h. IsRegistry h.queues };
 }
 
-ghost use Rattle.redrive.specs.World.{has_all_requested, existing_answer, closes_queue, closed_queue};
+ghost use Rattle.redrive.specs.World.{named_target, has_all_requested, existing_answer, is_internal, has_target};
 
-/// Whether a command closes a queue.
-fn is_closing(command: &Command) -> bool
-    ensures { result ≡ closes_queue command.now }
+/// Whether a command is one that the registry alone gives.
+fn is_internal(command: &Command) -> bool
+    ensures { result ≡ is_internal command.now }
 {
-    matches!(command, Command::Close)
+    matches!(
+        command,
+        Command::Close | Command::Arrive { .. } | Command::Settle { .. } | Command::Orphan { .. }
+    )
 }
 
-/// Whether the queue's settings in force already are as requested.
-fn has_all_requested(queue: &QueueState, wish: &Wish) -> bool
-    ensures { result ≡ has_all_requested wish.now queue.now }
+/// The name of the dead-letter queue that is asked for.
+fn named_target(wish: &Wish) -> Option<QueueName>
+    ensures { result ≡ named_target wish.now }
 {
-    queue.settings().agrees(wish, 0)
+    wish.target().unwrap_or(None)
+}
+
+/// Whether the queue's settings in force already are as requested. `target` is the uid of the
+/// dead-letter queue that is asked for.
+fn has_all_requested(queue: &QueueState, wish: &Wish, target: u64) -> bool
+    ensures { result ≡ has_all_requested wish.now target queue.now }
+{
+    queue.settings().agrees(wish, target)
 }
 
 /// What a create answers where a queue has the name.
-fn existing_answer(queue: &QueueState, wish: &Wish) -> Result<u64, Fault>
-    ensures { result ≡ existing_answer wish.now queue.now }
+fn existing_answer(queue: &QueueState, wish: &Wish, target: u64) -> Result<u64, Fault>
+    ensures { result ≡ existing_answer wish.now target queue.now }
 {
-    if has_all_requested(queue, wish) {
+    if has_all_requested(queue, wish, target) {
         Ok(queue.uid())
     } else {
         Err(Fault::QueueNameExists)
     }
 }
 
-/// Closes a queue that is not closed. `OutOfMemory` is the only refusal; then the clock alone has
-/// moved.
-fn close(queue: &mut QueueState, alloc: Global, at: Moment, ticks: &mut Ticks) -> Result<(), Fault>
-    requires { is_closed queue.old.lines ≡ false }
-    ensures closed { OnOk result (queue.new ≡ closed_queue queue.old at) }
-    ensures moved { OnErr result (queue.new ≡ at_moment queue.old at) }
-    ensures errors { IfErr result (λ fault. fault ≡ Fault.OutOfMemory) }
+/// Whether the dead-letter queue of a queue is that of a uid.
+fn has_target(queue: &QueueState, uid: u64) -> bool
+    ensures { result ≡ has_target uid queue.now }
 {
-    queue.close(alloc, at, ticks)
-}
-
-/// Takes out the queue at a place, which is closed. Nothing else takes a queue out of the list.
-fn take_out(queues: &mut Vec<QueueState>, place: usize) -> QueueState
-    requires within { place < vec_len queues.old }
-    requires closed { IfSome (slice_get queues.old.items place) (λ q. is_closed q.lines ≡ true) }
-    ensures queue { slice_get queues.old.items place ≡ Some result }
-    ensures rest { queues.new.items ≡ remove queues.old.items place }
-{
-    queues.remove(place)
+    match queue.settings().redrive_policy {
+        Some(policy) => policy.target == uid,
+        None => false,
+    }
 }
 
 impl House {
-    ghost use Rattle.redrive.specs.World.{empty_world, new_world, next_queue, queue_named, queue_of_uid, found_uid, has_no_place, opens_queue, create_answer, with_queue, world_after_create, step_answer, adds_entry_at, world_after_step, take_answer, delete_answer, world_after_delete, names_in_world, world_at_moment, IsRegistry};
+    ghost use Rattle.redrive.specs.World.{empty_world, new_world, next_queue, queue_named, queue_of_uid, has_queue, found_uid, target_uid, may_name_target, may_have_target, may_set, has_no_place, opens_queue, create_answer, with_queue, world_after_create, step_refusal, queue_answer, step_answer, takes_memory_in, takes_memory_at, world_after_command, world_after_step, sources_in_world, sources_answer, take_answer, delete_answer, world_after_delete, names_in_world, world_at_moment, IsRegistry};
+    ghost use Rattle.redrive.specs.ByPlace.{closes_queue};
     ghost use Rattle.redrive.specs.History.{journal_of, closed_journal};
     ghost use Rattle.redrive.specs.WorldRun.{measured_queue};
 
@@ -95,16 +94,16 @@ impl House {
         ensures { result ≡ empty_world limits }
     {
         House {
-            limits,
-            next_uid: 1,
-            queues: Vec::new(alloc),
+            queues: Queues::new(alloc, limits),
         }
     }
 
     /// A registry with the configuration's limits and its queues, opened at a moment in the order of
-    /// the configuration. Uids begin at 1. `OutOfMemory` is the only refusal.
+    /// the configuration. Uids begin at 1. `OutOfMemory` is the only refusal; where no queue is
+    /// configured, it takes no memory.
     pub fn new(alloc: Global, config: &Config, at: Moment) -> Result<House, Fault>
-        ensures { Meets result (Ok (new_world config.now at)) }
+        ensures world { Meets result (Ok (new_world config.now at)) }
+        ensures none { config.now.queues ≡ [] → result ≡ Ok (empty_world config.now.limits) }
     {
         let mut house = House::empty(alloc, config.limits);
         for queue in config.queues.as_slice() {
@@ -119,6 +118,7 @@ impl House {
         ensures registry { IsRegistry self.now }
     {
         self.queues
+            .as_slice()
             .iter()
             .find(|queue| queue.name().as_text() == name.as_text())
     }
@@ -136,14 +136,10 @@ impl House {
         ensures state { option_copied result ≡ queue_of_uid self.now uid }
         ensures registry { IsRegistry self.now }
     {
-        self.queues.iter().find(|queue| queue.uid() == uid)
-    }
-
-    /// Whether there are as many queues as there may be, or no uid is left.
-    fn has_no_place(&self) -> bool
-        ensures { result ≡ has_no_place self.now }
-    {
-        QUEUE_LIMIT <= self.queues.len() || UID_LIMIT <= self.next_uid
+        self.queues
+            .as_slice()
+            .iter()
+            .find(|queue| queue.uid() == uid)
     }
 
     /// Opens a queue of the next uid.
@@ -160,17 +156,42 @@ impl House {
         ensures ok { OnOk result (self.new ≡ with_queue self.old (next_queue self.old at name settings)) }
         ensures err { OnErr result (self.new ≡ self.old) }
     {
-        let uid = self.next_uid;
-        let queue = QueueState::open(alloc, uid, name, settings, self.limits, at)?;
-        self.queues.push(queue)?;
-        self.next_uid = uid + 1;
-        Ok(uid)
+        self.queues.open(alloc, at, name, settings)
     }
 
-    /// Creates a queue, and answers its uid. A name that a queue has already answers that queue's
-    /// uid where its settings in force are as requested, and else `QueueNameExists`; no clock moves.
-    /// A new name is `OverLimit` where there are 1,000 queues or no uid is left. A create that is
-    /// refused or that finds no memory changes nothing and uses up no uid.
+    /// Whether a queue has the uid.
+    pub(crate) fn has_queue(&self, uid: u64) -> bool
+        ensures { result ≡ has_queue self.now uid }
+    {
+        self.state(uid).is_some()
+    }
+
+    /// The uid of the dead-letter queue that is asked for, 0 where none is or no queue has its name.
+    fn target_uid(&self, wish: &Wish) -> u64
+        ensures { result ≡ target_uid self.now wish.now }
+    {
+        match named_target(wish) {
+            Some(name) => self.find(&name).unwrap_or(0),
+            None => 0,
+        }
+    }
+
+    /// Whether a queue of this name may ask for the dead-letter queue.
+    fn may_name_target(&self, own: &QueueName, wish: &Wish) -> bool
+        ensures { result ≡ may_name_target self.now own.now wish.now }
+    {
+        match named_target(wish) {
+            Some(name) => name.as_text() != own.as_text() && self.find(&name).is_some(),
+            None => true,
+        }
+    }
+
+    /// Creates a queue, and answers its uid. A dead-letter queue that is asked for has to be there and
+    /// to be another queue; else it is `InvalidAttributeValue`, which is judged first. A name that a
+    /// queue has already answers that queue's uid where its settings in force are as requested, and
+    /// else `QueueNameExists`; no clock moves. A new name is `OverLimit` where there are 1,000 queues
+    /// or no uid is left. A create that is refused or that finds no memory changes nothing and uses up
+    /// no uid.
     pub fn create(
         &mut self,
         alloc: Global,
@@ -179,28 +200,91 @@ impl House {
         wish: Wish,
     ) -> Result<u64, Fault>
         ensures answer { Meets result (create_answer self.old name wish) }
-        ensures known { opens_queue self.old name ≡ false → result ≡ create_answer self.old name wish }
+        ensures known { opens_queue self.old name wish ≡ false → result ≡ create_answer self.old name wish }
         ensures state { self.new ≡ world_after_create self.old at name wish result }
         ensures found { IfOk result (λ uid. found_uid self.new name ≡ Some uid) }
         ensures others { (other : List ℕ) → other ≢ name → found_uid self.new other ≡ found_uid self.old other }
     {
-        if let Some(queue) = self.queue_named(&name) {
-            return existing_answer(queue, &wish);
+        if !self.may_name_target(&name, &wish) {
+            return Err(Fault::InvalidAttributeValue);
         }
-        if self.has_no_place() {
+        let target = self.target_uid(&wish);
+        if let Some(queue) = self.queue_named(&name) {
+            return existing_answer(queue, &wish, target);
+        }
+        if self.queues.has_no_place() {
             return Err(Fault::OverLimit);
         }
-        self.open(alloc, at, name, Settings::default().with(&wish, 0))
+        self.open(alloc, at, name, Settings::default().with(&wish, target))
     }
 
     /// The place of the queue of a uid.
     fn place_of(&self, uid: u64) -> Option<usize>
         ensures { result ≡ position (λ q. q.uid == uid) self.now.queues }
     {
-        self.queues.iter().position(|queue| queue.uid() == uid)
+        self.queues
+            .as_slice()
+            .iter()
+            .position(|queue| queue.uid() == uid)
     }
 
-    /// Does a command in the queue of a uid, if there is one.
+    /// Does a command that closes no queue in the queue of a uid.
+    pub(crate) fn command_in(
+        &mut self,
+        alloc: Global,
+        uid: u64,
+        at: Moment,
+        command: &Command,
+        ticks: &mut Ticks,
+    ) -> Result<Reply, Fault>
+        requires { closes_queue command.now ≡ false }
+        ensures answer { Meets result (queue_answer self.old uid at command.now) }
+        ensures exact { takes_memory_in self.old uid at command.now ≡ false → result ≡ queue_answer self.old uid at command.now }
+        ensures state { self.new ≡ world_after_command self.old uid at command.now result }
+    {
+        match self.place_of(uid) {
+            Some(place) => self.queues.perform_at(alloc, place, at, command, ticks),
+            None => Err(Fault::QueueDoesNotExist),
+        }
+    }
+
+    /// Whether the queue of a uid may ask for the dead-letter queue under this uid.
+    fn may_have_target(&self, own: u64, wish: &Wish, target: u64) -> bool
+        ensures { result ≡ may_have_target self.now own wish.now target }
+    {
+        match named_target(wish) {
+            Some(name) => target != own && self.find(&name) == Some(target),
+            None => true,
+        }
+    }
+
+    /// Whether the queue of a uid may be given the settings that a command asks for.
+    fn may_set(&self, uid: u64, command: &Command) -> bool
+        ensures { result ≡ may_set self.now uid command.now }
+    {
+        match command {
+            Command::Set { wish, target } => self.may_have_target(uid, wish, *target),
+            _ => true,
+        }
+    }
+
+    /// What refuses a command before it comes to the queue of a uid.
+    fn step_refusal(&self, uid: u64, command: &Command) -> Option<Fault>
+        ensures { result ≡ step_refusal self.now uid command.now }
+    {
+        if !self.has_queue(uid) {
+            return Some(Fault::QueueDoesNotExist);
+        }
+        if is_internal(command) {
+            return Some(Fault::UnsupportedOperation);
+        }
+        if !self.may_set(uid, command) {
+            return Some(Fault::InvalidAttributeValue);
+        }
+        None
+    }
+
+    /// Does a command in the queue of a uid, unless it is refused before.
     pub(crate) fn perform_in(
         &mut self,
         alloc: Global,
@@ -211,23 +295,22 @@ impl House {
     ) -> Result<Reply, Fault>
         ensures answer { Meets result (step_answer self.old uid at command.now) }
         ensures absent { queue_of_uid self.old uid ≡ None → result ≡ Err Fault.QueueDoesNotExist }
-        ensures closing { closes_queue command.now ≡ true → result ≡ step_answer self.old uid at command.now }
-        ensures exact { adds_entry_at self.old uid at command.now ≡ false → result ≡ step_answer self.old uid at command.now }
+        ensures refused { IfSome (step_refusal self.old uid command.now) (λ fault. result ≡ Err fault) }
+        ensures exact { takes_memory_at self.old uid at command.now ≡ false → result ≡ step_answer self.old uid at command.now }
         ensures state { self.new ≡ world_after_step self.old uid at command.now result }
     {
-        let Some(place) = self.place_of(uid) else {
-            return Err(Fault::QueueDoesNotExist);
-        };
-        if is_closing(command) {
-            return Err(Fault::UnsupportedOperation);
+        match self.step_refusal(uid, command) {
+            Some(fault) => Err(fault),
+            None => self.command_in(alloc, uid, at, command, ticks),
         }
-        self.queues[place].perform(alloc, at, command, ticks)
     }
 
-    /// Does a command in the queue of a uid. Where no queue has the uid it is `QueueDoesNotExist`,
-    /// and changes nothing; nor does a close, which is `UnsupportedOperation`:
-    /// [`delete_queue`](House::delete_queue) closes. With `OutOfMemory` only that queue's clock has
-    /// moved.
+    /// Does a command in the queue of a uid. Where no queue has the uid it is `QueueDoesNotExist`. The
+    /// commands that the registry itself gives, a close ([`delete_queue`](House::delete_queue)) and
+    /// those of dead letters ([`move_one`](House::move_one)), are `UnsupportedOperation`. A `Set` whose
+    /// dead-letter queue is not there under the uid that is given, or is the queue itself, is
+    /// `InvalidAttributeValue`. Each of these changes nothing, and needs no memory. With `OutOfMemory`
+    /// only that queue's clock has moved.
     pub fn step(
         &mut self,
         alloc: Global,
@@ -238,8 +321,8 @@ impl House {
     ) -> Result<Reply, Fault>
         ensures answer { Meets result (step_answer self.old uid at command) }
         ensures absent { queue_of_uid self.old uid ≡ None → result ≡ Err Fault.QueueDoesNotExist }
-        ensures closing { closes_queue command ≡ true → result ≡ step_answer self.old uid at command }
-        ensures exact { adds_entry_at self.old uid at command ≡ false → result ≡ step_answer self.old uid at command }
+        ensures refused { IfSome (step_refusal self.old uid command) (λ fault. result ≡ Err fault) }
+        ensures exact { takes_memory_at self.old uid at command ≡ false → result ≡ step_answer self.old uid at command }
         ensures state { self.new ≡ world_after_step self.old uid at command result }
     {
         self.perform_in(alloc, uid, at, &command, ticks)
@@ -266,10 +349,7 @@ impl House {
             ≡ journal_of (record { world = self.old; deleted = deleted }) other) }
     {
         match self.place_of(uid) {
-            Some(place) => match close(&mut self.queues[place], alloc, at, ticks) {
-                Ok(()) => Ok(take_out(&mut self.queues, place)),
-                Err(_) => Err(Fault::OutOfMemory),
-            },
+            Some(place) => self.queues.close_and_take(alloc, place, at, ticks),
             None => Err(Fault::QueueDoesNotExist),
         }
     }
@@ -306,13 +386,39 @@ impl House {
         Ok(names)
     }
 
+    /// The names of the queues whose dead-letter queue the queue of a uid is, in the order of their
+    /// bytes. Where no queue has the uid it is `QueueDoesNotExist`, which needs no memory.
+    pub fn sources(&self, alloc: Global, uid: u64) -> Result<Vec<QueueName>, Fault>
+        ensures answer { Meets (items_of result) (sources_answer self.now uid) }
+        ensures absent { queue_of_uid self.now uid ≡ None → result ≡ Err Fault.QueueDoesNotExist }
+        ensures registry { IsRegistry self.now }
+    {
+        self.keep_registry();
+        if !self.has_queue(uid) {
+            return Err(Fault::QueueDoesNotExist);
+        }
+        self.source_names(alloc, uid)
+    }
+
+    /// The names of the queues whose dead-letter queue is that of a uid.
+    fn source_names(&self, alloc: Global, uid: u64) -> Result<Vec<QueueName>, Fault>
+        ensures ok { IfOk result (λ names. names.items ≡ sources_in_world self.now uid) }
+        ensures errors { IfErr result (λ fault. fault ≡ Fault.OutOfMemory) }
+    {
+        let mut names = Vec::new(alloc);
+        for queue in self.queues.as_slice() {
+            if has_target(queue, uid) {
+                put_name(&mut names, queue.name())?;
+            }
+        }
+        Ok(names)
+    }
+
     /// Looks at every queue at a moment, so that each clock is there at least.
     pub fn advance_all(&mut self, at: Moment, ticks: &mut Ticks)
         ensures { self.new ≡ world_at_moment self.old at }
     {
-        for queue in self.queues.iter_mut() {
-            queue.look(at, ticks);
-        }
+        self.queues.advance_all(at, ticks);
     }
 
     /// What is true of every registry. Nothing runs here.

@@ -12,14 +12,23 @@
 #![tactic(auto)]
 
 mod catalog;
+mod dead_letters;
 mod house;
 mod laws;
 mod listing;
+mod moved;
+mod queues;
 mod steps;
 #[cfg(test)]
 mod tests;
+pub mod transfer_examples;
+mod transfer_laws;
 
 pub use catalog::{Catalog, Registered, UID_LIMIT};
 pub use house::House;
 pub use laws::{histories_begin, listed_names_ascend};
+pub use moved::Moved;
 pub use steps::{HouseReply, HouseRun, HouseStep, QueueGauges};
+pub use transfer_laws::{
+    each_departure_has_its_fate, each_message_has_one_place, transfers_are_accepted_once,
+};

@@ -1,9 +1,9 @@
 //! The queue registry over a list of steps.
 
 ghost use Rattle.std.specs.Prelude.{◌≡◌, ℕ, false, IfOk, OnErr, IfErr};
-ghost use Rattle.message.specs.Fault.{Meets};
 
 use crate::house::House;
+use crate::moved::Moved;
 use journal::{Moment, Ticks};
 use message::{Fault, QueueName};
 use queue_config::{QUEUE_LIMIT, Wish};
@@ -30,6 +30,18 @@ pub enum HouseStep {
         uid: u64,
         command: Command,
     },
+    /// The first parcel of the queue of a uid is handed over, and not confirmed:
+    /// [`House::arrive_one`].
+    HandOver {
+        at: Moment,
+        source: u64,
+    },
+    /// The first parcel of the queue of a uid is confirmed, where the queue that it is for has accepted
+    /// it: the second half of [`House::move_one`].
+    Confirm {
+        at: Moment,
+        source: u64,
+    },
     /// Time passes for all queues: [`House::advance_all`].
     Advance {
         at: Moment,
@@ -45,6 +57,10 @@ pub enum HouseReply {
     Deleted(QueueState),
     /// What the queue answered.
     Performed(Reply),
+    /// What became of the first parcel, or why the queue that it went to refused it.
+    HandedOver(Result<Moved, Fault>),
+    /// Whether a parcel was confirmed.
+    Confirmed(Reply),
     Advanced,
 }
 
@@ -66,7 +82,7 @@ pub struct HouseRun {
 impl House {
     ghost use Rattle.redrive.specs.History.{AllQueues, IsWholeHistory};
     ghost use Rattle.redrive.specs.World.{queue_of_uid, IsRegistry};
-    ghost use Rattle.redrive.specs.WorldRun.{answer_of_step, needs_memory, world_after, AreHouseAnswers, world_after_all, history_after, IsAsIfAlone, AreRecomputed};
+    ghost use Rattle.redrive.specs.WorldRun.{answer_of_step, needs_memory, MeetsAnswer, world_after, AreHouseAnswers, world_after_all, history_after, IsAsIfAlone, AreRecomputed};
 
     /// Does one step.
     fn take_step(
@@ -75,7 +91,7 @@ impl House {
         step: &HouseStep,
         ticks: &mut Ticks,
     ) -> Result<HouseReply, Fault>
-        ensures answer { Meets result (answer_of_step self.old step.now) }
+        ensures answer { MeetsAnswer result (answer_of_step self.old step.now) }
         ensures exact { needs_memory self.old step.now ≡ false → result ≡ answer_of_step self.old step.now }
         ensures state { self.new ≡ world_after self.old step.now result }
         ensures registry { IsRegistry self.old }
@@ -91,6 +107,12 @@ impl House {
             HouseStep::Perform { at, uid, command } => {
                 Ok(HouseReply::Performed(self.perform_in(alloc, *uid, *at, command, ticks)?))
             }
+            HouseStep::HandOver { at, source } => {
+                Ok(HouseReply::HandedOver(self.hand_over(alloc, *source, *at, ticks)?))
+            }
+            HouseStep::Confirm { at, source } => {
+                Ok(HouseReply::Confirmed(self.confirm(alloc, *source, *at, ticks)?))
+            }
             HouseStep::Advance { at } => {
                 self.advance_all(*at, ticks);
                 Ok(HouseReply::Advanced)
@@ -98,8 +120,8 @@ impl House {
         }
     }
 
-    /// Does steps one after another: queues are created and deleted, perform commands, and see time
-    /// pass. Then it counts every queue that is there. Whatever the steps are, what is told of a queue
+    /// Does steps one after another: queues are created and deleted, perform commands, hand over dead
+    /// letters, and see time pass. Then it counts every queue that is there. Whatever the steps are, what is told of a queue
     /// is what its own whole journal gives, as if no other queue were there. A queue that is deleted is
     /// handed over closed. Where the two lists find no memory, nothing is done.
     pub fn run(
@@ -110,7 +132,7 @@ impl House {
     ) -> Result<HouseRun, Fault>
         ensures answers { IfOk result (λ run. AreHouseAnswers self.old steps.now run.answers.items) }
         ensures state { IfOk result (λ run. self.new ≡ world_after_all self.old steps.now run.answers.items) }
-        ensures alone { IfOk result (λ run. (uid : ℕ) → IsAsIfAlone self.old.limits uid (queue_of_uid self.old uid)
+        ensures alone { IfOk result (λ run. (uid : ℕ) → IsAsIfAlone self.old uid (queue_of_uid self.old uid)
             steps.now run.answers.items (queue_of_uid self.new uid)) }
         ensures history { IfOk result (λ run. (all : AllQueues) → all.world ≡ self.old → IsWholeHistory all
             → IsWholeHistory (history_after all steps.now run.answers.items)) }

@@ -2,9 +2,12 @@
 //! behind an equals sign, what it has to answer.
 
 mod directory;
+mod memory;
 mod names;
 mod queues;
+mod refused_moves;
 mod steps;
+mod transfers;
 
 use crate::House;
 use journal::{Moment, Ticks};
@@ -114,6 +117,9 @@ fn answer(
     line: &str,
     ticks: &mut Ticks,
 ) -> Result<String, Fault> {
+    if let Some(answer) = transfers::answer(house, alloc, line, ticks)? {
+        return Ok(answer);
+    }
     let mut words = line.split(' ');
     let call = words.next().unwrap_or("");
     let first = words.next().unwrap_or("");
@@ -172,44 +178,20 @@ fn joined(alloc: Global, names: &[QueueName]) -> Result<String, Fault> {
     Ok(text)
 }
 
-/// Calls whose allocation is refused answer `OutOfMemory`, and give their values when they are asked
-/// again: a create that is refused uses up no uid, and a queue whose deletion is refused is still
-/// there. The gate runs this with ample memory; `rt try --test --fail-alloc N -- refused_memory`
-/// refuses the Nth allocation.
+/// Calls whose allocation is refused answer `OutOfMemory`, change nothing but a queue's clock, and give
+/// their values when they are asked again: a create that is refused uses up no uid, and a queue whose
+/// deletion is refused is still there, and a parcel that is refused still waits. The gate runs this with ample memory;
+/// `rt try --test --fail-alloc N -- refused_memory` refuses the Nth allocation.
 #[test]
 fn refused_memory(rt: HostRuntime) -> Result<(), Fail> {
     let alloc = rt.alloc();
     let mut ticks = Ticks::new(&rt);
-    let mut house = match house(alloc, 100) {
-        Err(Fault::OutOfMemory) => house(alloc, 100)?,
-        made => made?,
-    };
-    let uid = match create(&mut house, alloc, "jobs", "") {
-        Err(Fault::OutOfMemory) => create(&mut house, alloc, "jobs", "")?,
-        answer => answer?,
-    };
-    assert_eq!(rt; uid, 1);
-    let sent = match send(&mut house, alloc, 1, 1000, &mut ticks) {
-        Err(Fault::OutOfMemory) => send(&mut house, alloc, 1, 1000, &mut ticks)?,
-        answer => answer?,
-    };
-    assert_eq!(rt; sent, 0);
-    let names = match house.list(alloc, "j") {
-        Err(Fault::OutOfMemory) => house.list(alloc, "j")?,
-        answer => answer?,
-    };
-    assert_eq!(rt; names.len(), 1);
-    match house.delete_queue(alloc, 1, at(1000), &mut ticks) {
-        Err(Fault::OutOfMemory) => {
-            assert!(rt;
-                house
-                    .state(1)
-                    .is_some_and(|queue| queue.gauges().visible == 1)
-            );
-            house.delete_queue(alloc, 1, at(1000), &mut ticks)?;
-        }
-        answer => answer?,
-    }
-    assert!(rt; house.state(1).is_none());
-    Ok(())
+    memory::makes_and_deletes(&rt, alloc, &mut ticks)?;
+    memory::takes_a_queue(&rt, alloc, &mut ticks)?;
+    memory::runs_steps(&rt, alloc, &mut ticks)?;
+    refused_moves::hands_over(&rt, alloc, &mut ticks)?;
+    refused_moves::moves(&rt, alloc, &mut ticks)?;
+    refused_moves::takes_back(&rt, alloc, &mut ticks)?;
+    refused_moves::runs(&rt, alloc, &mut ticks)?;
+    directory::keeps_names_again(&rt, alloc)
 }

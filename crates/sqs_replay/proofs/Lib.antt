@@ -6,4 +6,6 @@ pub mod AnswerLemmas
 pub mod Stages
 pub mod Stops
 pub mod Counts
+pub mod ReadFaults
 pub mod BatchLemmas
+pub mod MoveLemmas

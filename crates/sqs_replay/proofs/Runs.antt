@@ -4,9 +4,8 @@ use Rattle.std.specs.Io.KnownBytes.{Appends, Consumes, IsAtEnd}
 use Rattle.std.proofs.KnownBytes.{Appends-nil, Appends-trans, Consumes-trans, Consumes-whole}
 use Rattle.std.proofs.lemmas.List.{take_all}
 use Rattle.std.proofs.lemmas.Bool.{cases_lt}
-use Rattle.sqs_replay.specs.declared.lines.TheConstants.{LINE_LIMIT}
 use Rattle.sqs_replay.specs.Failures.{AppendsPart}
-use Rattle.sqs_replay.specs.Cutting.{whole_from, last_piece, line_of, lines_among, whole_lines}
+use Rattle.sqs_replay.specs.Cutting.{longest_line, whole_from, last_piece, line_of, lines_among, whole_lines}
 use Rattle.sqs_replay.specs.Answers.{texts, state_after, replay_text, replay_state}
 use Rattle.sqs_replay.specs.Progress.{HasRead, AnswersAll, AnswersPart}
 use Rattle.sqs_replay.proofs.Cuts.{whole_lines-append, whole_lines-feed, last_piece-feed, whole_lines-other, last_piece-other, lines_of-split, kept_push, kept_full, length-line_of, lines_among-line}
@@ -20,10 +19,6 @@ on_err (Err e) p = p
 
 pub AppendsPart-nothing : (a : Option (List ℕ)) (bytes : List ℕ) → AppendsPart a a bytes
 AppendsPart-nothing a bytes = ([], bytes, refl, Appends-nil a)
-
-pub AppendsPart-before : (a b c : Option (List ℕ)) (front bytes : List ℕ) → Appends a b front → AppendsPart b c bytes → AppendsPart a c (front ++ bytes)
-AppendsPart-before a b c front bytes p q =
-    (front ++ q.0, q.1, ap (λ l. front ++ l) q.2 ∙ sym (append_assoc front q.0 q.1), Appends-trans a b c front q.0 p q.3)
 
 pub AppendsPart-longer : (a b : Option (List ℕ)) (bytes more : List ℕ) → AppendsPart a b bytes → AppendsPart a b (bytes ++ more)
 AppendsPart-longer a b bytes more p = (p.0, p.1 ++ more, ap (λ l. l ++ more) p.2 ∙ append_assoc p.0 p.1 more, p.3)
@@ -63,10 +58,26 @@ kept_alike limit f same p =
       | inr short ↦ ap (λ (q : List ℕ). f (lines_among (q ∷ []))) (take_all (limit + 2) p short)
     ]
 
+-- the same of what holds of all lines beyond the limit, where it holds of one
+pub kept_moves : (limit : ℕ) (P : List (List ℕ) → Type 0)
+    → ((first second : List ℕ) → limit < length first → limit < length second → P (first ∷ []) → P (second ∷ []))
+    → (p : List ℕ) → P (lines_among (take (limit + 2) p ∷ [])) → P (lines_among (p ∷ []))
+kept_moves limit P move p =
+    elim (cases_lt (limit + 2) (length p)) [
+      | inl long ↦ λ h.
+          let k = take (limit + 2) p in
+          let size : length k ≡ limit + 2 = omega (arith, length-take (limit + 2) p) in
+          let at_front : limit < length (line_of k) = omega (arith, length-line_of k) in
+          let at_all : limit < length (line_of p) = omega (arith, length-line_of p) in
+          subst P (sym (lines_among-line p (omega arith)))
+          (move (line_of k) (line_of p) at_front at_all (subst P (lines_among-line k (omega arith)) h))
+      | inr short ↦ subst (λ (q : List ℕ). P (lines_among (q ∷ []))) (take_all (limit + 2) p short)
+    ]
+
 module _ {S : Type 0} (text : S → List ℕ → List ℕ) (after : S → List ℕ → S)
-    (same_text : (state : S) (first second : List ℕ) → LINE_LIMIT < length first → LINE_LIMIT < length second → text state first ≡ text state second)
-    (same_after : (state : S) (first second : List ℕ) → LINE_LIMIT < length first → LINE_LIMIT < length second → after state first ≡ after state second) where
-  same_texts : (state : S) → SameBeyond LINE_LIMIT (λ line. texts text after state (line ∷ []))
+    (same_text : (state : S) (first second : List ℕ) → longest_line < length first → longest_line < length second → text state first ≡ text state second)
+    (same_after : (state : S) (first second : List ℕ) → longest_line < length first → longest_line < length second → after state first ≡ after state second) where
+  same_texts : (state : S) → SameBeyond longest_line (λ line. texts text after state (line ∷ []))
   same_texts state first second p q = ap (λ t. t ++ []) (same_text state first second p q)
 
   -- the text of what is kept, after that of the whole lines, is that of the whole lines and the piece
@@ -78,7 +89,7 @@ module _ {S : Type 0} (text : S → List ℕ → List ℕ) (after : S → List �
       let now = state_after after start (whole_lines read) in
       texts-append text after start (whole_lines read) (lines_among (last_piece read ∷ []))
       ∙ ap (λ t. texts text after start (whole_lines read) ++ t)
-      (sym (kept_alike LINE_LIMIT (texts text after now) (same_texts now) (last_piece read))
+      (sym (kept_alike longest_line (texts text after now) (same_texts now) (last_piece read))
       ∙ (ap (λ (k : List ℕ). texts text after now (lines_among (k ∷ []))) (sym h.kept_is)
       ∙ ap (λ (s : S). texts text after s (lines_among (kept ∷ []))) (sym h.state_is)))
 
@@ -88,7 +99,7 @@ module _ {S : Type 0} (text : S → List ℕ → List ℕ) (after : S → List �
   state_after-piece start before read state kept taken h =
       let now = state_after after start (whole_lines read) in
       state_after-append after start (whole_lines read) (lines_among (last_piece read ∷ []))
-      ∙ (sym (kept_alike LINE_LIMIT (state_after after now) (same_after now) (last_piece read))
+      ∙ (sym (kept_alike longest_line (state_after after now) (same_after now) (last_piece read))
       ∙ (ap (λ (k : List ℕ). state_after after now (lines_among (k ∷ []))) (sym h.kept_is)
       ∙ ap (λ (s : S). state_after after s (lines_among (kept ∷ []))) (sym h.state_is)))
 
@@ -102,19 +113,10 @@ module _ {S : Type 0} (text : S → List ℕ → List ℕ) (after : S → List �
       let lines = whole_lines-feed read byte e in
       record {
         state_is = state_is ∙ (sym (state_after-piece start before read state kept taken h) ∙ sym (ap (state_after after start) lines));
-        kept_is = none ∙ ap (take (LINE_LIMIT + 2)) (sym (last_piece-feed read byte e));
+        kept_is = none ∙ ap (take (longest_line + 2)) (sym (last_piece-feed read byte e));
         appended = subst (Appends before taken') (sym (ap (texts text after start) lines ∙ texts-piece start before read state kept taken h))
             (Appends-trans before taken taken' _ _ h.appended written);
       }
-
-  -- a line feed, and the answer of the piece stopped
-  pub feed_stopped : (start : S) (before : Option (List ℕ)) (read : List ℕ) (state : S) (kept : List ℕ) (taken : Option (List ℕ))
-      → HasRead text after start before read state kept taken
-      → (byte : ℕ) → byte ≡ 10 → (taken' : Option (List ℕ)) → AppendsPart taken taken' (texts text after state (lines_among (kept ∷ [])))
-      → AppendsPart before taken' (texts text after start (whole_lines (read ++ byte ∷ [])))
-  feed_stopped start before read state kept taken h byte e taken' written =
-      subst (AppendsPart before taken') (sym (ap (texts text after start) (whole_lines-feed read byte e) ∙ texts-piece start before read state kept taken h))
-      (AppendsPart-before before taken taken' _ _ h.appended written)
 
   -- the end of the input, and the last piece was answered
   pub end_read : (start : S) (read : List ℕ) (state : S) (kept : List ℕ) (left_before left_after before taken : Option (List ℕ))
@@ -131,22 +133,6 @@ module _ {S : Type 0} (text : S → List ℕ → List ℕ) (after : S → List �
         state_is = state_is ∙ (sym (state_after-piece start before read state kept taken h) ∙ sym (ap (state_after after start) (lines_of-split read)));
       }
 
-  -- the end of the input, and the answer of the last piece stopped
-  pub end_stopped : (start : S) (read : List ℕ) (state : S) (kept : List ℕ) (left_before left_after before taken : Option (List ℕ))
-      → HasRead text after start before read state kept taken
-      → Consumes left_before left_after read → IsAtEnd left_after → (taken' : Option (List ℕ)) → AppendsPart taken taken'
-      (texts text after state (lines_among (kept ∷ [])))
-      → AnswersPart text after start left_before left_after before taken' read
-  end_stopped start read state kept left_before left_after before taken h consumed ended taken' written =
-      record {
-        consumed = consumed;
-        appended = inr (
-          ended,
-          subst (AppendsPart before taken') (sym (ap (texts text after start) (lines_of-split read)
-              ∙ texts-piece start before read state kept taken h)) (AppendsPart-before before taken taken' _ _ h.appended written),
-        );
-      }
-
 -- ---- steps that answer nothing
 
 -- a copy of what is kept
@@ -159,28 +145,28 @@ module _ {S : Type 0} (text : S → List ℕ → List ℕ) (after : S → List �
   -- another byte that is kept
   pub other_read : (start : S) (before : Option (List ℕ)) (read : List ℕ) (state : S) (kept : List ℕ) (taken : Option (List ℕ))
       → HasRead text after start before read state kept taken
-      → (byte : ℕ) → byte ≢ 10 → length kept < LINE_LIMIT + 2 → (kept' : List ℕ) → kept' ≡ kept ++ byte ∷ []
+      → (byte : ℕ) → byte ≢ 10 → length kept < longest_line + 2 → (kept' : List ℕ) → kept' ≡ kept ++ byte ∷ []
       → HasRead text after start before (read ++ byte ∷ []) state kept' taken
   other_read start before read state kept taken h byte e room kept' k =
-      let fits : length (take (LINE_LIMIT + 2) (last_piece read)) < LINE_LIMIT + 2 = omega (arith, ap length h.kept_is) in
+      let fits : length (take (longest_line + 2) (last_piece read)) < longest_line + 2 = omega (arith, ap length h.kept_is) in
       record {
         state_is = h.state_is ∙ ap (state_after after start) (sym (whole_lines-other read byte e));
-        kept_is = k ∙ (ap (λ l. l ++ byte ∷ []) h.kept_is ∙ (sym (kept_push (LINE_LIMIT + 2) (last_piece read) byte fits)
-            ∙ ap (take (LINE_LIMIT + 2)) (sym (last_piece-other read byte e))));
+        kept_is = k ∙ (ap (λ l. l ++ byte ∷ []) h.kept_is ∙ (sym (kept_push (longest_line + 2) (last_piece read) byte fits)
+            ∙ ap (take (longest_line + 2)) (sym (last_piece-other read byte e))));
         appended = subst (Appends before taken) (ap (texts text after start) (sym (whole_lines-other read byte e))) h.appended;
       }
 
   -- another byte of a line that is too long
   pub other_dropped : (start : S) (before : Option (List ℕ)) (read : List ℕ) (state : S) (kept : List ℕ) (taken : Option (List ℕ))
       → HasRead text after start before read state kept taken
-      → (byte : ℕ) → byte ≢ 10 → LINE_LIMIT + 2 ≤ length kept
+      → (byte : ℕ) → byte ≢ 10 → longest_line + 2 ≤ length kept
       → HasRead text after start before (read ++ byte ∷ []) state kept taken
   other_dropped start before read state kept taken h byte e full =
-      let is_full : LINE_LIMIT + 2 ≤ length (take (LINE_LIMIT + 2) (last_piece read)) = omega (arith, ap length h.kept_is) in
+      let is_full : longest_line + 2 ≤ length (take (longest_line + 2) (last_piece read)) = omega (arith, ap length h.kept_is) in
       record {
         state_is = h.state_is ∙ ap (state_after after start) (sym (whole_lines-other read byte e));
-        kept_is = h.kept_is ∙ (sym (kept_full (LINE_LIMIT + 2) (last_piece read) byte is_full)
-            ∙ ap (take (LINE_LIMIT + 2)) (sym (last_piece-other read byte e)));
+        kept_is = h.kept_is ∙ (sym (kept_full (longest_line + 2) (last_piece read) byte is_full)
+            ∙ ap (take (longest_line + 2)) (sym (last_piece-other read byte e)));
         appended = subst (Appends before taken) (ap (texts text after start) (sym (whole_lines-other read byte e))) h.appended;
       }
 
@@ -192,16 +178,6 @@ module _ {S : Type 0} (text : S → List ℕ → List ℕ) (after : S → List �
       subst (AppendsPart before taken)
       (sym (ap (texts text after start) (whole_lines-append read more) ∙ texts-append text after start (whole_lines read) next))
       (AppendsPart-longer before taken _ (texts text after (state_after after start (whole_lines read)) next) p)
-
-  -- what was appended so far
-  pub stopped_here : (start : S) (before : Option (List ℕ)) (read : List ℕ) (state : S) (kept : List ℕ) (taken : Option (List ℕ)) (more : List ℕ)
-      → HasRead text after start before read state kept taken
-      → AppendsPart before taken (texts text after start (whole_lines (read ++ more)))
-  stopped_here start before read state kept taken more h = part_of_more start before taken read more (AppendsPart-whole before taken _ h.appended)
-
-  -- nothing was read yet
-  pub nothing_read : (start : S) (before : Option (List ℕ)) (kept : List ℕ) → kept ≡ [] → HasRead text after start before [] start kept before
-  nothing_read start before kept e = record { state_is = refl; kept_is = e; appended = Appends-nil before }
 
 -- ---- where a run ends
 
@@ -216,13 +192,6 @@ Consumes-none a b c read buffer n p q e =
     subst (Consumes a c) (ap (λ l. read ++ l) none ∙ append-nil read) (Consumes-trans a b c read (take n buffer) p q)
 
 module _ {S : Type 0} (text : S → List ℕ → List ℕ) (after : S → List ℕ → S) where
-  -- a run that stopped between two pieces
-  pub stopped_between : (start : S) (read : List ℕ) (state : S) (kept : List ℕ) (left_before left_after before taken : Option (List ℕ))
-      → HasRead text after start before read state kept taken
-      → Consumes left_before left_after read → AnswersPart text after start left_before left_after before taken read
-  stopped_between start read state kept left_before left_after before taken h consumed =
-      record { consumed = consumed; appended = inl (AppendsPart-whole before taken _ h.appended) }
-
   pub known_text : (start end : S) (left_before left_after before taken : Option (List ℕ)) (input : List ℕ)
       → AnswersAll text after start end left_before left_after before taken input
       → IfSome left_before (λ all. Appends before taken (replay_text text after start all))

@@ -9,7 +9,7 @@ use Rattle.sqs_replay.specs.Answers.{IsOneOf}
 use Rattle.sqs_replay.specs.Served.{called}
 
 -- an answer is for want of memory, or another
-memory_or_other : {T : Type 0} (answer : Result T Fault) → (answer ≡ Err faults.OutOfMemory) ⊎ (is_out_of_memory answer ≡ false)
+pub memory_or_other : {T : Type 0} (answer : Result T Fault) → (answer ≡ Err faults.OutOfMemory) ⊎ (is_out_of_memory answer ≡ false)
 memory_or_other (Ok x) = inr refl
 memory_or_other (Err faults.QueueDoesNotExist) = inr refl
 memory_or_other (Err faults.QueueNameExists) = inr refl

@@ -1,12 +1,13 @@
--- What a run leaves where it stops.
-use Rattle.std.proofs.Common.{◌≡◌, ℕ, ◌+◌, ◌<◌, inl, inr, List, [], ◌∷◌, ◌++◌, Option, length, take, refl, ap, sym, subst, ◌∙◌, append_assoc}
-use Rattle.std.specs.Io.KnownBytes.{Consumes}
-use Rattle.sqs_replay.specs.declared.lines.TheConstants.{LINE_LIMIT}
-use Rattle.sqs_replay.specs.Cutting.{whole_from, last_piece, line_of, lines_among, whole_lines}
-use Rattle.sqs_replay.specs.Answers.{state_after, IsOneOf, stages_among, StopsAmong}
-use Rattle.sqs_replay.specs.Progress.{HasRead, LeavesPart}
+-- What a run wrote and left where it stops.
+use Rattle.std.proofs.Common.{◌≡◌, ℕ, ◌+◌, ◌<◌, ◌⊎◌, inl, inr, List, [], ◌∷◌, ◌++◌, Option, length, take, refl, ap, sym, subst, ◌∙◌, append_assoc, append-nil}
+use Rattle.std.specs.Io.KnownBytes.{Appends, Consumes, IsAtEnd}
+use Rattle.std.proofs.KnownBytes.{Appends-nil, Appends-trans, Consumes-nil}
+use Rattle.sqs_replay.specs.Failures.{AppendsPart, AppendsAndPart}
+use Rattle.sqs_replay.specs.Cutting.{longest_line, whole_from, last_piece, line_of, lines_among, whole_lines, lines_of}
+use Rattle.sqs_replay.specs.Answers.{texts, state_after, replay_text, IsOneOf}
+use Rattle.sqs_replay.specs.Progress.{HasRead, AnswersPart, StopsBefore, StopsAmong, Stops}
 use Rattle.sqs_replay.proofs.Cuts.{whole_lines-append, whole_lines-feed, lines_of-split, lines_among-line}
-use Rattle.sqs_replay.proofs.Runs.{kept_alike}
+use Rattle.sqs_replay.proofs.Runs.{kept_moves, texts-append, AppendsPart-whole, AppendsPart-longer}
 
 -- ---- one of some is one of more
 
@@ -19,109 +20,154 @@ pub IsOneOf-behind : {X : Type 0} (x : X) (xs ys : List X) → IsOneOf x ys → 
 IsOneOf-behind x [] ys is = is
 IsOneOf-behind x (y ∷ xs) ys is = inr (IsOneOf-behind x xs ys is)
 
--- ---- what is left among some lines, and among more
+module _ {S : Type 0} (text : S → List ℕ → List ℕ) (after : S → List ℕ → S) (stages : S → List ℕ → List S) where
+  -- ---- before some lines
 
-module _ {S : Type 0} (after : S → List ℕ → S) (stages : S → List ℕ → List S) where
-  stages_among-append : (state : S) (ls ms : List (List ℕ))
-      → stages_among after stages state (ls ++ ms) ≡ stages_among after stages state ls ++ stages_among after stages (state_after after state ls) ms
-  stages_among-append state [] ms = refl
-  stages_among-append state (l ∷ ls) ms =
-      ap (λ rest. stages state l ++ (after state l ∷ rest)) (stages_among-append (after state l) ls ms)
-      ∙ sym (append_assoc (stages state l) (after state l ∷ stages_among after stages (after state l) ls) _)
+  -- none of them was begun
+  stops-before_all : (state end : S) (before taken : Option (List ℕ)) (front : List ℕ) (lines : List (List ℕ)) → Appends before taken front → end ≡ state
+      → StopsBefore text after stages state end before taken front lines
+  stops-before_all state end before taken front [] p e = (p, e)
+  stops-before_all state end before taken front (line ∷ lines) p e = inl (p, inl e)
 
-  pub stops-at_end : (state : S) (ls : List (List ℕ)) → StopsAmong after stages state ls (state_after after state ls)
-  stops-at_end state [] = inl refl
-  stops-at_end state (l ∷ ls) = inr (IsOneOf-behind _ (stages state l) _ (stops-at_end (after state l) ls))
+  stops-before_more : (state end : S) (before taken : Option (List ℕ)) (front : List ℕ) (lines more : List (List ℕ))
+      → StopsBefore text after stages state end before taken front lines → StopsBefore text after stages state end before taken front (lines ++ more)
+  stops-before_more state end before taken front [] more h = stops-before_all state end before taken front more h.0 h.1
+  stops-before_more state end before taken front (line ∷ lines) more h = h
 
-  pub stops-before_more : (state left : S) (ls ms : List (List ℕ)) → StopsAmong after stages state ls left → StopsAmong after stages state (ls ++ ms) left
-  stops-before_more state left ls ms (inl same) = inl same
-  stops-before_more state left ls ms (inr is) = inr (subst (IsOneOf left) (sym (stages_among-append state ls ms)) (IsOneOf-before left _ _ is))
+  -- what was written before is written too
+  stops-after_text : (state end : S) (before now taken : Option (List ℕ)) (front : List ℕ) (lines : List (List ℕ)) → Appends before now front
+      → StopsBefore text after stages state end now taken [] lines → StopsBefore text after stages state end before taken front lines
+  stops-after_text state end before now taken front [] p h = (subst (Appends before taken) (append-nil front) (Appends-trans before now taken front [] p h.0), h.1)
+  stops-after_text state end before now taken front (line ∷ lines) p (inl h) =
+      inl (subst (Appends before taken) (append-nil front) (Appends-trans before now taken front [] p h.0), h.1)
+  stops-after_text state end before now taken front (line ∷ lines) p (inr ((part, rest, e, q), is)) =
+      inr ((part, rest, e, Appends-trans before now taken front part p q), is)
 
-  pub stops-behind : (state left : S) (ls ms : List (List ℕ)) → StopsAmong after stages (state_after after state ls) ms left
-      → StopsAmong after stages state (ls ++ ms) left
-  stops-behind state left ls ms (inl same) = subst (StopsAmong after stages state (ls ++ ms)) (sym same)
-      (stops-before_more state _ ls ms (stops-at_end state ls))
-  stops-behind state left ls ms (inr is) = inr (subst (IsOneOf left) (sym (stages_among-append state ls ms)) (IsOneOf-behind left _ _ is))
-
-  -- a line that is not empty is the only one of its piece
-  pub stops-in_line : (state left : S) (piece line : List ℕ) → line ≡ line_of piece → 0 < length line → IsOneOf left (state ∷ stages state line)
-      → StopsAmong after stages state (lines_among (piece ∷ [])) left
-  stops-in_line state left piece line e full is =
+  -- a line that is not empty is the only one of its piece: it was not answered
+  pub stops-in_line : (state end : S) (taken : Option (List ℕ)) (piece line : List ℕ) → line ≡ line_of piece → 0 < length line
+      → IsOneOf end (state ∷ stages state line) → StopsBefore text after stages state end taken taken [] (lines_among (piece ∷ []))
+  stops-in_line state end taken piece line e full is =
       let alone : lines_among (piece ∷ []) ≡ line ∷ [] = subst (λ (l : List ℕ). 0 < length l → lines_among (piece ∷ []) ≡ l ∷ []) (sym e)
       (lines_among-line piece) full in
-      subst (λ (ls : List (List ℕ)). StopsAmong after stages state ls left) (sym alone)
-      (IsOneOf-before left (state ∷ stages state line) (after state line ∷ []) is)
+      subst (StopsBefore text after stages state end taken taken []) (sym alone) (inl (Appends-nil taken, is))
 
-  pub stops-after_line : (state left : S) (piece line : List ℕ) → line ≡ line_of piece → 0 < length line → left ≡ after state line
-      → StopsAmong after stages state (lines_among (piece ∷ [])) left
-  stops-after_line state left piece line e full is =
+  -- it was answered, and a part of that was written
+  pub stops-in_text : (state end : S) (before taken : Option (List ℕ)) (piece line : List ℕ) → line ≡ line_of piece → 0 < length line
+      → AppendsPart before taken (text state line) → end ≡ after state line
+      → StopsBefore text after stages state end before taken [] (lines_among (piece ∷ []))
+  stops-in_text state end before taken piece line e full part is =
       let alone : lines_among (piece ∷ []) ≡ line ∷ [] = subst (λ (l : List ℕ). 0 < length l → lines_among (piece ∷ []) ≡ l ∷ []) (sym e)
       (lines_among-line piece) full in
-      subst (λ (ls : List (List ℕ)). StopsAmong after stages state ls left) (sym alone)
-      (inr (IsOneOf-behind left (stages state line) (after state line ∷ []) (inl is)))
+      subst (StopsBefore text after stages state end before taken []) (sym alone) (inr (part, is))
+
+  -- ---- among some lines
 
   -- more was read
-  pub stops-further : (start left : S) (read more : List ℕ) → StopsAmong after stages start (whole_lines read) left
-      → StopsAmong after stages start (whole_lines (read ++ more)) left
-  stops-further start left read more is =
+  pub stops-further : (start end : S) (before taken : Option (List ℕ)) (read more : List ℕ)
+      → StopsAmong text after stages start end before taken (whole_lines read) → StopsAmong text after stages start end before taken (whole_lines (read ++ more))
+  stops-further start end before taken read more h =
       let next = lines_among (whole_from (last_piece read) more) in
-      subst (λ (ls : List (List ℕ)). StopsAmong after stages start ls left) (sym (whole_lines-append read more))
-      (stops-before_more start left (whole_lines read) next is)
+      record {
+        done = h.done;
+        rest = h.rest ++ next;
+        split = whole_lines-append read more ∙ (ap (λ l. l ++ next) h.split ∙ append_assoc h.done h.rest next);
+        stop = stops-before_more (state_after after start h.done) end before taken (texts text after start h.done) h.rest next h.stop;
+      }
 
   -- between two lines
-  pub stops-between : {text : S → List ℕ → List ℕ} {before taken : Option (List ℕ)} {kept : List ℕ} (start state : S) (read : List ℕ)
-      → HasRead text after start before read state kept taken → StopsAmong after stages start (whole_lines read) state
-  stops-between start state read h = subst (StopsAmong after stages start (whole_lines read)) (sym h.state_is) (stops-at_end start (whole_lines read))
+  pub stops-between : (start state : S) (before taken : Option (List ℕ)) (read kept : List ℕ) → HasRead text after start before read state kept taken
+      → StopsAmong text after stages start state before taken (whole_lines read)
+  stops-between start state before taken read kept h =
+      record { done = whole_lines read; rest = []; split = sym (append-nil (whole_lines read)); stop = (h.appended, h.state_is) }
 
-  -- the lines that a line feed ended are among all lines
-  pub leaves-part : (start left : S) (left_before left_after : Option (List ℕ)) (read : List ℕ) → Consumes left_before left_after read
-      → StopsAmong after stages start (whole_lines read) left → LeavesPart after stages start left left_before left_after read
-  leaves-part start left left_before left_after read consumed is = record {
-    consumed = consumed;
-    state = subst (λ (ls : List (List ℕ)). StopsAmong after stages start ls left) (sym (lines_of-split read))
-        (stops-before_more start left (whole_lines read) (lines_among (last_piece read ∷ [])) is);
-  }
+  -- nothing was read yet
+  pub stops-at_once : (start : S) (left taken : Option (List ℕ)) → Stops text after stages start start left left taken taken []
+  stops-at_once start left taken =
+      record { consumed = Consumes-nil left; among = inl (record { done = []; rest = []; split = refl; stop = (Appends-nil taken, refl) }) }
 
-module _ {S : Type 0} (after : S → List ℕ → S) (stages : S → List ℕ → List S)
-    (same_after : (state : S) (first second : List ℕ) → LINE_LIMIT < length first → LINE_LIMIT < length second → after state first ≡ after state second)
-    (same_stages : (state : S) (first second : List ℕ) → LINE_LIMIT < length first → LINE_LIMIT < length second
+  -- ---- a part of the text of the lines was written
+
+  part_before : (state end : S) (before taken : Option (List ℕ)) (front : List ℕ) (lines : List (List ℕ))
+      → StopsBefore text after stages state end before taken front lines → AppendsPart before taken (front ++ texts text after state lines)
+  part_before state end before taken front [] h = AppendsPart-longer before taken front [] (AppendsPart-whole before taken front h.0)
+  part_before state end before taken front (line ∷ lines) (inl h) =
+      AppendsPart-longer before taken front (texts text after state (line ∷ lines)) (AppendsPart-whole before taken front h.0)
+  part_before state end before taken front (line ∷ lines) (inr ((part, rest, e, p), is)) =
+      let next = texts text after (after state line) lines in (
+        front ++ part,
+        rest ++ next,
+        ap (λ l. front ++ (l ++ next)) e ∙ (ap (λ l. front ++ l) (append_assoc part rest next) ∙ sym (append_assoc front part (rest ++ next))),
+        p,
+      )
+
+  part_among : (start end : S) (before taken : Option (List ℕ)) (lines : List (List ℕ)) → StopsAmong text after stages start end before taken lines
+      → AppendsPart before taken (texts text after start lines)
+  part_among start end before taken lines h =
+      subst (AppendsPart before taken) (sym (ap (texts text after start) h.split ∙ texts-append text after start h.done h.rest))
+      (part_before (state_after after start h.done) end before taken (texts text after start h.done) h.rest h.stop)
+
+  pub answers-part : (start end : S) (left_before left_after before taken : Option (List ℕ)) (read : List ℕ)
+      → Stops text after stages start end left_before left_after before taken read → AnswersPart text after start left_before left_after before taken read
+  answers-part start end left_before left_after before taken read h =
+      record {
+        consumed = h.consumed;
+        appended = elim h.among as (λ _. AppendsPart before taken (texts text after start (whole_lines read))
+            ⊎ (IsAtEnd left_after × AppendsPart before taken (replay_text text after start read))) [
+              | inl whole ↦ inl (part_among start end before taken (whole_lines read) whole)
+              | inr all ↦ inr (all.0, part_among start end before taken (lines_of read) all.1)
+            ];
+      }
+
+module _ {S : Type 0} (text : S → List ℕ → List ℕ) (after : S → List ℕ → S) (stages : S → List ℕ → List S)
+    (same_text : (state : S) (first second : List ℕ) → longest_line < length first → longest_line < length second → text state first ≡ text state second)
+    (same_after : (state : S) (first second : List ℕ) → longest_line < length first → longest_line < length second → after state first ≡ after state second)
+    (same_stages : (state : S) (first second : List ℕ) → longest_line < length first → longest_line < length second
     → stages state first ≡ stages state second) where
-  same_among : (state : S) (first second : List ℕ) → LINE_LIMIT < length first → LINE_LIMIT < length second
-      → stages_among after stages state (first ∷ []) ≡ stages_among after stages state (second ∷ [])
-  same_among state first second one two =
-      ap (λ (l : List S). l ++ (after state first ∷ [])) (same_stages state first second one two)
-      ∙ ap (λ (s : S). stages state second ++ (s ∷ [])) (same_after state first second one two)
+  stops-alike : (state end : S) (before taken : Option (List ℕ)) (front first second : List ℕ) → longest_line < length first → longest_line < length second
+      → StopsBefore text after stages state end before taken front (first ∷ []) → StopsBefore text after stages state end before taken front (second ∷ [])
+  stops-alike state end before taken front first second one two (inl h) =
+      inl (h.0, subst (λ (l : List S). IsOneOf end (state ∷ l)) (same_stages state first second one two) h.1)
+  stops-alike state end before taken front first second one two (inr h) =
+      inr (subst (AppendsAndPart before taken front) (same_text state first second one two) h.0, h.1 ∙ same_after state first second one two)
 
-  -- what is left in what is kept of a piece is left in the whole lines and that piece
-  pub stops-in_piece : {text : S → List ℕ → List ℕ} {before taken : Option (List ℕ)} (start state left : S) (read kept : List ℕ)
-      → HasRead text after start before read state kept taken
-      → StopsAmong after stages state (lines_among (kept ∷ [])) left → StopsAmong after stages start
-      (whole_lines read ++ lines_among (last_piece read ∷ [])) left
-  stops-in_piece start state left read kept h is =
-      let now = state_after after start (whole_lines read) in
-      let at_now : StopsAmong after stages now (lines_among (kept ∷ [])) left = subst
-      (λ (s : S). StopsAmong after stages s (lines_among (kept ∷ [])) left) h.state_is is in
-      let in_front : StopsAmong after stages now (lines_among (take (LINE_LIMIT + 2) (last_piece read) ∷ [])) left = subst
-      (λ (k : List ℕ). StopsAmong after stages now (lines_among (k ∷ [])) left) h.kept_is at_now in
-      let in_piece : StopsAmong after stages now (lines_among (last_piece read ∷ [])) left = subst (λ (l : List S). IsOneOf left (now ∷ l))
-      (kept_alike LINE_LIMIT (stages_among after stages now) (same_among now) (last_piece read)) in_front in
-      stops-behind after stages start left (whole_lines read) (lines_among (last_piece read ∷ [])) in_piece
+  -- where it stops in what is kept of a piece, it stops in that piece
+  pub stops-in_piece : (start state end : S) (before now taken : Option (List ℕ)) (read kept : List ℕ) → HasRead text after start before read state kept now
+      → StopsBefore text after stages state end now taken [] (lines_among (kept ∷ []))
+      → StopsAmong text after stages start end before taken (whole_lines read ++ lines_among (last_piece read ∷ []))
+  stops-in_piece start state end before now taken read kept h is =
+      let reached = state_after after start (whole_lines read) in
+      let at_reached : StopsBefore text after stages reached end now taken [] (lines_among (kept ∷ [])) = subst
+      (λ (s : S). StopsBefore text after stages s end now taken [] (lines_among (kept ∷ []))) h.state_is is in
+      let in_front : StopsBefore text after stages reached end now taken [] (lines_among (take (longest_line + 2) (last_piece read) ∷ [])) = subst
+      (λ (k : List ℕ). StopsBefore text after stages reached end now taken [] (lines_among (k ∷ []))) h.kept_is at_reached in
+      let in_piece : StopsBefore text after stages reached end now taken [] (lines_among (last_piece read ∷ [])) = kept_moves longest_line
+      (StopsBefore text after stages reached end now taken []) (stops-alike reached end now taken []) (last_piece read) in_front in
+      record {
+        done = whole_lines read;
+        rest = lines_among (last_piece read ∷ []);
+        split = refl;
+        stop = stops-after_text text after stages reached end before now taken _ _ h.appended in_piece;
+      }
 
   -- a line feed ended it
-  pub stops-at_feed : {text : S → List ℕ → List ℕ} {before taken : Option (List ℕ)} (start state left : S) (read kept : List ℕ) (byte : ℕ) → byte ≡ 10
-      → HasRead text after start before read state kept taken
-      → StopsAmong after stages state (lines_among (kept ∷ [])) left → StopsAmong after stages start (whole_lines (read ++ byte ∷ [])) left
-  stops-at_feed start state left read kept byte e h is =
-      subst (λ (ls : List (List ℕ)). StopsAmong after stages start ls left) (sym (whole_lines-feed read byte e))
-      (stops-in_piece start state left read kept h is)
+  pub stops-at_feed : (start state end : S) (before now taken : Option (List ℕ)) (read kept : List ℕ) (byte : ℕ) → byte ≡ 10
+      → HasRead text after start before read state kept now
+      → StopsBefore text after stages state end now taken [] (lines_among (kept ∷ []))
+      → StopsAmong text after stages start end before taken (whole_lines (read ++ byte ∷ []))
+  stops-at_feed start state end before now taken read kept byte e h is =
+      subst (StopsAmong text after stages start end before taken) (sym (whole_lines-feed read byte e))
+      (stops-in_piece start state end before now taken read kept h is)
 
   -- the input's end ended it
-  pub leaves-at_end : {text : S → List ℕ → List ℕ} {before taken : Option (List ℕ)} (start state left : S) (read kept : List ℕ)
-      (left_before left_after : Option (List ℕ)) → Consumes left_before left_after read
-      → HasRead text after start before read state kept taken → StopsAmong after stages state
-      (lines_among (kept ∷ [])) left → LeavesPart after stages start left left_before left_after read
-  leaves-at_end start state left read kept left_before left_after consumed h is = record {
+  pub stops-at_end : (start state end : S) (left_before left_after before now taken : Option (List ℕ)) (read kept : List ℕ)
+      → Consumes left_before left_after read → IsAtEnd left_after → HasRead text after start before read state kept now
+      → StopsBefore text after stages state end now taken [] (lines_among (kept ∷ []))
+      → Stops text after stages start end left_before left_after before taken read
+  stops-at_end start state end left_before left_after before now taken read kept consumed ended h is = record {
     consumed = consumed;
-    state = subst (λ (ls : List (List ℕ)). StopsAmong after stages start ls left) (sym (lines_of-split read))
-        (stops-in_piece start state left read kept h is);
+    among = inr (
+      ended,
+      subst (StopsAmong text after stages start end before taken) (sym (lines_of-split read))
+          (stops-in_piece start state end before now taken read kept h is),
+    );
   }

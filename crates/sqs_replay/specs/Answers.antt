@@ -21,18 +21,7 @@ replay_text text after state input = texts text after state (lines_of input)
 abbrev pub replay_state : {S : Type 0} → (S → List ℕ → S) → S → List ℕ → S
 replay_state after state input = state_after after state (lines_of input)
 
--- ---- what is left where a run stops
-
 -- x is one of these
 abbrev pub IsOneOf : {X : Type 0} → X → List X → Type 0
 IsOneOf x [] = ⊥
 IsOneOf x (y ∷ ys) = (x ≡ y) ⊎ IsOneOf x ys
-
--- the states that these lines go through, one after another
-abbrev pub stages_among : {S : Type 0} → (S → List ℕ → S) → (S → List ℕ → List S) → S → List (List ℕ) → List S
-stages_among after stages state [] = []
-stages_among after stages state (line ∷ lines) = stages state line ++ (after state line ∷ stages_among after stages (after state line) lines)
-
--- what is left is the state before these lines, or one that they went through
-abbrev pub StopsAmong : {S : Type 0} → (S → List ℕ → S) → (S → List ℕ → List S) → S → List (List ℕ) → S → Type 0
-StopsAmong after stages start lines left = IsOneOf left (start ∷ stages_among after stages start lines)

@@ -35,6 +35,10 @@ whole_lines input = lines_among (whole_pieces input)
 abbrev pub lines_of : List ℕ → List (List ℕ)
 lines_of input = lines_among (whole_pieces input ++ last_piece input ∷ [])
 
+-- the longest line that can be a request, in bytes: this project's own choice
+abbrev pub longest_line : ℕ
+longest_line = 8388704
+
 -- no byte of these is a line feed
 abbrev pub HasNoFeed : List ℕ → Type 0
 HasNoFeed bytes = AllByRecursion (λ byte. byte ≢ 10) bytes

@@ -5,6 +5,7 @@ pub mod Answers
 pub mod Progress
 pub mod Device
 pub mod InputLine
+pub mod Moves
 pub mod Served
 pub mod Replay
 pub mod LongLines

@@ -1,19 +1,18 @@
 -- How far a replay has come, and where it stops.
-use Rattle.std.specs.Prelude.{◌≡◌, ℕ, ◌+◌, ◌^◌, ◌⊎◌, List, take, Option, Result, Err}
+use Rattle.std.specs.Prelude.{◌≡◌, ℕ, ◌+◌, ◌^◌, ◌≤◌, ◌⊎◌, ⊤, List, [], ◌∷◌, ◌++◌, take, Option, Result, Err}
 use Rattle.std.specs.Io.KnownBytes.{Appends, Consumes, IsAtEnd}
-use Rattle.sqs_replay.specs.declared.lines.TheConstants.{LINE_LIMIT}
 use Rattle.sqs_replay.specs.declared.fault.ReplayFault.{ReplayFault}
 use Rattle.sqs_replay.specs.declared.fault.ReplayFault.TheVariants.{Read, Write, OutOfMemory}
-use Rattle.sqs_replay.specs.Failures.{counted, AppendsPart}
-use Rattle.sqs_replay.specs.Cutting.{whole_lines, last_piece, lines_of}
-use Rattle.sqs_replay.specs.Answers.{texts, state_after, replay_text, replay_state, StopsAmong}
+use Rattle.sqs_replay.specs.Failures.{counted, AppendsPart, AppendsAndPart}
+use Rattle.sqs_replay.specs.Cutting.{longest_line, whole_lines, last_piece, lines_of}
+use Rattle.sqs_replay.specs.Answers.{texts, state_after, replay_text, replay_state, IsOneOf}
 
 -- After these bytes were read, from this state and these bytes taken on: the state, what is kept of the line that has
 -- begun, and the bytes taken.
 pub record HasRead {S : Type 0} (text : S → List ℕ → List ℕ) (after : S → List ℕ → S) (start : S) (before : Option (List ℕ)) (read : List ℕ) (state : S)
     (kept : List ℕ) (taken : Option (List ℕ)) : Type 0 where
   pub state_is : state ≡ state_after after start (whole_lines read)
-  pub kept_is : kept ≡ take (LINE_LIMIT + 2) (last_piece read)
+  pub kept_is : kept ≡ take (longest_line + 2) (last_piece read)
   pub appended : Appends before taken (texts text after start (whole_lines read))
 
 -- All of the input was read, and answered: `left` is of the inlet, `taken` of the outlet, before the run and after it.
@@ -32,11 +31,36 @@ pub record AnswersPart {S : Type 0} (text : S → List ℕ → List ℕ) (after 
   pub appended : AppendsPart taken_before taken_after (texts text after start (whole_lines read))
       ⊎ (IsAtEnd left_after × AppendsPart taken_before taken_after (replay_text text after start read))
 
--- The run stopped after it had read these bytes, and left the server as it was before their lines, or in a state that they went through.
-pub record LeavesPart {S : Type 0} (after : S → List ℕ → S) (stages : S → List ℕ → List S) (start end : S) (left_before left_after : Option (List ℕ))
-    (read : List ℕ) : Type 0 where
+-- The run stopped since it could read no more than these bytes: exactly their whole lines are answered, and what comes after the last line feed is not.
+pub record AnswersWhole {S : Type 0} (text : S → List ℕ → List ℕ) (after : S → List ℕ → S) (start end : S)
+    (left_before left_after taken_before taken_after : Option (List ℕ)) (read : List ℕ) : Type 0 where
   pub consumed : Consumes left_before left_after read
-  pub state : StopsAmong after stages start (lines_of read) end
+  pub appended : Appends taken_before taken_after (texts text after start (whole_lines read))
+  pub state_is : end ≡ state_after after start (whole_lines read)
+
+-- A run stopped in this state, where these lines were still to be answered, and `front` is the text of those before them. None of them was begun; or the
+-- first was not answered, and left the state as it was or one that the line goes through; or the first was answered, and a part of its text was written.
+abbrev pub StopsBefore : {S : Type 0} → (S → List ℕ → List ℕ) → (S → List ℕ → S) → (S → List ℕ → List S) → S → S → Option (List ℕ) → Option (List ℕ)
+    → List ℕ → List (List ℕ) → Type 0
+StopsBefore text after stages state end taken_before taken_after front [] = Appends taken_before taken_after front × (end ≡ state)
+StopsBefore text after stages state end taken_before taken_after front (line ∷ lines) =
+    (Appends taken_before taken_after front × IsOneOf end (state ∷ stages state line))
+    ⊎ (AppendsAndPart taken_before taken_after front (text state line) × (end ≡ after state line))
+
+-- A run over these lines stopped: those that are done were answered whole, and the rest were still to be answered.
+pub record StopsAmong {S : Type 0} (text : S → List ℕ → List ℕ) (after : S → List ℕ → S) (stages : S → List ℕ → List S) (start end : S)
+    (taken_before taken_after : Option (List ℕ)) (lines : List (List ℕ)) : Type 0 where
+  pub done : List (List ℕ)
+  pub rest : List (List ℕ)
+  pub split : lines ≡ done ++ rest
+  pub stop : StopsBefore text after stages (state_after after start done) end taken_before taken_after (texts text after start done) rest
+
+-- The run stopped after it had read these bytes, among the whole lines of them, or, where the input had ended, among all their lines.
+pub record Stops {S : Type 0} (text : S → List ℕ → List ℕ) (after : S → List ℕ → S) (stages : S → List ℕ → List S) (start end : S)
+    (left_before left_after taken_before taken_after : Option (List ℕ)) (read : List ℕ) : Type 0 where
+  pub consumed : Consumes left_before left_after read
+  pub among : StopsAmong text after stages start end taken_before taken_after (whole_lines read)
+      ⊎ (IsAtEnd left_after × StopsAmong text after stages start end taken_before taken_after (lines_of read))
 
 -- What a run's outcome says of the inlet's counts of failures and of reads: one failure more where reading failed, and
 -- none where it was read 2^32 times, which is a fault too.
@@ -54,3 +78,13 @@ OutletHasCause _ before after = after ≡ before
 abbrev pub MemoryHasCause : {T : Type 0} → Result T ReplayFault → ℕ → ℕ → Type 0
 MemoryHasCause (Err OutOfMemory) before after = (after ≡ before) ⊎ (after ≡ counted 1 before)
 MemoryHasCause _ before after = after ≡ before
+
+-- what holds where the run ended by the fault Read
+abbrev pub OnReadFault : {T : Type 0} → Result T ReplayFault → Type 0 → Type 0
+OnReadFault (Err Read) P = P
+OnReadFault _ P = ⊤
+
+-- Why a run could read no more than so many bytes: one read failed, or none did and there were 2^32 reads, each of which took one byte at least.
+abbrev pub ReadingHasCause : ℕ → ℕ → ℕ → ℕ → ℕ → Type 0
+ReadingHasCause before after reads_before reads_after bytes = (after ≡ counted 1 before) ⊎
+    ((after ≡ before) × (reads_after ≡ counted (2 ^ 32) reads_before) × (2 ^ 32 ≤ bytes))

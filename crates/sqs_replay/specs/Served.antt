@@ -1,5 +1,5 @@
 -- What a line of the input asks, and what a world answers it.
-use Rattle.std.specs.Prelude.{◌≡◌, ℕ, ⊤, nat_lt, if◌then◌else◌, List, [], ◌∷◌, ◌++◌, length, codes, decimal, Option, Result, Ok, Err, MatchBool}
+use Rattle.std.specs.Prelude.{◌≡◌, ℕ, ⊤, nat_lt, if◌then◌else◌, List, [], ◌∷◌, ◌++◌, length, codes, decimal, Option, Some, None, option_and_then, Result, Ok, Err, MatchBool}
 use Rattle.std.specs.Option.{option_map_or}
 use Rattle.std.specs.Str.{bytes_eq}
 use Rattle.message.specs.declared.fault.Fault.{Fault}
@@ -24,13 +24,14 @@ use Rattle.aws_json.specs.declared.request.ReceiveNames.{ReceiveNames}
 use Rattle.aws_json.specs.declared.request.Request.{Request}
 use Rattle.aws_json.specs.declared.request.Request.TheVariants as requests
 use Rattle.aws_json.specs.declared.reply.ReplyShape.{ReplyShape}
-use Rattle.aws_json.specs.declared.reply.ReplyShape.TheVariants.{QueueUrl, QueueUrls, Sent, Attributes, Messages, Batch, Nothing}
-use Rattle.sqs_replay.specs.declared.lines.TheConstants.{LINE_LIMIT}
+use Rattle.aws_json.specs.declared.reply.ReplyShape.TheVariants.{QueueUrl, QueueUrls, SourceQueueUrls, Sent, Attributes, Messages, Batch, Nothing}
 use Rattle.sqs_replay.specs.declared.answer.Asked.{Asked}
 use Rattle.sqs_replay.specs.declared.answer.Asked.TheVariants.{Client, Tick}
 use Rattle.sqs_replay.specs.declared.answer.Timed.{Timed}
+use Rattle.sqs_replay.specs.Cutting.{longest_line}
 use Rattle.sqs_replay.specs.InputLine.{input_line_of}
-use Rattle.redrive.specs.World.{World, found_uid, create_answer, world_after_create, step_answer, world_after_step, delete_answer, world_after_delete, names_in_world, world_at_moment}
+use Rattle.redrive.specs.World.{World, found_uid, target_uid, create_answer, world_after_create, step_answer, world_after_step, delete_answer, world_after_delete, names_in_world, sources_answer, world_at_moment}
+use Rattle.sqs_replay.specs.Moves.{Moves, no_moves, all_moves}
 
 -- ---- what a line asks
 
@@ -41,7 +42,7 @@ asked_by action body = if bytes_eq action (codes "Tick") then result_map (λ d. 
 -- a line that is too long cannot be read, whatever it says
 abbrev pub asked_of : List ℕ → Result Timed Fault
 asked_of line =
-    if nat_lt LINE_LIMIT (length line) then Err SerializationException
+    if nat_lt longest_line (length line) then Err SerializationException
     else (input_line_of line >>= λ parts. result_map (λ asked. record { at = parts.at; asked = asked }) (asked_by parts.action parts.body))
 
 -- ---- what an action answers, and what it leaves
@@ -116,7 +117,7 @@ batch_served w uid at (e ∷ es) =
     followed (record { id = e.id; answer = (entry_served w uid at e.command).answer }) (entry_served w uid at e.command)
     (batch_served (entry_served w uid at e.command).world uid at es)
 
--- ---- requests; no queue has a dead-letter target, which the 0 of a Set says
+-- ---- requests
 
 -- a command in the queue of a name, whose success a client is told
 abbrev pub request_done : World → ℕ → List ℕ → Command → Served (Result ReplyShape Fault)
@@ -133,13 +134,14 @@ served w at (requests.CreateQueue name wish) = told (result_map (λ uid. QueueUr
 served w at (requests.DeleteQueue queue) = in_queue w queue (λ uid. told (result_map (λ deleted. Nothing)) (delete_served w uid at))
 served w at (requests.GetQueueUrl name) = in_queue w name (λ uid. unchanged w (Ok (QueueUrl name)))
 served w at (requests.ListQueues prefix) = unchanged w (Ok (QueueUrls (names_in_world w prefix)))
+served w at (requests.ListDeadLetterSourceQueues queue) = in_queue w queue (λ uid. unchanged w (result_map SourceQueueUrls (sources_answer w uid)))
 served w at (requests.GetQueueAttributes queue names) = in_queue w queue
     (λ uid. told (result_map (attributes_shape names queue)) (command_served w uid at commands.Look))
 served w at (requests.ReceiveMessage queue maximum timeout wait names patterns) = receive_served w at queue (commands.Receive maximum timeout) names patterns
 served w at (requests.SendMessage queue content delay) = request_done w at queue (commands.Send content delay)
 served w at (requests.DeleteMessage queue handle) = request_done w at queue (commands.Delete handle)
 served w at (requests.ChangeMessageVisibility queue handle timeout) = request_done w at queue (commands.Change handle timeout)
-served w at (requests.SetQueueAttributes queue wish) = request_done w at queue (commands.Set wish 0)
+served w at (requests.SetQueueAttributes queue wish) = request_done w at queue (commands.Set wish (target_uid w wish))
 served w at (requests.PurgeQueue queue) = request_done w at queue commands.Purge
 served w at (requests.Batch queue entries) = in_queue w queue (λ uid. told (λ answers. Ok (Batch answers)) (batch_served w uid at entries))
 
@@ -150,9 +152,42 @@ abbrev pub asked_served : World → ℕ → Asked → Served (Result ReplyShape 
 asked_served w at (Client request) = served w at request
 asked_served w at Tick = record { answer = Ok Nothing; world = world_at_moment w at; stages = world_at_moment w at ∷ [] }
 
+-- the queue that a line names by its URL, if it names one
+abbrev pub queue_of_request : Request → Option (List ℕ)
+queue_of_request (requests.CreateQueue name wish) = None
+queue_of_request (requests.DeleteQueue queue) = Some queue
+queue_of_request (requests.GetQueueUrl name) = None
+queue_of_request (requests.ListQueues prefix) = None
+queue_of_request (requests.ListDeadLetterSourceQueues queue) = Some queue
+queue_of_request (requests.GetQueueAttributes queue names) = Some queue
+queue_of_request (requests.ReceiveMessage queue maximum timeout wait names patterns) = Some queue
+queue_of_request (requests.SendMessage queue content delay) = Some queue
+queue_of_request (requests.DeleteMessage queue handle) = Some queue
+queue_of_request (requests.ChangeMessageVisibility queue handle timeout) = Some queue
+queue_of_request (requests.SetQueueAttributes queue wish) = Some queue
+queue_of_request (requests.PurgeQueue queue) = Some queue
+queue_of_request (requests.Batch queue entries) = Some queue
+
+abbrev pub queue_of_asked : Asked → Option (List ℕ)
+queue_of_asked (Client request) = queue_of_request request
+queue_of_asked Tick = None
+
+-- the parcels of the queue of a name move on, where that queue is there
+abbrev pub moves_after : World → ℕ → Option (List ℕ) → Moves
+moves_after w at name = option_map_or (λ uid. all_moves w uid at) (option_and_then (λ name. found_uid w name) name) (no_moves w)
+
+-- an answer, and then these moves
+abbrev pub then_moves : {T : Type 0} → Served T → Moves → Served T
+then_moves s moves = record { answer = s.answer; world = moves.world; stages = s.stages ++ s.world ∷ moves.stages }
+
+-- what is asked is answered, and then the dead letters of the queue that it names move on, whatever the answer was
+abbrev pub timed_served : World → Timed → Served (Result ReplyShape Fault)
+timed_served w timed =
+    then_moves (asked_served w timed.at timed.asked) (moves_after (asked_served w timed.at timed.asked).world timed.at (queue_of_asked timed.asked))
+
 -- a line that cannot be read changes nothing
 abbrev pub line_served : World → Result Timed Fault → Served (Result ReplyShape Fault)
-line_served w (Ok timed) = asked_served w timed.at timed.asked
+line_served w (Ok timed) = timed_served w timed
 line_served w (Err fault) = unchanged w (Err fault)
 
 -- the status, a space, the JSON text and a line feed

@@ -2,15 +2,17 @@
 
 ghost use Rattle.std.specs.Prelude.{◌≡◌, ◌∷◌, ◌++◌, codes, decimal, IfOk, IfErr, OnOk, Ok, false};
 ghost use Rattle.message.specs.Fault.{Meets, is_out_of_memory};
-ghost use Rattle.redrive.specs.World.{names_in_world};
-ghost use Rattle.aws_json.specs.declared.reply.ReplyShape.TheVariants.{QueueUrl, QueueUrls};
+ghost use Rattle.redrive.specs.World.{names_in_world, sources_answer, target_uid};
+ghost use Rattle.aws_json.specs.declared.reply.ReplyShape.TheVariants.{QueueUrl, QueueUrls, SourceQueueUrls};
+ghost use Rattle.aws_json.specs.Steps.{result_map};
 ghost use Rattle.sqs_replay.specs.Answers.{IsOneOf};
-ghost use Rattle.sqs_replay.specs.Served.{asked_by, asked_of, unchanged, in_queue, delete_served, attributes_shape, messages_shape, receive_served, done_shape, request_done, served, asked_served, line_served, answer_text, text_of_line, world_of_line, stages_of_line, Leaves};
+ghost use Rattle.sqs_replay.specs.Served.{asked_by, asked_of, unchanged, in_queue, delete_served, attributes_shape, messages_shape, receive_served, done_shape, request_done, served, asked_served, queue_of_request, queue_of_asked, timed_served, line_served, answer_text, text_of_line, world_of_line, stages_of_line, Leaves};
 
 use crate::ReplayFault;
 use crate::batch::{serve_batch, serve_command, serve_done};
 use crate::input_line::{InputLine, read_line};
 use crate::lines::{LINE_LIMIT, Lines};
+use crate::moves::move_dead_letters;
 use aws_json::{
     AttributeNames, EntryReply, Patterns, Prefix, QueueNames, ReceiveNames, ReplyShape, Request,
     fault_text, parse, read_object, reply_text, status,
@@ -122,6 +124,52 @@ fn url(house: &House, name: &QueueName) -> Result<ReplyShape, Fault>
     match house.find(name) {
         Some(_) => Ok(ReplyShape::QueueUrl(*name)),
         None => Err(Fault::QueueDoesNotExist),
+    }
+}
+
+/// Answers the URLs of the queues that have a queue for their dead letters. No clock moves.
+fn source_urls(alloc: Global, house: &House, queue: &QueueName) -> Result<ReplyShape, Fault>
+    ensures { Meets result (in_queue house.now queue.now (λ uid. unchanged house.now (result_map SourceQueueUrls (sources_answer house.now uid)))).answer }
+{
+    let Some(uid) = house.find(queue) else {
+        return Err(Fault::QueueDoesNotExist);
+    };
+    let names = house.sources(alloc, uid)?;
+    Ok(ReplyShape::SourceQueueUrls(QueueNames::new(names)))
+}
+
+/// Gives a queue settings.
+fn set_attributes(
+    alloc: Global,
+    house: &mut House,
+    at: Moment,
+    queue: &QueueName,
+    wish: Wish,
+    ticks: &mut Ticks,
+) -> Result<ReplyShape, Fault>
+    ensures answer { Meets result (served house.old at (Request.SetQueueAttributes queue.now wish)).answer }
+    ensures state { Leaves result house.new (served house.old at (Request.SetQueueAttributes queue.now wish)).world }
+    ensures stages { IsOneOf house.new (house.old ∷ (served house.old at (Request.SetQueueAttributes queue.now wish)).stages) }
+{
+    let target = target_uid(house, &wish);
+    finish(
+        alloc,
+        house,
+        at,
+        queue,
+        Command::Set { wish, target },
+        ticks,
+    )
+}
+
+/// The uid of the dead-letter queue that a request names, 0 where it names none or no queue has the
+/// name.
+fn target_uid(house: &House, wish: &Wish) -> u64
+    ensures { result ≡ target_uid house.now wish.now }
+{
+    match wish.target() {
+        Some(Some(name)) => house.find(&name).unwrap_or(0),
+        _ => 0,
     }
 }
 
@@ -257,6 +305,7 @@ fn serve(
         Request::DeleteQueue { queue } => delete_queue(alloc, house, at, &queue, ticks),
         Request::GetQueueUrl { name } => url(house, &name),
         Request::ListQueues { prefix } => urls(alloc, house, &prefix),
+        Request::ListDeadLetterSourceQueues { queue } => source_urls(alloc, house, &queue),
         Request::GetQueueAttributes { queue, names } => {
             attributes(alloc, house, at, &queue, names, ticks)
         }
@@ -292,8 +341,7 @@ fn serve(
             finish(alloc, house, at, &queue, command, ticks)
         }
         Request::SetQueueAttributes { queue, wish } => {
-            let command = Command::Set { wish, target: 0 };
-            finish(alloc, house, at, &queue, command, ticks)
+            set_attributes(alloc, house, at, &queue, wish, ticks)
         }
         Request::PurgeQueue { queue } => finish(alloc, house, at, &queue, Command::Purge, ticks),
         Request::Batch { queue, entries } => serve_batch(alloc, house, at, &queue, entries, ticks),
@@ -321,6 +369,58 @@ fn serve_asked(
     }
 }
 
+/// The queue that a request names by its URL, if it names one.
+fn queue_of_request(request: &Request) -> Option<QueueName>
+    ensures { result ≡ queue_of_request request.now }
+{
+    match request {
+        Request::CreateQueue { .. } | Request::GetQueueUrl { .. } | Request::ListQueues { .. } => {
+            None
+        }
+        Request::DeleteQueue { queue }
+        | Request::ListDeadLetterSourceQueues { queue }
+        | Request::GetQueueAttributes { queue, .. }
+        | Request::ReceiveMessage { queue, .. }
+        | Request::SendMessage { queue, .. }
+        | Request::DeleteMessage { queue, .. }
+        | Request::ChangeMessageVisibility { queue, .. }
+        | Request::SetQueueAttributes { queue, .. }
+        | Request::PurgeQueue { queue }
+        | Request::Batch { queue, .. } => Some(*queue),
+    }
+}
+
+/// The queue that a line names by its URL, if it names one.
+fn queue_of_asked(asked: &Asked) -> Option<QueueName>
+    ensures { result ≡ queue_of_asked asked.now }
+{
+    match asked {
+        Asked::Client(request) => queue_of_request(request),
+        Asked::Tick => None,
+    }
+}
+
+/// Answers what a line asks, and then moves the dead letters of the queue that it names.
+fn serve_timed(
+    alloc: Global,
+    house: &mut House,
+    timed: Timed,
+    ticks: &mut Ticks,
+) -> Result<ReplyShape, Fault>
+    ensures answer { Meets result (timed_served house.old timed).answer }
+    ensures state { Leaves result house.new (timed_served house.old timed).world }
+    ensures stages { IsOneOf house.new (house.old ∷ (timed_served house.old timed).stages) }
+{
+    let at = timed.at;
+    let queue = queue_of_asked(&timed.asked);
+    let answer = serve_asked(alloc, house, timed, ticks);
+    if has_no_memory(&answer) {
+        return answer;
+    }
+    move_dead_letters(alloc, house, at, queue, ticks)?;
+    answer
+}
+
 /// Answers a line.
 fn serve_line(
     alloc: Global,
@@ -333,7 +433,7 @@ fn serve_line(
     ensures stages { IsOneOf house.new (house.old ∷ (line_served house.old (asked_of line.now)).stages) }
 {
     let timed = read_timed(alloc, line)?;
-    serve_asked(alloc, house, timed, ticks)
+    serve_timed(alloc, house, timed, ticks)
 }
 
 /// The text of an answer: its status, a space, the JSON text and a line feed.

@@ -9,12 +9,13 @@ use crate::ReplayFault;
 use journal::Ticks;
 use std::alloc::Global;
 
-/// The longest line that can be a request, in bytes. Any longer line is too long, whatever it says.
+/// The longest line that can be a request, in bytes: `longest_line` of the definitions. Any longer
+/// line is too long, whatever it says.
 pub const LINE_LIMIT: usize = 8_388_704;
 
 /// What answers lines, one after another.
 pub trait Lines {
-    ghost use Rattle.sqs_replay.specs.declared.lines.TheConstants.{LINE_LIMIT};
+    ghost use Rattle.sqs_replay.specs.Cutting.{longest_line};
 
     /// The bytes that answer a line, in a state.
     ghost text: { Self → List ℕ → List ℕ };
@@ -41,13 +42,13 @@ pub trait Lines {
         ensures fault { IfErr result (λ fault. fault ≡ ReplayFault.OutOfMemory) };
 
     /// All lines that are too long are answered alike.
-    ghost same_text: { (state : Self) (first second : List ℕ) → LINE_LIMIT < length first → LINE_LIMIT < length second → text state first ≡ text state second };
+    ghost same_text: { (state : Self) (first second : List ℕ) → longest_line < length first → longest_line < length second → text state first ≡ text state second };
 
     /// All lines that are too long leave the same state.
-    ghost same_after: { (state : Self) (first second : List ℕ) → LINE_LIMIT < length first → LINE_LIMIT < length second → after state first ≡ after state second };
+    ghost same_after: { (state : Self) (first second : List ℕ) → longest_line < length first → longest_line < length second → after state first ≡ after state second };
 
     /// All lines that are too long go through the same states.
-    ghost same_stages: { (state : Self) (first second : List ℕ) → LINE_LIMIT < length first → LINE_LIMIT < length second → stages state first ≡ stages state second };
+    ghost same_stages: { (state : Self) (first second : List ℕ) → longest_line < length first → longest_line < length second → stages state first ≡ stages state second };
 }
 
 /// A piece without the one carriage return that may end it.

@@ -21,6 +21,7 @@ mod device;
 mod fault;
 mod input_line;
 mod lines;
+mod moves;
 mod program;
 mod run;
 #[cfg(test)]

@@ -1,9 +1,11 @@
 //! What the program makes of its arguments, and what it tells of how it ended.
 
-ghost use Rattle.std.specs.Prelude.{◌≡◌, [], ◌++◌, Err, IfOk, IfErr};
+ghost use Rattle.std.specs.Prelude.{◌≡◌, [], ◌++◌, false, Ok, Err, IfOk, IfErr};
 ghost use Rattle.std.specs.IoError.{error_kind};
 ghost use Rattle.std.specs.Process.{exit_status};
+ghost use Rattle.std.specs.Str.{is_utf8};
 ghost use Rattle.std.specs.Vec.Iter.{into_iter_items};
+ghost use Rattle.queue_config.specs.Config.{default_configuration};
 ghost use Rattle.queue_config.specs.ConfigText.{configuration_of, configuration_of_bytes};
 ghost use Rattle.sqs_replay.specs.Fault.{fault_of};
 ghost use Rattle.sqs_replay.specs.Program.{path_among, refusal_of_arguments, IsConfigured, message_of, status_of};
@@ -54,9 +56,10 @@ pub(crate) fn path_among(arguments: io::Result<env::Args>) -> Result<Option<Stri
     }
 }
 
-/// The configuration of the empty text.
+/// The configuration of the empty text, which takes no memory.
 pub(crate) fn default_configuration(alloc: Global) -> Result<Config, Refusal>
-    ensures { IsConfigured result (configuration_of []) }
+    ensures config { IsConfigured result (configuration_of []) }
+    ensures exact { result ≡ Ok default_configuration }
 {
     match config_from_text(alloc, "") {
         Ok(config) => Ok(config),
@@ -64,9 +67,11 @@ pub(crate) fn default_configuration(alloc: Global) -> Result<Config, Refusal>
     }
 }
 
-/// The configuration that the bytes of a file are, which may not have been read.
+/// The configuration that the bytes of a file are, which may not have been read. Those that are no
+/// UTF-8 are refused without memory.
 pub(crate) fn configuration_in(alloc: Global, bytes: io::Result<Vec<u8>>) -> Result<Config, Refusal>
     ensures given { IfOk bytes (λ given. IsConfigured result (configuration_of_bytes given.items)) }
+    ensures no_text { IfOk bytes (λ given. is_utf8 given.items ≡ false → result ≡ Err (Refusal.Config ConfigFault.Syntax)) }
     ensures unread { IfErr bytes (λ error. result ≡ Err (Refusal.Replay (fault_of (error_kind error) ReplayFault.Read))) }
 {
     let bytes = match bytes {

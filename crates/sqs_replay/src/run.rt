@@ -1,12 +1,12 @@
 //! The run over an input.
 
-ghost use Rattle.std.specs.Prelude.{◌≡◌, ◌<◌, ℕ, List, [], ◌∷◌, ◌++◌, length, Option, false, IfOk, OnOk, OnErr, IfSome, vec_len};
+ghost use Rattle.std.specs.Prelude.{◌≡◌, ◌<◌, ◌≤◌, ◌+◌, ◌^◌, ℕ, List, [], ◌∷◌, ◌++◌, length, Option, false, IfOk, OnOk, OnErr, IfSome, vec_len};
 ghost use Rattle.std.specs.Io.KnownBytes.{Appends, IsAtEnd};
 ghost use Rattle.sqs_replay.specs.Fault.{is_read_fault};
 ghost use Rattle.sqs_replay.specs.Failures.{AppendsPart};
 ghost use Rattle.sqs_replay.specs.Cutting.{lines_among, whole_lines};
-ghost use Rattle.sqs_replay.specs.Answers.{texts, state_after, replay_text, replay_state, StopsAmong};
-ghost use Rattle.sqs_replay.specs.Progress.{HasRead, AnswersAll, AnswersPart, LeavesPart, InletHasCause, OutletHasCause, MemoryHasCause};
+ghost use Rattle.sqs_replay.specs.Answers.{texts, state_after, replay_text, replay_state};
+ghost use Rattle.sqs_replay.specs.Progress.{HasRead, AnswersAll, AnswersPart, AnswersWhole, StopsBefore, StopsAmong, Stops, OnReadFault, ReadingHasCause, InletHasCause, OutletHasCause, MemoryHasCause};
 
 use crate::lines::without_return;
 use crate::{Inlet, LINE_LIMIT, Lines, Outlet, ReplayFault};
@@ -25,8 +25,9 @@ const READ_LIMIT: u64 = 1 << 32;
 
 /// Reads the inlet to its end, and appends to the outlet the text that answers each line.
 ///
-/// It reads at most 2^32 times, and then gives up with [`ReplayFault::Read`]. Of the input it means to
-/// keep 64 KiB and 8,388,706 bytes of a line, which no clause says.
+/// It reads at most 2^32 times, and then gives up with [`ReplayFault::Read`]. Where it does, or where
+/// a read fails, the whole lines read are answered, and what comes after the last line feed is not.
+/// Of the input it means to keep 64 KiB and 8,388,706 bytes of a line, which no clause says.
 pub fn run_lines<S: Lines, I: Inlet, O: Outlet>(
     alloc: Global,
     server: &mut S,
@@ -51,9 +52,14 @@ pub fn run_lines<S: Lines, I: Inlet, O: Outlet>(
     ensures err { OnErr result ((read : List ℕ) × AnswersPart S.text S.after server.old
         (I.left inlet.old) (I.left inlet.new) (O.taken outlet.old) (O.taken outlet.new) read) }
 
-    // What the server is left as at a fault.
-    ensures stopped { OnErr result ((read : List ℕ) × LeavesPart S.after S.stages server.old server.new
-        (I.left inlet.old) (I.left inlet.new) read) }
+    // What was written at a fault, and what the server is left as with it.
+    ensures stopped { OnErr result ((read : List ℕ) × Stops S.text S.after S.stages server.old server.new
+        (I.left inlet.old) (I.left inlet.new) (O.taken outlet.old) (O.taken outlet.new) read) }
+
+    // Where no more could be read, the whole lines read are answered, and nothing else.
+    ensures read_stops { OnReadFault result ((read : List ℕ) × AnswersWhole S.text S.after server.old server.new
+        (I.left inlet.old) (I.left inlet.new) (O.taken outlet.old) (O.taken outlet.new) read
+        × ReadingHasCause (I.failures inlet.old) (I.failures inlet.new) (I.reads inlet.old) (I.reads inlet.new) (length read)) }
 
     // A fault has its cause, and the counts tell it: where a device failed it is that device's fault.
     ensures read_fault { InletHasCause result (I.failures inlet.old) (I.failures inlet.new)
@@ -61,6 +67,9 @@ pub fn run_lines<S: Lines, I: Inlet, O: Outlet>(
     ensures write_fault { OutletHasCause result (O.failures outlet.old) (O.failures outlet.new) }
     ensures inlet_memory { MemoryHasCause result (I.refusals inlet.old) (I.refusals inlet.new) }
     ensures outlet_memory { MemoryHasCause result (O.refusals outlet.old) (O.refusals outlet.new) }
+
+    // However it ends, it has read at most 2^32 times.
+    ensures reads { I.reads inlet.new ≤ I.reads inlet.old + 2 ^ 32 }
 {
     let mut buffer = read_buffer(alloc)?;
     read_lines(alloc, server, inlet, outlet, ticks, buffer.as_mut_slice())
@@ -85,15 +94,17 @@ fn read_lines<S: Lines, I: Inlet, O: Outlet>(
     requires { 0 < length buffer.old }
     ensures ok { OnOk result ((input : List ℕ) × AnswersAll S.text S.after server.old server.new
         (I.left inlet.old) (I.left inlet.new) (O.taken outlet.old) (O.taken outlet.new) input) }
-    ensures err { OnErr result ((read : List ℕ) × AnswersPart S.text S.after server.old
+    ensures stopped { OnErr result ((read : List ℕ) × Stops S.text S.after S.stages server.old server.new
         (I.left inlet.old) (I.left inlet.new) (O.taken outlet.old) (O.taken outlet.new) read) }
-    ensures stopped { OnErr result ((read : List ℕ) × LeavesPart S.after S.stages server.old server.new
-        (I.left inlet.old) (I.left inlet.new) read) }
+    ensures read_stops { OnReadFault result ((read : List ℕ) × AnswersWhole S.text S.after server.old server.new
+        (I.left inlet.old) (I.left inlet.new) (O.taken outlet.old) (O.taken outlet.new) read
+        × ReadingHasCause (I.failures inlet.old) (I.failures inlet.new) (I.reads inlet.old) (I.reads inlet.new) (length read)) }
     ensures read_fault { InletHasCause result (I.failures inlet.old) (I.failures inlet.new)
         (I.reads inlet.old) (I.reads inlet.new) }
     ensures write_fault { OutletHasCause result (O.failures outlet.old) (O.failures outlet.new) }
     ensures inlet_memory { MemoryHasCause result (I.refusals inlet.old) (I.refusals inlet.new) }
     ensures outlet_memory { MemoryHasCause result (O.refusals outlet.old) (O.refusals outlet.new) }
+    ensures reads { I.reads inlet.new ≤ I.reads inlet.old + 2 ^ 32 }
 {
     let mut kept = Vec::new(alloc);
     for _turn in 0..READ_LIMIT {
@@ -118,12 +129,9 @@ fn take_bytes<S: Lines, O: Outlet>(
     ensures ok { OnOk result ((start : S) (before : Option (List ℕ)) (read : List ℕ) →
         HasRead S.text S.after start before read server.old kept.old.items (O.taken outlet.old) →
         HasRead S.text S.after start before (read ++ bytes.now) server.new kept.new.items (O.taken outlet.new)) }
-    ensures err { OnErr result ((start : S) (before : Option (List ℕ)) (read : List ℕ) →
-        HasRead S.text S.after start before read server.old kept.old.items (O.taken outlet.old) →
-        AppendsPart before (O.taken outlet.new) (texts S.text S.after start (whole_lines (read ++ bytes.now)))) }
     ensures stopped { OnErr result ((start : S) (before : Option (List ℕ)) (read : List ℕ) →
         HasRead S.text S.after start before read server.old kept.old.items (O.taken outlet.old) →
-        StopsAmong S.after S.stages start (whole_lines (read ++ bytes.now)) server.new) }
+        StopsAmong S.text S.after S.stages start server.new before (O.taken outlet.new) (whole_lines (read ++ bytes.now))) }
     ensures no_read_fault { is_read_fault result ≡ false }
     ensures write_fault { OutletHasCause result (O.failures outlet.old) (O.failures outlet.new) }
     ensures outlet_memory { MemoryHasCause result (O.refusals outlet.old) (O.refusals outlet.new) }
@@ -146,12 +154,9 @@ fn take_byte<S: Lines, O: Outlet>(
     ensures ok { OnOk result ((start : S) (before : Option (List ℕ)) (read : List ℕ) →
         HasRead S.text S.after start before read server.old kept.old.items (O.taken outlet.old) →
         HasRead S.text S.after start before (read ++ byte ∷ []) server.new kept.new.items (O.taken outlet.new)) }
-    ensures err { OnErr result ((start : S) (before : Option (List ℕ)) (read : List ℕ) →
-        HasRead S.text S.after start before read server.old kept.old.items (O.taken outlet.old) →
-        AppendsPart before (O.taken outlet.new) (texts S.text S.after start (whole_lines (read ++ byte ∷ [])))) }
     ensures stopped { OnErr result ((start : S) (before : Option (List ℕ)) (read : List ℕ) →
         HasRead S.text S.after start before read server.old kept.old.items (O.taken outlet.old) →
-        StopsAmong S.after S.stages start (whole_lines (read ++ byte ∷ [])) server.new) }
+        StopsAmong S.text S.after S.stages start server.new before (O.taken outlet.new) (whole_lines (read ++ byte ∷ []))) }
     ensures no_read_fault { is_read_fault result ≡ false }
     ensures write_fault { OutletHasCause result (O.failures outlet.old) (O.failures outlet.new) }
     ensures outlet_memory { MemoryHasCause result (O.refusals outlet.old) (O.refusals outlet.new) }
@@ -176,9 +181,8 @@ fn answer_piece<S: Lines, O: Outlet>(
     ensures text { OnOk result (Appends (O.taken outlet.old) (O.taken outlet.new)
         (texts S.text S.after server.old (lines_among (piece.now ∷ [])))) }
     ensures state { OnOk result (server.new ≡ state_after S.after server.old (lines_among (piece.now ∷ []))) }
-    ensures err { OnErr result (AppendsPart (O.taken outlet.old) (O.taken outlet.new)
-        (texts S.text S.after server.old (lines_among (piece.now ∷ [])))) }
-    ensures stopped { OnErr result (StopsAmong S.after S.stages server.old (lines_among (piece.now ∷ [])) server.new) }
+    ensures stopped { OnErr result (StopsBefore S.text S.after S.stages server.old server.new
+        (O.taken outlet.old) (O.taken outlet.new) [] (lines_among (piece.now ∷ []))) }
     ensures no_read_fault { is_read_fault result ≡ false }
     ensures write_fault { OutletHasCause result (O.failures outlet.old) (O.failures outlet.new) }
     ensures outlet_memory { MemoryHasCause result (O.refusals outlet.old) (O.refusals outlet.new) }

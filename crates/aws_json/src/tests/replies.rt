@@ -13,12 +13,19 @@ pub(crate) fn told_reply(alloc: Global, request: &str, ticks: &mut Ticks) -> Res
     }
 }
 
-/// What a request is answered: a list of queues by [`listed`], a send by an id of many digits, a
-/// request for attributes by [`look`], a receive by [`offered`], and others as if they were done.
+/// What a request is answered: a list of queues by [`listed`] and [`sources`], a send by an id of many
+/// digits, a request for attributes by [`look`], a receive by [`offered`], and others as if they were
+/// done.
 fn shape_of(alloc: Global, request: Request, ticks: &mut Ticks) -> Result<ReplyShape, Fault> {
     match request {
         Request::GetQueueUrl { name } => Ok(ReplyShape::QueueUrl(name)),
-        Request::ListQueues { prefix } => listed(alloc, prefix.as_text()),
+        Request::ListQueues { prefix } => {
+            Ok(ReplyShape::QueueUrls(listed(alloc, prefix.as_text())?))
+        }
+        Request::ListDeadLetterSourceQueues { queue } => {
+            let names = listed(alloc, sources(queue.as_text()))?;
+            Ok(ReplyShape::SourceQueueUrls(names))
+        }
         Request::SendMessage { content, .. } => {
             let id = MessageId {
                 uid: 0x0123456789ABCDEF,
@@ -27,7 +34,7 @@ fn shape_of(alloc: Global, request: Request, ticks: &mut Ticks) -> Result<ReplyS
             Ok(ReplyShape::Sent { content, id })
         }
         Request::GetQueueAttributes { queue, names } => {
-            let look = look()?;
+            let look = look(queue.as_text())?;
             Ok(ReplyShape::Attributes { names, queue, look })
         }
         Request::ReceiveMessage {
@@ -48,16 +55,24 @@ fn shape_of(alloc: Global, request: Request, ticks: &mut Ticks) -> Result<ReplyS
     }
 }
 
-/// The queues whose names a prefix is, with commas between them, in this order; none where it is
-/// empty.
-fn listed(alloc: Global, prefix: &str) -> Result<ReplyShape, Fault> {
+/// The queues whose names a text is, with commas between them, in this order; none where it is empty.
+fn listed(alloc: Global, text: &str) -> Result<QueueNames, Fault> {
     let mut names = Vec::new(alloc);
-    for name in prefix.split(',') {
+    for name in text.split(',') {
         if name != "" {
             names.push(QueueName::read(name)?)?;
         }
     }
-    Ok(ReplyShape::QueueUrls(QueueNames::new(names)))
+    Ok(QueueNames::new(names))
+}
+
+/// The queues that have a queue for their dead letters, in the same form.
+fn sources(queue: &str) -> &str {
+    match queue {
+        "alpha" => "beta",
+        "dead" => "A-1,b,jobs",
+        _ => "",
+    }
 }
 
 /// A moment of so many milliseconds.
@@ -66,8 +81,21 @@ fn moment(milliseconds: u64) -> Result<Moment, Fault> {
 }
 
 /// A look at a queue of 7 visible messages, none delayed, and the most in flight that a count can
-/// say, whose other numbers are all different.
-fn look() -> Result<Look, Fault> {
+/// say, whose other numbers are all different. The queues `beta` and `most` have a policy.
+fn look(queue: &str) -> Result<Look, Fault> {
+    let redrive_policy = match queue {
+        "beta" => Some(RedrivePolicy {
+            target: 1,
+            name: QueueName::read("alpha")?,
+            max_receive_count: 3,
+        }),
+        "most" => Some(RedrivePolicy {
+            target: 5,
+            name: QueueName::read("Q_-9")?,
+            max_receive_count: 1000,
+        }),
+        _ => None,
+    };
     Ok(Look {
         gauges: Gauges {
             visible: 7,
@@ -81,6 +109,7 @@ fn look() -> Result<Look, Fault> {
             retention_seconds: 61,
             wait_seconds: 3,
             maximum_message_size: 1025,
+            redrive_policy,
         },
         created: moment(4999)?,
         modified: moment(5000)?,
@@ -90,17 +119,36 @@ fn look() -> Result<Look, Fault> {
     })
 }
 
+/// A dead letter that the queue `jobs` of the uid 2 lost to the queue of the uid 1.
+fn dead_letter(alloc: Global) -> Result<Parcel, Fault> {
+    let origin = Origin {
+        uid: 2,
+        number: 0,
+        name: QueueName::read("jobs")?,
+        id: MessageId { uid: 2, number: 0 },
+        sent: moment(1000)?,
+    };
+    let content = content_of(alloc, r#"{"QueueUrl":"jobs","MessageBody":"a"}"#)?;
+    Ok(Parcel {
+        origin,
+        target: 1,
+        content,
+    })
+}
+
 /// What was sent to the queues, one request a line.
 const SENT: &str =
     r#"{"QueueUrl":"several","MessageBody":"a","MessageAttributes":{"b":{"DataType":"String","StringValue":"x"},"a":{"DataType":"Binary","BinaryValue":"AA=="}}}
 {"QueueUrl":"several","MessageBody":"hi","MessageAttributes":{"foo":{"DataType":"String","StringValue":"1"},"foobar":{"DataType":"Number","StringValue":"2"},"b.c":{"DataType":"Binary","BinaryValue":"AA=="}}}
 {"QueueUrl":"several","MessageBody":"\"\\\t\ud83d\ude00"}
 {"QueueUrl":"three","MessageBody":"hi","MessageAttributes":{"foo":{"DataType":"String","StringValue":"1"},"foobar":{"DataType":"Number","StringValue":"2"},"b.c":{"DataType":"Binary","BinaryValue":"AA=="}}}
+{"QueueUrl":"both","MessageBody":"b"}
 {"QueueUrl":"values","MessageBody":"hi","MessageAttributes":{"t":{"DataType":"String.a/\"","StringValue":"\"\\\n\u007f"},"p":{"DataType":"Binary.x","BinaryValue":"+/+/"},"q":{"DataType":"Binary","BinaryValue":"aGVsbG8="}}}
 "#;
 
 /// What the first receive at 2000 offers of the queue of a name, of the uid 1, to which its messages
-/// were sent at 1000, one after another.
+/// were sent at 1000, one after another. In `dead` and `both` a dead letter arrived at 5000, and the
+/// receive is at 6000.
 fn offered(alloc: Global, queue: &str, ticks: &mut Ticks) -> Result<Offers, Fault> {
     let name = QueueName::read(queue)?;
     let settings = Settings::default();
@@ -111,6 +159,10 @@ fn offered(alloc: Global, queue: &str, ticks: &mut Ticks) -> Result<Offers, Faul
         if body.contains(queue) {
             state.send(alloc, sent, content_of(alloc, body)?, None, ticks)?;
         }
+    }
+    if queue == "dead" || queue == "both" {
+        state.arrive(alloc, moment(5000)?, dead_letter(alloc)?, ticks)?;
+        return state.receive(alloc, moment(6000)?, 10, None, ticks);
     }
     state.receive(alloc, moment(2000)?, 10, None, ticks)
 }
@@ -251,6 +303,24 @@ GetQueueAttributes {"QueueUrl":"jobs","AttributeNames":["ApproximateNumberOfMess
 {"Attributes":{"ApproximateNumberOfMessages":"7","ApproximateNumberOfMessagesDelayed":"0","ApproximateNumberOfMessagesNotVisible":"18446744073709551615"}}
 GetQueueAttributes {"QueueUrl":"jobs","AttributeNames":["All"]}
 {"Attributes":{"ApproximateNumberOfMessages":"7","ApproximateNumberOfMessagesDelayed":"0","ApproximateNumberOfMessagesNotVisible":"18446744073709551615","CreatedTimestamp":"4","DelaySeconds":"1","LastModifiedTimestamp":"5","MaximumMessageSize":"1025","MessageRetentionPeriod":"61","QueueArn":"arn:aws:sqs:elasticmq:000000000000:jobs","ReceiveMessageWaitTimeSeconds":"3","VisibilityTimeout":"2"}}
+GetQueueAttributes {"QueueUrl":"beta","AttributeNames":["All"]}
+{"Attributes":{"ApproximateNumberOfMessages":"7","ApproximateNumberOfMessagesDelayed":"0","ApproximateNumberOfMessagesNotVisible":"18446744073709551615","CreatedTimestamp":"4","DelaySeconds":"1","LastModifiedTimestamp":"5","MaximumMessageSize":"1025","MessageRetentionPeriod":"61","QueueArn":"arn:aws:sqs:elasticmq:000000000000:beta","ReceiveMessageWaitTimeSeconds":"3","RedrivePolicy":"{\"deadLetterTargetArn\":\"arn:aws:sqs:elasticmq:000000000000:alpha\",\"maxReceiveCount\":3}","VisibilityTimeout":"2"}}
+GetQueueAttributes {"QueueUrl":"beta","AttributeNames":["RedrivePolicy"]}
+{"Attributes":{"RedrivePolicy":"{\"deadLetterTargetArn\":\"arn:aws:sqs:elasticmq:000000000000:alpha\",\"maxReceiveCount\":3}"}}
+GetQueueAttributes {"QueueUrl":"most","AttributeNames":["VisibilityTimeout","RedrivePolicy"]}
+{"Attributes":{"RedrivePolicy":"{\"deadLetterTargetArn\":\"arn:aws:sqs:elasticmq:000000000000:Q_-9\",\"maxReceiveCount\":1000}","VisibilityTimeout":"2"}}
+GetQueueAttributes {"QueueUrl":"beta","AttributeNames":["DelaySeconds"]}
+{"Attributes":{"DelaySeconds":"1"}}
+GetQueueAttributes {"QueueUrl":"jobs","AttributeNames":["RedrivePolicy"]}
+{"Attributes":{}}
+GetQueueAttributes {"QueueUrl":"jobs","AttributeNames":["RedrivePolicy","DelaySeconds"]}
+{"Attributes":{"DelaySeconds":"1"}}
+ListDeadLetterSourceQueues {"QueueUrl":"alpha"}
+{"queueUrls":["http://localhost:9324/000000000000/beta"]}
+ListDeadLetterSourceQueues {"QueueUrl":"dead"}
+{"queueUrls":["http://localhost:9324/000000000000/A-1","http://localhost:9324/000000000000/b","http://localhost:9324/000000000000/jobs"]}
+ListDeadLetterSourceQueues {"QueueUrl":"beta"}
+{"queueUrls":[]}
 "#;
 
 /// What a client is told of a send: the digest of its attributes only where it has some.
@@ -299,7 +369,8 @@ const SELECTED: &str = r#"{"QueueUrl":"three","MessageAttributeNames":["All"]}
 "#;
 
 /// The attributes that the queue gives a message stand before its body, where one is asked for that
-/// it has. No message comes from another queue, so asking for its source alone asks for nothing.
+/// it has. A message that was sent to the queue has no source, so asking for that alone asks for
+/// nothing.
 const GIVEN: &str =
     r#"{"QueueUrl":"three","AttributeNames":["SenderId","SentTimestamp","ApproximateReceiveCount","ApproximateFirstReceiveTimestamp","DeadLetterQueueSourceArn"],"MessageAttributeNames":["foo"]}
 {"Messages":[{"Attributes":{"ApproximateFirstReceiveTimestamp":"2000","ApproximateReceiveCount":"1","SenderId":"000000000000","SentTimestamp":"1000"},"Body":"hi","MD5OfBody":"49f68a5c8493ec2c0bf489821c21fc3b","MD5OfMessageAttributes":"3cab606b9fbddd7cbcfb9e1d3a60f028","MessageAttributes":{"foo":{"DataType":"String","StringValue":"1"}},"MessageId":"00000000-0000-0001-0000-000000000000","ReceiptHandle":"000000000000000100000000000000000000000000000001"}]}
@@ -315,6 +386,25 @@ const GIVEN: &str =
 {"Messages":[{"Body":"hi","MD5OfBody":"49f68a5c8493ec2c0bf489821c21fc3b","MD5OfMessageAttributes":"3cab606b9fbddd7cbcfb9e1d3a60f028","MessageAttributes":{"foo":{"DataType":"String","StringValue":"1"}},"MessageId":"00000000-0000-0001-0000-000000000000","ReceiptHandle":"000000000000000100000000000000000000000000000001"}]}
 {"QueueUrl":"three","AttributeNames":[],"MessageAttributeNames":["foo"]}
 {"Messages":[{"Body":"hi","MD5OfBody":"49f68a5c8493ec2c0bf489821c21fc3b","MD5OfMessageAttributes":"3cab606b9fbddd7cbcfb9e1d3a60f028","MessageAttributes":{"foo":{"DataType":"String","StringValue":"1"}},"MessageId":"00000000-0000-0001-0000-000000000000","ReceiptHandle":"000000000000000100000000000000000000000000000001"}]}
+"#;
+
+/// A dead letter has a source: the queue that it left, and not the one that it is in.
+const LETTERS: &str = r#"{"QueueUrl":"dead","AttributeNames":["All"]}
+{"Messages":[{"Attributes":{"ApproximateFirstReceiveTimestamp":"6000","ApproximateReceiveCount":"1","DeadLetterQueueSourceArn":"arn:aws:sqs:elasticmq:000000000000:jobs","SenderId":"000000000000","SentTimestamp":"1000"},"Body":"a","MD5OfBody":"0cc175b9c0f1b6a831c399e269772661","MessageId":"00000000-0000-0002-0000-000000000000","ReceiptHandle":"000000000000000100000000000000000000000000000001"}]}
+{"QueueUrl":"dead","MessageSystemAttributeNames":["All"]}
+{"Messages":[{"Attributes":{"ApproximateFirstReceiveTimestamp":"6000","ApproximateReceiveCount":"1","DeadLetterQueueSourceArn":"arn:aws:sqs:elasticmq:000000000000:jobs","SenderId":"000000000000","SentTimestamp":"1000"},"Body":"a","MD5OfBody":"0cc175b9c0f1b6a831c399e269772661","MessageId":"00000000-0000-0002-0000-000000000000","ReceiptHandle":"000000000000000100000000000000000000000000000001"}]}
+{"QueueUrl":"dead","AttributeNames":["DeadLetterQueueSourceArn"]}
+{"Messages":[{"Attributes":{"DeadLetterQueueSourceArn":"arn:aws:sqs:elasticmq:000000000000:jobs"},"Body":"a","MD5OfBody":"0cc175b9c0f1b6a831c399e269772661","MessageId":"00000000-0000-0002-0000-000000000000","ReceiptHandle":"000000000000000100000000000000000000000000000001"}]}
+{"QueueUrl":"dead","AttributeNames":["SenderId"],"MessageSystemAttributeNames":["DeadLetterQueueSourceArn"]}
+{"Messages":[{"Attributes":{"DeadLetterQueueSourceArn":"arn:aws:sqs:elasticmq:000000000000:jobs","SenderId":"000000000000"},"Body":"a","MD5OfBody":"0cc175b9c0f1b6a831c399e269772661","MessageId":"00000000-0000-0002-0000-000000000000","ReceiptHandle":"000000000000000100000000000000000000000000000001"}]}
+{"QueueUrl":"dead","AttributeNames":["SentTimestamp"]}
+{"Messages":[{"Attributes":{"SentTimestamp":"1000"},"Body":"a","MD5OfBody":"0cc175b9c0f1b6a831c399e269772661","MessageId":"00000000-0000-0002-0000-000000000000","ReceiptHandle":"000000000000000100000000000000000000000000000001"}]}
+{"QueueUrl":"dead"}
+{"Messages":[{"Body":"a","MD5OfBody":"0cc175b9c0f1b6a831c399e269772661","MessageId":"00000000-0000-0002-0000-000000000000","ReceiptHandle":"000000000000000100000000000000000000000000000001"}]}
+{"QueueUrl":"both","AttributeNames":["DeadLetterQueueSourceArn"]}
+{"Messages":[{"Body":"b","MD5OfBody":"92eb5ffee6ae2fec3ad71c777531578f","MessageId":"00000000-0000-0001-0000-000000000000","ReceiptHandle":"000000000000000100000000000000000000000000000001"},{"Attributes":{"DeadLetterQueueSourceArn":"arn:aws:sqs:elasticmq:000000000000:jobs"},"Body":"a","MD5OfBody":"0cc175b9c0f1b6a831c399e269772661","MessageId":"00000000-0000-0002-0000-000000000000","ReceiptHandle":"000000000000000100000000000000010000000000000001"}]}
+{"QueueUrl":"both","AttributeNames":["DeadLetterQueueSourceArn","SenderId"]}
+{"Messages":[{"Attributes":{"SenderId":"000000000000"},"Body":"b","MD5OfBody":"92eb5ffee6ae2fec3ad71c777531578f","MessageId":"00000000-0000-0001-0000-000000000000","ReceiptHandle":"000000000000000100000000000000000000000000000001"},{"Attributes":{"DeadLetterQueueSourceArn":"arn:aws:sqs:elasticmq:000000000000:jobs","SenderId":"000000000000"},"Body":"a","MD5OfBody":"0cc175b9c0f1b6a831c399e269772661","MessageId":"00000000-0000-0002-0000-000000000000","ReceiptHandle":"000000000000000100000000000000010000000000000001"}]}
 "#;
 
 /// Several messages stand in the order of the offers, each with the attributes that are asked for
@@ -334,6 +424,7 @@ fn messages(rt: HostRuntime) -> Result<(), Fail> {
     let ticks = &mut Ticks::new(&rt);
     agrees(&rt, rt.alloc(), ticks, "reply ReceiveMessage <>", SELECTED)?;
     agrees(&rt, rt.alloc(), ticks, "reply ReceiveMessage <>", GIVEN)?;
+    agrees(&rt, rt.alloc(), ticks, "reply ReceiveMessage <>", LETTERS)?;
     agrees(&rt, rt.alloc(), ticks, "reply ReceiveMessage <>", MESSAGES)?;
     agrees(&rt, rt.alloc(), ticks, "reply ReceiveMessage <>", VALUES)
 }

@@ -21,6 +21,7 @@ fn tell_request(text: &mut String, request: &Request) -> Result<(), Fault> {
         Request::PurgeQueue { queue } => tell_queue(text, queue),
         Request::DeleteQueue { queue } => tell_queue(text, queue),
         Request::GetQueueUrl { name } => tell_queue(text, name),
+        Request::ListDeadLetterSourceQueues { queue } => tell_queue(text, queue),
         Request::ListQueues { prefix } => Ok(write!(text, "{:?}", prefix.as_text())?),
         Request::SendMessage {
             queue,
@@ -58,7 +59,8 @@ fn tell_queue(text: &mut String, queue: &QueueName) -> Result<(), Fault> {
     Ok(text.push_str(queue.as_text())?)
 }
 
-/// Tells the settings that a queue of the defaults gets: delay, timeout, retention, wait and size.
+/// Tells the settings that a queue of the defaults gets: delay, timeout, retention, wait and size, and
+/// what becomes of its policy.
 fn tell_wish(text: &mut String, queue: &QueueName, wish: &Wish) -> Result<(), Fault> {
     tell_queue(text, queue)?;
     let settings = Settings::default().with(wish, 0);
@@ -72,7 +74,21 @@ fn tell_wish(text: &mut String, queue: &QueueName, wish: &Wish) -> Result<(), Fa
         " {} {}",
         settings.retention_seconds, settings.wait_seconds
     )?;
-    Ok(write!(text, " {}", settings.maximum_message_size)?)
+    write!(text, " {}", settings.maximum_message_size)?;
+    tell_policy(text, wish, settings.redrive_policy)
+}
+
+/// Tells the policy that a queue of the defaults gets, or that the policy is cleared; nothing where
+/// none is asked for.
+fn tell_policy(text: &mut String, wish: &Wish, policy: Option<RedrivePolicy>) -> Result<(), Fault> {
+    match policy {
+        Some(policy) => {
+            let (name, count) = (policy.name, policy.max_receive_count);
+            Ok(write!(text, " {} {count}", name.as_text())?)
+        }
+        None if wish.target().is_some() => Ok(text.push_str(" no policy")?),
+        None => Ok(()),
+    }
 }
 
 /// Tells a body, a delay and attributes.
@@ -154,8 +170,8 @@ fn tell_command(text: &mut String, command: &Result<Command, Fault>) -> Result<(
     }
 }
 
-/// The name that a creation asks for, and the delay, timeout, retention, wait and size that the queue
-/// gets.
+/// The name that a creation asks for, the delay, timeout, retention, wait and size that the queue gets,
+/// and the dead-letter queue and the number of receives of its policy.
 const CREATIONS: &str = r#"{"QueueName":"jobs"}
 jobs 0 30 345600 0 262144
  {"QueueName" : "jobs"}
@@ -174,6 +190,24 @@ jobs 0 30 345600 0 262144
 jobs 0 5 345600 0 262144
 {"QueueName":"jobs","Attributes":{"VisibilityTimeout":"43200","Policy":"","ReceiveMessageWaitTimeSeconds":"20","DelaySeconds":"900","MaximumMessageSize":"1024","MessageRetentionPeriod":"60"}}
 jobs 900 43200 60 20 1024
+{"QueueName":"jobs","Attributes":{"VisibilityTimeout":"1","RedrivePolicy":"{\"deadLetterTargetArn\":\"arn:aws:sqs:elasticmq:000000000000:dead\",\"maxReceiveCount\":1}"}}
+jobs 0 1 345600 0 262144 dead 1
+{"QueueName":"beta","Attributes":{"RedrivePolicy":"{\"maxReceiveCount\":\"0003\",\"other\":null,\"deadLetterTargetArn\":\"arn:aws:sqs:::alpha\"}"}}
+beta 0 30 345600 0 262144 alpha 3
+{"QueueName":"jobs","Attributes":{"RedrivePolicy":""}}
+jobs 0 30 345600 0 262144 no policy
+{"QueueName":"jobs","Attributes":{"RedrivePolicy":null}}
+jobs 0 30 345600 0 262144
+{"QueueName":"jobs","Attributes":{"RedrivePolicy":"{\"deadLetterTargetArn\":\"arn:aws:sqs:elasticmq:000000000000:dead\",\"maxReceiveCount\":1001}"}}
+InvalidAttributeValue
+{"QueueName":"jobs","Attributes":{"Zzz":"","RedrivePolicy":"{}"}}
+InvalidAttributeValue
+{"QueueName":"jobs","Attributes":{"RedrivePolicy":"{}","Foo":""}}
+InvalidAttributeName
+{"QueueName":"no such","Attributes":{"RedrivePolicy":"{}"}}
+InvalidParameterValue
+{"QueueName":"jobs","Attributes":{"RedrivePolicy":{"deadLetterTargetArn":"arn:aws:sqs:elasticmq:000000000000:dead","maxReceiveCount":1}}}
+SerializationException
 "#;
 
 /// The queue and the settings of a change of settings.
@@ -183,6 +217,16 @@ jobs 0 30 345600 0 262144
 jobs 0 30 120 0 262144
 {"QueueUrl":"http://localhost:9324/000000000000/jobs","Attributes":{"MessageRetentionPeriod":"1209600","DelaySeconds":"10"}}
 jobs 10 30 1209600 0 262144
+{"QueueUrl":"jobs","Attributes":{"RedrivePolicy":"{\"deadLetterTargetArn\":\"arn:aws:sqs:elasticmq:000000000000:dead\",\"maxReceiveCount\":1000}"}}
+jobs 0 30 345600 0 262144 dead 1000
+{"QueueUrl":"beta","Attributes":{"RedrivePolicy":"{\"deadLetterTargetArn\":\"arn:aws:sqs:elasticmq:000000000000:beta\",\"maxReceiveCount\":3}","DelaySeconds":"5"}}
+beta 5 30 345600 0 262144 beta 3
+{"QueueUrl":"jobs","Attributes":{"RedrivePolicy":""}}
+jobs 0 30 345600 0 262144 no policy
+{"QueueUrl":"jobs","Attributes":{"RedrivePolicy":"[]"}}
+InvalidAttributeValue
+{"QueueUrl":"no such","Attributes":{"RedrivePolicy":"[]"}}
+QueueDoesNotExist
 "#;
 
 /// The queue of a purge.
@@ -229,6 +273,23 @@ SerializationException
 SerializationException
 "#;
 
+/// Questions for the queues that have a queue for their dead letters.
+const SOURCES: &str = r#"{"QueueUrl":"http://localhost:9324/000000000000/alpha"}
+alpha
+{"QueueUrl":"alpha","MaxResults":"1","NextToken":5}
+alpha
+{"QueueName":"alpha"}
+InvalidParameterValue
+{"QueueUrl":null}
+InvalidParameterValue
+{"QueueUrl":"alpha/"}
+QueueDoesNotExist
+{"QueueUrl":{}}
+SerializationException
+null
+SerializationException
+"#;
+
 #[test]
 fn queues(rt: HostRuntime) -> Result<(), Fail> {
     let ticks = &mut Ticks::new(&rt);
@@ -243,7 +304,14 @@ fn queues(rt: HostRuntime) -> Result<(), Fail> {
     agrees(&rt, rt.alloc(), ticks, "PurgeQueue <>", PURGES)?;
     agrees(&rt, rt.alloc(), ticks, "DeleteQueue <>", DELETIONS)?;
     agrees(&rt, rt.alloc(), ticks, "GetQueueUrl <>", URLS)?;
-    agrees(&rt, rt.alloc(), ticks, "ListQueues <>", LISTS)
+    agrees(&rt, rt.alloc(), ticks, "ListQueues <>", LISTS)?;
+    agrees(
+        &rt,
+        rt.alloc(),
+        ticks,
+        "ListDeadLetterSourceQueues <>",
+        SOURCES,
+    )
 }
 
 /// The attributes that a request names.
@@ -262,7 +330,7 @@ jobs [InFlight]
 {"QueueUrl":"jobs","AttributeNames":["ApproximateNumberOfMessagesNotVisible","ApproximateNumberOfMessages","ApproximateNumberOfMessages"]}
 jobs [Visible, InFlight]
 {"QueueUrl":"jobs","AttributeNames":["All"]}
-jobs [Visible, Delayed, InFlight, Created, Delay, Modified, Size, Retention, Arn, Wait, Timeout]
+jobs [Visible, Delayed, InFlight, Created, Delay, Modified, Size, Retention, Arn, Wait, Redrive, Timeout]
 {"QueueUrl":"jobs","AttributeNames":["all"]}
 InvalidAttributeName
 {"QueueUrl":"jobs","AttributeNames":[""]}
@@ -272,6 +340,10 @@ InvalidAttributeName
 {"QueueUrl":"jobs","AttributeNames":["SenderId"]}
 InvalidAttributeName
 {"QueueUrl":"jobs","AttributeNames":["createdTimestamp"]}
+InvalidAttributeName
+{"QueueUrl":"jobs","AttributeNames":["RedriveAllowPolicy","RedrivePolicy","DelaySeconds"]}
+jobs [Delay, Redrive]
+{"QueueUrl":"jobs","AttributeNames":["deadLetterTargetArn"]}
 InvalidAttributeName
 "#;
 
@@ -299,7 +371,7 @@ jobs [Wait]
 MaximumMessageSize
 jobs [Size]
 RedrivePolicy
-jobs []
+jobs [Redrive]
 Policy
 jobs []
 KmsMasterKeyId

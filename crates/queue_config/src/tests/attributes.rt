@@ -30,11 +30,14 @@ fn put(alloc: Global, wish: &mut Wish, text: &str) -> Result<String, Fail> {
     Ok(told)
 }
 
+/// The uid of the queue that is named as dead-letter queue, whatever its name.
+pub(super) const TARGET: u64 = 7;
+
 /// The defaults with [`SOME_NUMBERS`] in their place.
 pub(super) fn some_settings(alloc: Global) -> Result<Settings, Fail> {
     let mut wish = Wish::new();
     let _done = put(alloc, &mut wish, SOME_NUMBERS)?;
-    Ok(Settings::default().with(&wish, 0))
+    Ok(Settings::default().with(&wish, TARGET))
 }
 
 /// What each attribute is answered after those of a first text; what they change of the settings;
@@ -42,14 +45,14 @@ pub(super) fn some_settings(alloc: Global) -> Result<Settings, Fail> {
 pub(super) fn told(alloc: Global, first: &str, text: &str) -> Result<String, Fail> {
     let mut wish = Wish::new();
     let _done = put(alloc, &mut wish, first)?;
-    let before = some_settings(alloc)?.with(&wish, 0);
+    let before = some_settings(alloc)?.with(&wish, TARGET);
     let mut told = put(alloc, &mut wish, text)?;
-    let settings = some_settings(alloc)?.with(&wish, 0);
+    let settings = some_settings(alloc)?.with(&wish, TARGET);
     told.push_str(told_changes(alloc, before, settings)?.as_str())?;
-    if before.agrees(&wish, 0) {
+    if before.agrees(&wish, TARGET) {
         told.push_str(" agrees")?;
     }
-    if !settings.agrees(&wish, 0) {
+    if !settings.agrees(&wish, TARGET) {
         told.push_str(" differs afterwards")?;
     }
     Ok(told)
@@ -162,11 +165,13 @@ VisibilityTimeouts=5
 VisibilityTimeout\0=5
 policy=5
 Policies=5
+redrivePolicy=5
+RedrivePolicies=5
 All=5
 QueueArn=5
 ApproximateNumberOfMessages=5
 D\u{E9}lay=5
-=> 3 3 3 3 3 3 3 3 3 3 3 3 3 3 3 agrees
+=> 3 3 3 3 3 3 3 3 3 3 3 3 3 3 3 3 3 agrees
 =
 visibilitytimeout=
 VISIBILITYTIMEOUT=
@@ -178,11 +183,13 @@ VisibilityTimeouts=
 VisibilityTimeout\0=
 policy=
 Policies=
+redrivePolicy=
+RedrivePolicies=
 All=
 QueueArn=
 ApproximateNumberOfMessages=
 D\u{E9}lay=
-=> 3 3 3 3 3 3 3 3 3 3 3 3 3 3 3 agrees
+=> 3 3 3 3 3 3 3 3 3 3 3 3 3 3 3 3 3 agrees
 =-1
 visibilitytimeout=-1
 VISIBILITYTIMEOUT=-1
@@ -194,11 +201,13 @@ VisibilityTimeouts=-1
 VisibilityTimeout\0=-1
 policy=-1
 Policies=-1
+redrivePolicy=-1
+RedrivePolicies=-1
 All=-1
 QueueArn=-1
 ApproximateNumberOfMessages=-1
 D\u{E9}lay=-1
-=> 3 3 3 3 3 3 3 3 3 3 3 3 3 3 3 agrees
+=> 3 3 3 3 3 3 3 3 3 3 3 3 3 3 3 3 3 agrees
 =901
 visibilitytimeout=901
 VISIBILITYTIMEOUT=901
@@ -210,11 +219,13 @@ VisibilityTimeouts=901
 VisibilityTimeout\0=901
 policy=901
 Policies=901
+redrivePolicy=901
+RedrivePolicies=901
 All=901
 QueueArn=901
 ApproximateNumberOfMessages=901
 D\u{E9}lay=901
-=> 3 3 3 3 3 3 3 3 3 3 3 3 3 3 3 agrees";
+=> 3 3 3 3 3 3 3 3 3 3 3 3 3 3 3 3 3 agrees";
 
 /// The values of the ignored names are not looked at.
 const IGNORED_NAMES: &str = "Policy=5

@@ -132,14 +132,6 @@ maximum_message_size = 262145
 => 4 OutOfRange
 [[queue]]
 name = "a"
-dead_letter_queue = "a"
-=> 2 UnknownKey
-[[queue]]
-name = "a"
-max_receive_count = 1
-=> 2 UnknownKey
-[[queue]]
-name = "a"
 [[queue]]
 name = "A"
 [[queue]]
@@ -476,15 +468,212 @@ name = "a b"
 => 4 OutOfRange
 "#;
 
+/// Dead-letter queues: the examples of docs/PROFILE.md, targets before and after their queue in the
+/// text, two queues that name each other; then targets that are not there, half a policy, and values
+/// of another kind or out of range; then texts with two faults.
+const POLICIES: &str = r#"[limits]
+in_flight = 2
+
+[[queue]]
+name = "dead"
+
+[[queue]]
+name = "jobs"
+visibility_timeout = 1
+dead_letter_queue = "dead"
+max_receive_count = 1
+=> 1000000 2; dead; jobs visibility_timeout=1 dead#1 after 1
+[[queue]]
+name = "dead"
+retention_seconds = 60
+[[queue]]
+name = "jobs"
+visibility_timeout = 1
+dead_letter_queue = "dead"
+max_receive_count = 1
+=> 1000000 120000; dead retention_seconds=60; jobs visibility_timeout=1 dead#1 after 1
+[[queue]]
+name = "jobs"
+max_receive_count = 1000
+dead_letter_queue = "dead"
+[[queue]]
+name = "other"
+[[queue]]
+name = "dead"
+=> 1000000 120000; jobs dead#3 after 1000; other; dead
+queue = [{name = "a", dead_letter_queue = "b", max_receive_count = 3}, {name = "b", dead_letter_queue = "a", max_receive_count = 4}]
+=> 1000000 120000; a b#2 after 3; b a#1 after 4
+queue = [{name = "a", dead_letter_queue = "b", max_receive_count = 3}, {name = "b", dead_letter_queue = "c", max_receive_count = 4}, {name = "c"}]
+=> 1000000 120000; a b#2 after 3; b c#3 after 4; c
+queue = [{name = "a"}, {name = "b", dead_letter_queue = "a", max_receive_count = 0x3e8}, {name = "c", dead_letter_queue = "a", max_receive_count = 2}]
+=> 1000000 120000; a; b a#1 after 1000; c a#1 after 2
+[[queue]]
+name = "a"
+dead_letter_queue = "a"
+max_receive_count = 1
+=> 6 NoSuchTarget
+[[queue]]
+name = "a"
+dead_letter_queue = "b"
+max_receive_count = 1
+=> 6 NoSuchTarget
+[[queue]]
+name = "a"
+dead_letter_queue = "DEAD"
+max_receive_count = 1
+[[queue]]
+name = "dead"
+=> 6 NoSuchTarget
+[[queue]]
+name = "a"
+dead_letter_queue = "dea"
+max_receive_count = 1
+[[queue]]
+name = "dead"
+=> 6 NoSuchTarget
+[[queue]]
+name = "dead"
+[[queue]]
+name = "a"
+dead_letter_queue = "dead"
+=> 3 WrongKind
+[[queue]]
+name = "dead"
+[[queue]]
+name = "a"
+max_receive_count = 1
+=> 3 WrongKind
+[[queue]]
+dead_letter_queue = "dead"
+max_receive_count = 1
+[[queue]]
+name = "dead"
+=> 3 WrongKind
+[[queue]]
+name = "a"
+dead_letter_queue = 5
+max_receive_count = 1
+=> 3 WrongKind
+[[queue]]
+name = "a"
+dead_letter_queue = ["dead"]
+max_receive_count = 1
+=> 3 WrongKind
+[[queue]]
+name = "a"
+dead_letter_queue = "a b"
+max_receive_count = 1
+=> 4 OutOfRange
+[[queue]]
+name = "a"
+dead_letter_queue = ""
+max_receive_count = 1
+=> 4 OutOfRange
+[[queue]]
+name = "a"
+dead_letter_queue = "arn:aws:sqs:::dead"
+max_receive_count = 1
+[[queue]]
+name = "dead"
+=> 4 OutOfRange
+[[queue]]
+name = "a"
+dead_letter_queue = "dead"
+max_receive_count = 0
+=> 4 OutOfRange
+[[queue]]
+name = "a"
+dead_letter_queue = "dead"
+max_receive_count = 1001
+=> 4 OutOfRange
+[[queue]]
+name = "a"
+dead_letter_queue = "dead"
+max_receive_count = 65537
+=> 4 OutOfRange
+[[queue]]
+name = "a"
+dead_letter_queue = "dead"
+max_receive_count = -1
+=> 4 OutOfRange
+[[queue]]
+name = "a"
+dead_letter_queue = "dead"
+max_receive_count = "1"
+=> 3 WrongKind
+[[queue]]
+name = "a"
+dead_letter_queue = "dead"
+max_receive_count = 1.0
+=> 3 WrongKind
+[[queue]]
+delay_seconds = 901
+dead_letter_queue = 5
+=> 3 WrongKind
+[[queue]]
+dead_letter_queue = "a b"
+aaa = 1
+=> 2 UnknownKey
+[[queue]]
+delay_seconds = "1"
+max_receive_count = 0
+=> 3 WrongKind
+[[queue]]
+max_receive_count = 0
+maximum_message_size = "1024"
+=> 4 OutOfRange
+[[queue]]
+name = 5
+max_receive_count = 1001
+=> 4 OutOfRange
+[[queue]]
+max_receive_count = 1
+zzz = 1
+=> 2 UnknownKey
+[[queue]]
+name = "a"
+max_receive_count = 1
+[[queue]]
+zzz = 1
+=> 3 WrongKind
+[[queue]]
+zzz = 1
+[[queue]]
+name = "a"
+max_receive_count = 1
+=> 2 UnknownKey
+[[queue]]
+name = "a"
+[[queue]]
+name = "a"
+dead_letter_queue = "b"
+=> 3 WrongKind
+[[queue]]
+name = "a"
+dead_letter_queue = "b"
+max_receive_count = 1
+[[queue]]
+name = "a"
+=> 5 NameTwice
+[[queue]]
+name = "a"
+dead_letter_queue = "a"
+max_receive_count = 1
+[[queue]]
+name = "b"
+wait_seconds = 21
+=> 4 OutOfRange
+"#;
+
 #[test]
 fn configurations(rt: HostRuntime) -> Result<(), Fail> {
-    for transcript in [TEXTS, FORMS, PAIRS] {
+    for transcript in [TEXTS, FORMS, PAIRS, POLICIES] {
         run(&rt, rt.alloc(), Asked::Configuration, transcript)?;
     }
     Ok(())
 }
 
-/// The example of docs/PROFILE.md, whose keys of dead letters are not known yet.
+/// The example of docs/PROFILE.md.
 const EXAMPLE: &str = r#"[limits]
 in_flight = 2
 
@@ -499,7 +688,7 @@ max_receive_count = 1
 "#;
 
 /// What each prefix of the example gives, from the empty one on, a line for each of its lines: a
-/// configuration, or the fault Syntax, unknown Key or WrongKind.
+/// configuration, or the fault Syntax or WrongKind.
 const PREFIXES: &str = "CSSSSSSSC
 CSSSSSSSSSSSSC
 C
@@ -509,17 +698,17 @@ C
 CSSSSSSSSW
 WSSSSSSSSSSSSC
 CSSSSSSSSSSSSSSSSSSSSSC
-CSSSSSSSSSSSSSSSSSSSSSSSSSK
-KSSSSSSSSSSSSSSSSSSSSKK";
+CSSSSSSSSSSSSSSSSSSSSSSSSSW
+WSSSSSSSSSSSSSSSSSSSSCC";
 
 /// What bytes give, as a letter of [`PREFIXES`].
 fn letter(alloc: Global, bytes: &[u8]) -> u8 {
     match config_from_bytes(alloc, bytes) {
         Ok(_) => b'C',
         Err(ConfigFault::Syntax) => b'S',
-        Err(ConfigFault::UnknownKey) => b'K',
         Err(ConfigFault::WrongKind) => b'W',
         Err(ConfigFault::OutOfRange) => b'R',
+        Err(ConfigFault::NoSuchTarget) => b'T',
         Err(_) => b'-',
     }
 }
@@ -537,7 +726,8 @@ fn prefixes(rt: HostRuntime) -> Result<(), Fail> {
     Ok(())
 }
 
-/// The 1,001st queue is refused, before equal names are. Bytes that are no text are no TOML.
+/// The 1,001st queue is refused, before equal names and dead-letter queues that are not there. Bytes
+/// that are no text are no TOML.
 #[test]
 fn many_queues_and_no_text(rt: HostRuntime) -> Result<(), Fail> {
     let alloc = rt.alloc();
@@ -546,6 +736,8 @@ fn many_queues_and_no_text(rt: HostRuntime) -> Result<(), Fail> {
         text.push_str(format!(in alloc; "[[queue]]\nname = \"q{number}\"\n")?.as_str())?;
     }
     assert_eq!(rt; letter(alloc, text.as_bytes()), b'C');
+    text.push_str("dead_letter_queue = \"q1000\"\nmax_receive_count = 1\n")?;
+    assert_eq!(rt; letter(alloc, text.as_bytes()), b'T');
     text.push_str("[[queue]]\nname = \"q1\"\n")?;
     assert_eq!(rt; letter(alloc, text.as_bytes()), b'R');
     assert_eq!(rt; letter(alloc, b"# \xFF\n"), b'S');
@@ -561,11 +753,9 @@ fn limits(rt: HostRuntime) -> Result<(), Fail> {
     Ok(())
 }
 
-/// The fault that no text gets yet, and want of memory, whose number is that of the refusals.
+/// Want of memory, whose number is that of the refusals.
 #[test]
 fn config_faults(rt: HostRuntime) {
-    assert_eq!(rt; ConfigFault::NoSuchTarget.code(), 6);
-    assert_eq!(rt; ConfigFault::NoSuchTarget.name(), "NoSuchTarget");
     assert_eq!(rt; ConfigFault::OutOfMemory.code(), Fault::OutOfMemory.code());
     assert_eq!(rt; ConfigFault::OutOfMemory.name(), "OutOfMemory");
 }

@@ -1,9 +1,10 @@
 //! The name directory.
 
-use super::joined;
+use super::{joined, number};
 use crate::Catalog;
 use message::{Fault, QueueName};
 use std::alloc::Global;
+use std::process::Abort;
 use std::test::Fail;
 
 /// Adds a queue to a directory, or answers 0 where its name is there.
@@ -67,5 +68,67 @@ fn keeps_targets(rt: HostRuntime) -> Result<(), Fail> {
     assert!(rt; catalog.remove(3));
     let gone = sources_of(alloc, &catalog, 3).is_err_and(|fault| fault == Fault::QueueDoesNotExist);
     assert!(rt; gone);
+    Ok(())
+}
+
+/// Adds a queue whose target is the uid 1, and again where memory was refused. Then the directory has
+/// the names that it had.
+fn add_again(
+    rt: &impl Abort,
+    alloc: Global,
+    catalog: &mut Catalog,
+    name: &str,
+    before: &str,
+) -> Result<u64, Fault> {
+    match add(catalog, alloc, name, 1) {
+        Err(Fault::OutOfMemory) => {
+            assert_eq!(rt; uid_in(catalog, name)?, 0);
+            assert_eq!(rt; names_in(alloc, catalog, "")?.as_str(), before);
+            add(catalog, alloc, name, 1)
+        }
+        answer => answer,
+    }
+}
+
+/// The names in a directory, asked again where memory was refused.
+fn names_again(alloc: Global, catalog: &Catalog) -> Result<String, Fault> {
+    match names_in(alloc, catalog, "") {
+        Err(Fault::OutOfMemory) => names_in(alloc, catalog, ""),
+        names => names,
+    }
+}
+
+/// The names of the queues whose target a uid is, asked again where memory was refused.
+fn sources_again(alloc: Global, catalog: &Catalog, uid: u64) -> Result<String, Fault> {
+    match sources_of(alloc, catalog, uid) {
+        Err(Fault::OutOfMemory) => sources_of(alloc, catalog, uid),
+        names => names,
+    }
+}
+
+/// Five names, each with its uid and the names before it. A queue that was refused memory uses up no
+/// uid.
+pub(super) fn keeps_names_again(rt: &impl Abort, alloc: Global) -> Result<(), Fail> {
+    let mut catalog = match Catalog::new(alloc) {
+        Err(Fault::OutOfMemory) => Catalog::new(alloc)?,
+        made => made?,
+    };
+    let text = "more 1 = none
+last 2 = more,
+jobs 3 = last,more,
+dead 4 = jobs,last,more,
+beta 5 = dead,jobs,last,more,";
+    for line in text.lines() {
+        if let Some((call, before)) = line.split_once(" = ") {
+            if let Some((name, uid)) = call.split_once(" ") {
+                let added = add_again(rt, alloc, &mut catalog, name, before)?;
+                assert_eq!(rt; added, number(uid));
+            }
+        }
+    }
+    let all = "beta,dead,jobs,last,more,";
+    assert_eq!(rt; names_again(alloc, &catalog)?.as_str(), all);
+    assert_eq!(rt; sources_again(alloc, &catalog, 1)?.as_str(), all);
+    assert_eq!(rt; sources_again(alloc, &catalog, 2)?.as_str(), "none");
     Ok(())
 }

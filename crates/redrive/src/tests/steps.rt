@@ -1,14 +1,24 @@
 //! Lists of steps.
 
-use super::{at, house, message, timeout};
-use crate::{HouseReply, HouseStep};
+use super::transfers::{moved, requested};
+use super::{at, house, message};
+use crate::{House, HouseReply, HouseRun, HouseStep};
 use journal::Ticks;
 use message::{Fault, QueueName};
-use queue_core::{Command, Reply};
+use queue_core::{Command, Maximum, Reply};
 use std::alloc::Global;
+use std::process::Abort;
 use std::test::Fail;
 
-/// The step of a line: a queue created, deleted or asked, or time that passes.
+/// A receive of one message.
+pub(super) fn receive() -> Result<Command, Fault> {
+    let maximum = Maximum::new(1).ok_or(Fault::InvalidParameterValue)?;
+    let timeout = None;
+    Ok(Command::Receive { maximum, timeout })
+}
+
+/// The step of a line: a queue created, deleted or asked, a parcel handed over or confirmed, or time
+/// that passes.
 fn step(alloc: Global, line: &str) -> Result<HouseStep, Fault> {
     let mut words = line.split(' ');
     let call = words.next().unwrap_or("");
@@ -17,7 +27,7 @@ fn step(alloc: Global, line: &str) -> Result<HouseStep, Fault> {
     let at = at(5);
     if call == "create" {
         let name = QueueName::read(name)?;
-        let wish = timeout(alloc, "")?;
+        let wish = requested(alloc, line)?;
         return Ok(HouseStep::Create { at, name, wish });
     }
     if call == "delete" {
@@ -27,9 +37,19 @@ fn step(alloc: Global, line: &str) -> Result<HouseStep, Fault> {
         let command = message(alloc)?;
         return Ok(HouseStep::Perform { at, uid, command });
     }
+    if call == "receive" {
+        let command = receive()?;
+        return Ok(HouseStep::Perform { at, uid, command });
+    }
     if call == "look" {
         let command = Command::Look;
         return Ok(HouseStep::Perform { at, uid, command });
+    }
+    if call == "hand" {
+        return Ok(HouseStep::HandOver { at, source: uid });
+    }
+    if call == "confirm" {
+        return Ok(HouseStep::Confirm { at, source: uid });
     }
     Ok(HouseStep::Advance { at })
 }
@@ -45,6 +65,11 @@ fn performed(alloc: Global, reply: &Reply) -> Result<String, Fault> {
             let visible = look.gauges.visible;
             format!(in alloc; "{visible} visible")?
         }
+        Reply::Received(offers) => {
+            let count = offers.as_slice().len();
+            format!(in alloc; "{count} offered")?
+        }
+        Reply::Settled(settled) => format!(in alloc; "{settled}")?,
         _ => String::from_str(alloc, "done")?,
     })
 }
@@ -58,16 +83,42 @@ fn told(alloc: Global, reply: &HouseReply) -> Result<String, Fault> {
             Ok(format!(in alloc; "{uid} deleted")?)
         }
         HouseReply::Performed(reply) => performed(alloc, reply),
+        HouseReply::HandedOver(answer) => moved(alloc, answer),
+        HouseReply::Confirmed(reply) => performed(alloc, reply),
         HouseReply::Advanced => Ok(String::from_str(alloc, "done")?),
     }
 }
 
 /// An answer as a text.
-fn answered(alloc: Global, answer: &Result<HouseReply, Fault>) -> Result<String, Fault> {
+pub(super) fn answered(alloc: Global, answer: &Result<HouseReply, Fault>) -> Result<String, Fault> {
     match answer {
         Ok(reply) => told(alloc, reply),
         Err(fault) => Ok(format!(in alloc; "{fault:?}")?),
     }
+}
+
+/// Runs the steps of a text, each of which has to answer what its line says.
+fn runs(
+    rt: &impl Abort,
+    alloc: Global,
+    house: &mut House,
+    ticks: &mut Ticks,
+    text: &str,
+) -> Result<HouseRun, Fail> {
+    let mut steps = Vec::new(alloc);
+    for line in text.lines() {
+        if let Some((call, _)) = line.split_once(" = ") {
+            steps.push(step(alloc, call)?)?;
+        }
+    }
+    let run = house.run(alloc, &steps, ticks)?;
+    assert_eq!(rt; run.answers.len(), steps.len());
+    for (answer, line) in run.answers.iter().zip(text.lines()) {
+        if let Some((call, wanted)) = line.split_once(" = ") {
+            assert_eq!(rt; answered(alloc, answer)?.as_str(), wanted, "{call}");
+        }
+    }
+    Ok(run)
 }
 
 /// A list of steps is answered in order, queues are created and deleted in it, and at its end every
@@ -92,22 +143,39 @@ send 2 = QueueDoesNotExist
 create dead = uid 3
 look 3 = 0 visible
 delete 2 = QueueDoesNotExist";
-    let mut steps = Vec::new(alloc);
-    for line in text.lines() {
-        if let Some((call, _)) = line.split_once(" = ") {
-            steps.push(step(alloc, call)?)?;
-        }
-    }
-    let run = house.run(alloc, &steps, &mut ticks)?;
+    let run = runs(&rt, alloc, &mut house, &mut ticks, text)?;
     assert_eq!(rt; run.answers.len(), 15);
-    for (answer, line) in run.answers.iter().zip(text.lines()) {
-        if let Some((call, wanted)) = line.split_once(" = ") {
-            assert_eq!(rt; answered(alloc, answer)?.as_str(), wanted, "{call}");
-        }
-    }
     assert_eq!(rt; run.gauges.len(), 2);
     let (first, last) = (run.gauges[0], run.gauges[1]);
     assert_eq!(rt; (first.uid, first.gauges.visible), (1, 2));
     assert_eq!(rt; (last.uid, last.gauges.visible), (3, 0));
+    Ok(())
+}
+
+/// A parcel is handed over as often as that is asked, accepted once, and confirmed once, not before
+/// it is accepted.
+#[test]
+fn runs_dead_letters(rt: HostRuntime) -> Result<(), Fail> {
+    let alloc = rt.alloc();
+    let mut ticks = Ticks::new(&rt);
+    let mut house = house(alloc, 100)?;
+    let text = "create dead = uid 1
+create jobs VisibilityTimeout=0 RedrivePolicy=dead/1 = uid 2
+send 2 = message 0
+hand 2 = None
+receive 2 = 1 offered
+receive 2 = 0 offered
+confirm 2 = false
+hand 2 = Arrived
+hand 2 = Again
+confirm 2 = true
+confirm 2 = false
+hand 2 = None
+hand 3 = QueueDoesNotExist
+confirm 3 = QueueDoesNotExist
+look 1 = 1 visible
+look 2 = 0 visible";
+    let run = runs(&rt, alloc, &mut house, &mut ticks, text)?;
+    assert_eq!(rt; run.answers.len(), 16);
     Ok(())
 }

@@ -133,12 +133,14 @@ impl io::Write for Narrow {
     }
 }
 
-/// Asserts what is written of two lines where so many reads of one byte succeed.
+/// Asserts what is written of two lines where so many reads of one byte succeed, and how many lines
+/// the server was asked.
 fn reads_bytes(
     rt: &HostRuntime,
     reads: usize,
     wanted: Result<(), ReplayFault>,
     text: &str,
+    lines: u64,
 ) -> Result<(), Fail> {
     let mut inlet = Device::new(Drip {
         rest: b"a\nb",
@@ -146,8 +148,9 @@ fn reads_bytes(
         reads,
     });
     let mut outlet = Device::new(Vec::new(rt.alloc()));
-    let (result, _count) = run_toy(rt, u64::MAX, &mut inlet, &mut outlet);
+    let (result, count) = run_toy(rt, u64::MAX, &mut inlet, &mut outlet);
     same(result, wanted)?;
+    same(count, lines)?;
     same(inlet.failures(), u64::from(result.is_err()))?;
     same(inlet.refusals(), 0)?;
     same(outlet.into_inner().as_slice(), text.as_bytes())?;
@@ -157,10 +160,12 @@ fn reads_bytes(
 /// The fourth read finds the end, where it comes that far.
 #[test]
 fn reads_a_byte_at_a_time(rt: HostRuntime) -> Result<(), Fail> {
-    reads_bytes(&rt, 9, Ok(()), "0 1\n1 1\n")?;
-    reads_bytes(&rt, 3, Err(ReplayFault::Read), "0 1\n")?;
-    reads_bytes(&rt, 1, Err(ReplayFault::Read), "")?;
-    reads_bytes(&rt, 0, Err(ReplayFault::Read), "")
+    reads_bytes(&rt, 9, Ok(()), "0 1\n1 1\n", 2)?;
+    reads_bytes(&rt, 4, Ok(()), "0 1\n1 1\n", 2)?;
+    reads_bytes(&rt, 3, Err(ReplayFault::Read), "0 1\n", 1)?;
+    reads_bytes(&rt, 2, Err(ReplayFault::Read), "0 1\n", 1)?;
+    reads_bytes(&rt, 1, Err(ReplayFault::Read), "", 0)?;
+    reads_bytes(&rt, 0, Err(ReplayFault::Read), "", 0)
 }
 
 /// Asserts what is written of the answers to two lines where so many writes of three bytes succeed.
@@ -374,4 +379,78 @@ fn each_call_that_fails(rt: HostRuntime) -> Result<(), Fail> {
     writes_first_path(&rt, 1, 310)?;
     writes_first_path(&rt, 7, 45)?;
     writes_first_path(&rt, 140, 3)
+}
+
+/// Two lines of 34 bytes, the second of which no line feed ends.
+const TWO_LINES: &str = r#"1 CreateQueue {"QueueName":"jobs"}
+2 GetQueueUrl {"QueueName":"jobs"}"#;
+
+/// The answer to each of them, 59 bytes.
+const URL_ANSWER: &str = r#"200 {"QueueUrl":"http://localhost:9324/000000000000/jobs"}
+"#;
+
+/// Asserts how two lines end where so many reads of one byte succeed, and exactly what is written.
+fn reads_two_lines(
+    rt: &HostRuntime,
+    reads: usize,
+    wanted: Result<(), ReplayFault>,
+    text: &str,
+) -> Result<(), Fail> {
+    let mut inlet = Device::new(Drip {
+        rest: TWO_LINES.as_bytes(),
+        size: 1,
+        reads,
+    });
+    let mut outlet = Device::new(Vec::new(rt.alloc()));
+    let result = run_first_path(rt, &mut inlet, &mut outlet);
+    same(result, wanted)?;
+    same(inlet.failures(), u64::from(result.is_err()))?;
+    same(outlet.into_inner().as_slice(), text.as_bytes())?;
+    Ok(())
+}
+
+/// Where a read fails, exactly the lines read whole are answered: none before the line feed, which is
+/// the 35th byte, then the first, and the second only where the end was found, by the 70th read.
+#[test]
+fn each_read_of_two_lines_that_fails(rt: HostRuntime) -> Result<(), Fail> {
+    for reads in 0..35 {
+        reads_two_lines(&rt, reads, Err(ReplayFault::Read), "")?;
+    }
+    for reads in 35..70 {
+        reads_two_lines(&rt, reads, Err(ReplayFault::Read), URL_ANSWER)?;
+    }
+    let both = format!(in rt.alloc(); "{URL_ANSWER}{URL_ANSWER}")?;
+    reads_two_lines(&rt, 70, Ok(()), both.as_str())
+}
+
+/// Asserts how two lines end where so many writes of one byte succeed, and exactly what is written.
+fn writes_two_lines(
+    rt: &HostRuntime,
+    writes: usize,
+    wanted: Result<(), ReplayFault>,
+    text: &[u8],
+) -> Result<(), Fail> {
+    let mut inlet = Device::new(TWO_LINES.as_bytes());
+    let mut outlet = Device::new(Narrow {
+        taken: Vec::new(rt.alloc()),
+        size: 1,
+        writes,
+    });
+    let result = run_first_path(rt, &mut inlet, &mut outlet);
+    same(result, wanted)?;
+    same(outlet.failures(), u64::from(result.is_err()))?;
+    same(outlet.into_inner().taken.as_slice(), text)?;
+    Ok(())
+}
+
+/// Where a write fails, exactly the bytes taken before it are written.
+#[test]
+fn each_write_of_two_lines_that_fails(rt: HostRuntime) -> Result<(), Fail> {
+    let both = format!(in rt.alloc(); "{URL_ANSWER}{URL_ANSWER}")?;
+    let text = both.as_bytes();
+    same(text.len(), 118)?;
+    for writes in 0..text.len() {
+        writes_two_lines(&rt, writes, Err(ReplayFault::Write), &text[..writes])?;
+    }
+    writes_two_lines(&rt, 118, Ok(()), text)
 }

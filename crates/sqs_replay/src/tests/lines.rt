@@ -1,7 +1,7 @@
 //! How the input is cut into lines, and lines at the borders of their form.
 
 use super::{agrees, same};
-use crate::{InputLine, LINE_LIMIT, read_line};
+use crate::{InputLine, read_line};
 use std::test::Fail;
 
 const DONE: &str = "200 {}\n";
@@ -59,9 +59,9 @@ fn agrees_at_length(
 #[test]
 fn longest_line(rt: HostRuntime) -> Result<(), Fail> {
     let unread = format!(in rt.alloc(); "{UNREAD}{DONE}")?;
-    agrees_at_length(&rt, LINE_LIMIT, b"\r\n2 Tick {}", "200 {}\n200 {}\n")?;
-    agrees_at_length(&rt, LINE_LIMIT + 1, b"\r\n2 Tick {}", unread.as_str())?;
-    agrees_at_length(&rt, LINE_LIMIT + 3, b"\n2 Tick {}", unread.as_str())
+    agrees_at_length(&rt, 8_388_704, b"\r\n2 Tick {}", "200 {}\n200 {}\n")?;
+    agrees_at_length(&rt, 8_388_705, b"\r\n2 Tick {}", unread.as_str())?;
+    agrees_at_length(&rt, 8_388_707, b"\n2 Tick {}", unread.as_str())
 }
 
 /// The parts of a line, with a `|` before each, or nothing where it cannot be read.

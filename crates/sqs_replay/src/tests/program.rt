@@ -48,6 +48,10 @@ fn configurations(rt: HostRuntime) -> Result<(), Fail> {
     same(refusal_of(&rt, "[limits]\nmax_lines = 4\n")?, None)?;
     let syntax = Refusal::Config(ConfigFault::Syntax);
     same(refusal_of(&rt, "[")?, Some(syntax))?;
+    let mut no_text = Vec::new(rt.alloc());
+    no_text.push(0xFF)?;
+    let refusal = configuration_in(rt.alloc(), Ok(no_text)).err();
+    same(refusal, Some(syntax))?;
     let absent = io::Error::from(io::ErrorKind::NotFound);
     let refusal = configuration_in(rt.alloc(), Err(absent)).err();
     same(refusal, Some(Refusal::Replay(ReplayFault::Read)))?;

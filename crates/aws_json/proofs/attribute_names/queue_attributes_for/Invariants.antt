@@ -1,7 +1,7 @@
 use Rattle.std.proofs.Common.{◌≡◌, take}
 use Rattle.serde_json.specs.View.{items_view}
-use Rattle.aws_json.specs.AttributeNames.{queue_attributes_for}
+use Rattle.aws_json.specs.AttributeNames.{queue_attribute_name, asks_for, attributes_for}
 use Rattle.aws_json.proofs.attribute_names.queue_attributes_for.Given as goal
 
 abbrev pub invariant-loop-attribute : goal.invariant-loop-attribute
-invariant-loop-attribute l = l.asked ≡ queue_attributes_for (items_view l.names) (take l.attribute-index l.attributes)
+invariant-loop-attribute l = l.asked ≡ attributes_for queue_attribute_name (asks_for (items_view l.names)) (take l.attribute-index l.attributes)

@@ -1,8 +1,8 @@
-use Rattle.std.proofs.Common.{sym, ◌∙◌, rules, tests}
+use Rattle.std.proofs.Common.{◌∙◌, rules, tests}
 use Rattle.std.proofs.lemmas.Iterator.Consumers.{YieldsList-at, YieldsList-from_first, YieldsList-from_filter, count_from_yields_List}
 use Rattle.std.proofs.lemmas.List.Sums.{length-filter}
 use Rattle.queue_core.specs.Messages.{messages}
-use Rattle.queue_core.specs.States.{is_live, is_in_state}
+use Rattle.queue_core.specs.States.{is_in_state}
 use Rattle.queue_core.proofs.reading.count_in_state.Goals as goal
 
 pub returns : goal.returns

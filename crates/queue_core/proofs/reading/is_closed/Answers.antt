@@ -1,11 +1,12 @@
 use Rattle.std.proofs.Common.{sym, ◌∙◌}
-use Rattle.queue_core.proofs.Scans.{is_closed-here, is_closed-later}
+use Rattle.queue_core.specs.Messages.{closes}
+use Rattle.queue_core.proofs.Scans.{any-here, any-later}
 use Rattle.queue_core.proofs.reading.is_closed.Goals as goal
 
 pub returns-then-closes : goal.returns-then-closes
 returns-then-closes c =
-    sym (is_closed-here c.args.journal.now.lines c.loop-place.place c.line_at.result.now c.line_at.ensures (sym c.closes.ensures ∙ c.if-closes.true)) ∙ c.loop-place.invariant
+    sym (any-here c.args.journal.now.lines c.loop-place.place c.line_at.result.now c.line_at.ensures (λ e. closes e.event) (sym c.closes.ensures ∙ c.if-closes.true)) ∙ c.loop-place.invariant
 
 pub loop-place-preserved : goal.loop-place-preserved
 loop-place-preserved c =
-    sym (is_closed-later c.args.journal.now.lines c.loop-place.place c.line_at.result.now c.line_at.ensures (sym c.closes.ensures ∙ c.if-closes.false)) ∙ c.loop-place.invariant
+    sym (any-later c.args.journal.now.lines c.loop-place.place c.line_at.result.now c.line_at.ensures (λ e. closes e.event) (sym c.closes.ensures ∙ c.if-closes.false)) ∙ c.loop-place.invariant

@@ -1,8 +1,7 @@
-use Rattle.std.proofs.Common.{sym, ◌∙◌, rules, tests}
+use Rattle.std.proofs.Common.{sym, ◌∙◌}
 use Rattle.std.proofs.lemmas.Iterator.Consumers.{nth_from_yields_List, YieldsList-from_first}
 use Rattle.std.proofs.lemmas.Iterator.Adapters.{option_map_id}
 use Rattle.queue_core.specs.Messages.{messages}
-use Rattle.queue_core.specs.States.{is_live, is_in_state}
 use Rattle.queue_core.proofs.reading.message_numbered.Goals as goal
 
 pub returns : goal.returns

@@ -3,7 +3,7 @@ use Rattle.std.proofs.lemmas.Iterator.Consumers.{YieldsList-from_first}
 use Rattle.std.proofs.lemmas.Iterator.Adapters.{option_map_id}
 use Rattle.std.proofs.lemmas.Iterator.Search.{find_from_yields_List}
 use Rattle.queue_core.specs.Messages.{messages}
-use Rattle.queue_core.specs.States.{is_live, is_in_state}
+use Rattle.queue_core.specs.States.{is_live}
 use Rattle.queue_core.proofs.reading.oldest_message.Goals as goal
 
 pub returns : goal.returns

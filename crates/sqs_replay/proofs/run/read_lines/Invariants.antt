@@ -1,4 +1,4 @@
-use Rattle.std.proofs.Common.{◌≡◌, ℕ, List}
+use Rattle.std.proofs.Common.{◌≡◌, ◌≤◌, ℕ, List, length}
 use Rattle.std.specs.Io.KnownBytes.{Consumes}
 use Rattle.sqs_replay.specs.Progress.{HasRead}
 use Rattle.sqs_replay.proofs.Counts.{CountsTurns}
@@ -7,7 +7,8 @@ use Rattle.sqs_replay.proofs.run.read_lines.Given as goal
 abbrev pub invariant-loop-turn : goal.invariant-loop-turn
 invariant-loop-turn g l = record {
   so_far : (read : List ℕ) × Consumes (g.I.Inlet.left l.initial.inlet) (g.I.Inlet.left l.inlet) read
-      × HasRead g.S.Lines.text g.S.Lines.after l.initial.server (g.O.Outlet.taken l.initial.outlet) read l.server l.kept.items (g.O.Outlet.taken l.outlet);
+      × HasRead g.S.Lines.text g.S.Lines.after l.initial.server (g.O.Outlet.taken l.initial.outlet) read l.server l.kept.items (g.O.Outlet.taken l.outlet)
+      × (l._turn ≤ length read);
   reads : CountsTurns l._turn (g.I.Inlet.reads l.initial.inlet) (g.I.Inlet.reads l.inlet);
   inlet_failures : g.I.Inlet.failures l.inlet ≡ g.I.Inlet.failures l.initial.inlet;
   inlet_refusals : g.I.Inlet.refusals l.inlet ≡ g.I.Inlet.refusals l.initial.inlet;

@@ -1,5 +1,7 @@
+use Rattle.std.proofs.Common.{[]}
 use Rattle.std.proofs.lemmas.Result.{on_ok_weaker, on_err_weaker}
-use Rattle.sqs_replay.proofs.Runs.{known_text, known_state, either_way, front_of_nothing, front_of_all, front_of_part}
+use Rattle.sqs_replay.proofs.Runs.{on_err, known_text, known_state, either_way, front_of_nothing, front_of_all, front_of_part}
+use Rattle.sqs_replay.proofs.Stops.{answers-part, stops-at_once}
 use Rattle.sqs_replay.specs.Answers.{replay_text}
 use Rattle.sqs_replay.proofs.run.run_lines.Goals as goal
 
@@ -23,4 +25,13 @@ returns-clause-front g c =
     either_way c.read_lines.result
     (on_ok_weaker c.read_lines.result (λ all. front_of_all g.S.Lines.text g.S.Lines.after c.args.server.now _ _ _ _ _ all.0 all.1) c.read_lines.ensures.ok)
     (on_err_weaker c.read_lines.result
-    (λ part. front_of_part g.S.Lines.text g.S.Lines.after c.args.server.now _ _ _ _ part.0 part.1) c.read_lines.ensures.err)
+    (λ stop. front_of_part g.S.Lines.text g.S.Lines.after c.args.server.now _ _ _ _ stop.0 (answers-part g.S.Lines.text g.S.Lines.after g.S.Lines.stages c.args.server.now _ _ _ _ _ stop.0 stop.1)) c.read_lines.ensures.stopped)
+
+pub returns-in_err-buffer-clause-stopped : goal.returns-in_err-buffer-clause-stopped
+returns-in_err-buffer-clause-stopped g c =
+    on_err c.from_residual.result ([], stops-at_once g.S.Lines.text g.S.Lines.after g.S.Lines.stages c.args.server.now (g.I.Inlet.left c.args.inlet.now) (g.O.Outlet.taken c.args.outlet.now))
+
+pub returns-clause-err : goal.returns-clause-err
+returns-clause-err g c =
+    on_err_weaker c.read_lines.result
+    (λ stop. (stop.0, answers-part g.S.Lines.text g.S.Lines.after g.S.Lines.stages c.args.server.now _ _ _ _ _ stop.0 stop.1)) c.read_lines.ensures.stopped

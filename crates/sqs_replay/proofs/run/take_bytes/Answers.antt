@@ -1,23 +1,10 @@
 use Rattle.std.proofs.Common.{ℕ, ◌+◌, List, [], ◌∷◌, ◌++◌, take, drop, get_or, subst, ◌∙◌}
-use Rattle.sqs_replay.specs.Failures.{AppendsPart}
 use Rattle.sqs_replay.specs.Cutting.{whole_lines}
-use Rattle.sqs_replay.specs.Progress.{HasRead}
-use Rattle.sqs_replay.specs.Answers.{texts, StopsAmong}
+use Rattle.sqs_replay.specs.Progress.{HasRead, StopsAmong}
 use Rattle.sqs_replay.proofs.Cuts.{read_rest, read_more}
-use Rattle.sqs_replay.proofs.Runs.{on_err, part_of_more}
+use Rattle.sqs_replay.proofs.Runs.{on_err}
 use Rattle.sqs_replay.proofs.Stops.{stops-further}
 use Rattle.sqs_replay.proofs.run.take_bytes.Goals as goal
-
-pub returns-in_err-take_byte-clause-err : goal.returns-in_err-take_byte-clause-err
-returns-in_err-take_byte-clause-err g c =
-    on_err c.from_residual.result (λ start before read h.
-    let bytes = c.args.bytes.now in
-    let i = c.loop-byte.byte-index in
-    let so_far = c.loop-byte.invariant.0 start before read h in
-    let stopped = c.in_err-take_byte.ensures.err start before (read ++ take i bytes) so_far in
-    subst (λ (all : List ℕ). AppendsPart before (g.O.Outlet.taken c.take_byte.new.outlet) (texts g.S.Lines.text g.S.Lines.after start (whole_lines all)))
-    (read_rest read bytes i c.loop-byte-test.true)
-    (part_of_more g.S.Lines.text g.S.Lines.after start before _ ((read ++ take i bytes) ++ get_or bytes i 0 ∷ []) (drop (i + 1) bytes) stopped))
 
 pub returns-in_err-take_byte-clause-stopped : goal.returns-in_err-take_byte-clause-stopped
 returns-in_err-take_byte-clause-stopped g c =
@@ -26,9 +13,10 @@ returns-in_err-take_byte-clause-stopped g c =
     let i = c.loop-byte.byte-index in
     let so_far = c.loop-byte.invariant.0 start before read h in
     let stopped = c.in_err-take_byte.ensures.stopped start before (read ++ take i bytes) so_far in
-    subst (λ (all : List ℕ). StopsAmong g.S.Lines.after g.S.Lines.stages start (whole_lines all) c.take_byte.new.server)
+    subst (λ (all : List ℕ). StopsAmong g.S.Lines.text g.S.Lines.after g.S.Lines.stages start c.take_byte.new.server before
+    (g.O.Outlet.taken c.take_byte.new.outlet) (whole_lines all))
     (read_rest read bytes i c.loop-byte-test.true)
-    (stops-further g.S.Lines.after g.S.Lines.stages start _ ((read ++ take i bytes) ++ get_or bytes i 0 ∷ []) (drop (i + 1) bytes) stopped))
+    (stops-further g.S.Lines.text g.S.Lines.after g.S.Lines.stages start _ before _ ((read ++ take i bytes) ++ get_or bytes i 0 ∷ []) (drop (i + 1) bytes) stopped))
 
 pub loop-byte-preserved : goal.loop-byte-preserved
 loop-byte-preserved g c = (

@@ -1,4 +1,3 @@
-use Rattle.std.proofs.Common.{sym, ◌∙◌}
 use Rattle.queue_core.specs.declared.command.Command.TheVariants as commands
 use Rattle.queue_core.proofs.LegalLemmas.{event-purged}
 use Rattle.queue_core.proofs.state.QueueState.purge.Goals as goal

@@ -1,6 +1,8 @@
-use Rattle.std.proofs.Common.{sym, ◌∙◌}
+use Rattle.std.proofs.Common.{refl, sym, ◌∙◌}
 use Rattle.queue_core.specs.declared.command.Command.TheVariants as commands
-use Rattle.queue_core.proofs.LegalLemmas.{event-over_limit, event-received}
+use Rattle.journal.specs.declared.entry.Event.TheVariants.{Received}
+use Rattle.queue_core.specs.Queue.{at_moment}
+use Rattle.queue_core.proofs.LegalLemmas.{event-over_limit, event-received, answer-received, state-received}
 use Rattle.queue_core.proofs.state.QueueState.receive.Goals as goal
 
 pub refuse-requires-clause-caused : goal.refuse-requires-clause-caused
@@ -15,6 +17,19 @@ add-requires c = record {
   command = commands.Receive c.args.maximum c.args.timeout;
   allowed = (c.requires.maximum, c.requires.timeout);
   added =
-      rw (c.timeout_or_own.ensures, c.in_ok-numbers_of.ensures.ok, c.as_slice-2.ensures.value, c.in_ok-candidates.ensures.ok, c.new.ensures)
+      rw (c.timeout_or_own.ensures, c.in_ok-numbers_of.ensures.ok, c.as_slice-2.ensures.value, c.in_ok-numbers_of-2.ensures.ok, c.as_slice-3.ensures.value, c.in_ok-scan.ensures.offered, c.in_ok-scan.ensures.leaving, c.policy_target.ensures)
       (event-received c.begin.new.self c.in_ok-begin.ensures.ok c.args.maximum c.args.timeout (sym c.is_at_in_flight_limit.ensures ∙ c.if-is_at_in_flight_limit.false));
 }
+
+pub returns-clause-answer : goal.returns-clause-answer
+returns-clause-answer c =
+    answer-received c.begin.new.self c.in_ok-begin.ensures.ok (at_moment c.args.self.now c.args.at) c.args.maximum c.args.timeout c.in_ok-offers.offers c.begin.ensures.state
+    (sym c.is_at_in_flight_limit.ensures ∙ c.if-is_at_in_flight_limit.false) (rw (c.in_ok-offers.ensures.ok, c.as_slice.ensures.value, c.in_ok-scan.ensures.offered) refl)
+
+pub returns-clause-state : goal.returns-clause-state
+returns-clause-state c =
+    state-received c.begin.new.self c.in_ok-begin.ensures.ok (at_moment c.args.self.now c.args.at) c.add.new.self c.args.maximum c.args.timeout
+    (Received c.timeout_or_own.result c.in_ok-numbers_of.field-0 c.in_ok-numbers_of-2.field-0 c.policy_target.result) c.begin.ensures.state
+    (sym c.is_at_in_flight_limit.ensures ∙ c.if-is_at_in_flight_limit.false)
+    (rw (c.timeout_or_own.ensures, c.in_ok-numbers_of.ensures.ok, c.as_slice-2.ensures.value, c.in_ok-numbers_of-2.ensures.ok, c.as_slice-3.ensures.value, c.in_ok-scan.ensures.offered, c.in_ok-scan.ensures.leaving, c.policy_target.ensures) refl)
+    c.in_ok-add.ensures.ok

@@ -1,7 +1,9 @@
-use Rattle.std.proofs.Common.{arith}
+use Rattle.std.proofs.Common.{◌≡◌, ◌+◌, List, ◌∷◌, drop, sym, ap, ◌∙◌, arith}
+use Rattle.std.proofs.lemmas.List.{drop_more}
 use Rattle.message.specs.Fault.{Meets}
+use Rattle.queue_core.specs.declared.command.Step.{Step}
 use Rattle.queue_core.specs.Queue.{IsExact}
-use Rattle.queue_core.proofs.RunLemmas.{Continues-end}
+use Rattle.queue_core.proofs.RunLemmas.{Continues-step, Continues-end}
 use Rattle.queue_core.proofs.state.QueueState.run.Goals as goal
 
 pub returns-clause-answers : goal.returns-clause-answers
@@ -15,3 +17,18 @@ returns-clause-state c =
 pub returns-clause-exact : goal.returns-clause-exact
 returns-clause-exact c =
     (Continues-end IsExact c.args.self.now c.args.steps.now c.loop-step.answers.items c.loop-step.self c.loop-step.step-index (omega arith) c.loop-step.invariant.exact).0
+
+pub loop-step-preserved : goal.loop-step-preserved
+loop-step-preserved c =
+    let step : Step = c.step-item.result in
+    let left : List Step = drop c.loop-step.step-index c.args.steps.now in
+    let next : List Step = drop (c.loop-step.step-index + 1) c.args.steps.now in
+    let here : left ≡ step ∷ next = drop_more c.args.steps.now c.loop-step.step-index step (omega arith) ∙ ap (λ (s : Step). s ∷ next) (sym c.step-item.is) in
+    record {
+      counted = (let more = c.push_reserved.ensures.len in let so_far = c.loop-step.invariant.counted in omega arith);
+      room = rw c.push_reserved.ensures.capacity c.loop-step.invariant.room;
+      continues = rw c.push_reserved.ensures.items (Continues-step (λ outcome answer. Meets answer outcome.reply) c.args.self.now c.args.steps.now c.loop-step.answers.items c.loop-step.self left next step c.perform-answer.result c.perform-answer.new.self
+          c.loop-step.invariant.continues here c.perform-answer.ensures.answer c.perform-answer.ensures.state);
+      exact = rw c.push_reserved.ensures.items (Continues-step IsExact c.args.self.now c.args.steps.now c.loop-step.answers.items c.loop-step.self left next step c.perform-answer.result c.perform-answer.new.self
+          c.loop-step.invariant.exact here c.perform-answer.ensures.exact c.perform-answer.ensures.state);
+    }

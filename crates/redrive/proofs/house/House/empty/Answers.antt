@@ -2,4 +2,4 @@ use Rattle.redrive.proofs.RegistryLemmas.{IsRegistry-empty}
 use Rattle.redrive.proofs.house.House.empty.Goals as goal
 
 pub invariant_of-result : goal.invariant_of-result
-invariant_of-result c = rw c.new.ensures.items (IsRegistry-empty c.args.limits)
+invariant_of-result c = rw c.new.ensures (IsRegistry-empty c.args.limits)

@@ -1,8 +1,25 @@
-use Rattle.std.proofs.Common.{arith, sym, subst}
+use Rattle.std.proofs.Common.{◌≡◌, ◌+◌, ◌∷◌, drop, arith, sym, ap, subst, ◌∙◌}
+use Rattle.std.proofs.lemmas.List.{drop_more}
+use Rattle.redrive.specs.declared.steps.HouseStep.{HouseStep}
 use Rattle.redrive.specs.World.{World, queue_of_uid}
 use Rattle.redrive.specs.WorldRun.{IsAsIfAlone}
-use Rattle.redrive.proofs.RunLemmas.{AreAnswered, Continues-end, AreHouseAnswers-run, IsAsIfAlone-run, IsWholeHistory-run, AreTold-run}
+use Rattle.redrive.proofs.RunLemmas.{AreAnswered, Continues-step, Continues-end, AreHouseAnswers-run, IsAsIfAlone-run, IsWholeHistory-run, AreTold-run}
 use Rattle.redrive.proofs.house.House.run.Goals as goal
+
+pub loop-step-preserved : goal.loop-step-preserved
+loop-step-preserved c =
+    let steps = c.args.steps.now in
+    let i = c.loop-step.step-index in
+    let left : drop i steps ≡ c.step-item.result ∷ drop (i + 1) steps =
+    drop_more steps i c.step-item.result (omega arith) ∙ ap (λ (step : HouseStep). step ∷ drop (i + 1) steps) (sym c.step-item.is) in
+    record {
+      counted = omega arith;
+      room = omega arith;
+      continues =
+          rw c.push_reserved.ensures.items
+          (Continues-step c.args.self.now steps c.loop-step.answers.items c.loop-step.self (drop i steps) (drop (i + 1) steps) c.step-item.result c.take_step-answer.result c.take_step-answer.new.self
+          c.loop-step.invariant.continues left c.take_step-answer.ensures.registry c.take_step-answer.ensures.answer c.take_step-answer.ensures.exact c.take_step-answer.ensures.state);
+    }
 
 pub returns-clause-answers : goal.returns-clause-answers
 returns-clause-answers c =
@@ -16,7 +33,7 @@ returns-clause-state c =
 pub returns-clause-alone : goal.returns-clause-alone
 returns-clause-alone c uid =
     let h = Continues-end c.args.self.now c.args.steps.now c.loop-step.answers.items c.loop-step.self c.loop-step.step-index (omega arith) c.loop-step.invariant.continues in
-    subst (λ (w : World). IsAsIfAlone c.args.self.now.limits uid (queue_of_uid c.args.self.now uid) c.args.steps.now c.loop-step.answers.items (queue_of_uid w uid)) (sym h.1)
+    subst (λ (w : World). IsAsIfAlone c.args.self.now uid (queue_of_uid c.args.self.now uid) c.args.steps.now c.loop-step.answers.items (queue_of_uid w uid)) (sym h.1)
     (IsAsIfAlone-run c.args.self.now c.args.steps.now c.loop-step.answers.items uid h.0)
 
 pub returns-clause-history : goal.returns-clause-history

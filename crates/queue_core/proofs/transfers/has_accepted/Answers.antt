@@ -1,0 +1,12 @@
+use Rattle.std.proofs.Common.{sym, ◌∙◌}
+use Rattle.queue_core.specs.Messages.{accepts}
+use Rattle.queue_core.proofs.Scans.{any-here, any-later}
+use Rattle.queue_core.proofs.transfers.has_accepted.Goals as goal
+
+pub returns-then-accepts : goal.returns-then-accepts
+returns-then-accepts c =
+    sym (any-here c.args.journal.now.lines c.loop-place.place c.line_at.result.now c.line_at.ensures (λ e. accepts c.args.uid c.args.number e.event) (sym c.accepts.ensures ∙ c.if-accepts.true)) ∙ c.loop-place.invariant
+
+pub loop-place-preserved : goal.loop-place-preserved
+loop-place-preserved c =
+    sym (any-later c.args.journal.now.lines c.loop-place.place c.line_at.result.now c.line_at.ensures (λ e. accepts c.args.uid c.args.number e.event) (sym c.accepts.ensures ∙ c.if-accepts.false)) ∙ c.loop-place.invariant

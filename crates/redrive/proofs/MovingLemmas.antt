@@ -1,0 +1,234 @@
+-- A parcel that was handed over and accepted still waits first at its source, so that it can be confirmed.
+use Rattle.std.proofs.Common.{◌≡◌, ℕ, zero, suc, Bool, true, false, not, ◌||◌, cond, List, [], ◌∷◌, ◌++◌, Option, Some, None, Result, Ok, Err, refl, sym, ap, subst, inl, inr, ◌∙◌}
+use Rattle.std.specs.Prelude.{nat_eq, slice_get, is_some, option_map, option_and_then}
+use Rattle.std.specs.List.{list_any}
+use Rattle.std.specs.Option.{option_map_or}
+use Rattle.std.proofs.lemmas.Bool.{eq-eqb, false≢true}
+use Rattle.std.proofs.lemmas.List.Elements.{filter_agree}
+use Rattle.std.proofs.lemmas.List.Folds.{list_any-append}
+use Rattle.std.proofs.lemmas.Option.{none-some, option_and_then_some}
+use Rattle.message.specs.declared.fault.Fault.{Fault}
+use Rattle.message.specs.declared.fault.Fault.TheVariants.{QueueDoesNotExist}
+use Rattle.message.specs.Fault.{Meets}
+use Rattle.message.specs.Content.{ContentText}
+use Rattle.journal.specs.declared.entry.Entry.{Entry}
+use Rattle.journal.specs.declared.entry.Event.TheVariants.{Arrived}
+use Rattle.queue_core.specs.declared.command.Command.TheVariants.{Arrive, Orphan}
+use Rattle.queue_core.specs.declared.facts.Message.{Message}
+use Rattle.queue_core.specs.declared.facts.Transfer.{Transfer}
+use Rattle.queue_core.specs.declared.parcel.Parcel.{Parcel}
+use Rattle.queue_core.specs.declared.parcel.Arrival.TheVariants as arrivals
+use Rattle.queue_core.specs.declared.reply.Reply.{Reply}
+use Rattle.queue_core.specs.declared.reply.Reply.TheVariants as replies
+use Rattle.queue_core.specs.Messages.{message_of, messages_from, content_of, departures, ends_transfer, pending_transfers, accepts, has_accepted}
+use Rattle.queue_core.specs.States.{message_numbered}
+use Rattle.queue_core.specs.Queue.{QueueHistory, Outcome, at_moment, first_refusal, unless_refused, orphan_outcome, outcome_at, with_optional_event, after_answer, parcel_of, transferred_parcel, first_transfer, first_parcel_of}
+use Rattle.redrive.specs.declared.moved.Moved.{Moved}
+use Rattle.redrive.specs.declared.moved.Moved.TheVariants as moved
+use Rattle.redrive.specs.World.{World, queue_of_uid, has_queue, first_parcel_in, Delivery, delivery_of, as_moved, delivered_answer, arrive_answer, world_after_command, world_after_hand_over, needs_confirmation, is_accepted, accepted_number, confirm_answer, world_after_confirm, answer_of_halves, IsHandedOver, IsMoved}
+use Rattle.redrive.proofs.RegistryLemmas.{after_answer-uid, changed-queue}
+
+-- ---- a journal with more entries
+
+slice_get-more : {X : Type 0} (xs ys : List X) (i : ℕ) (x : X) → slice_get xs i ≡ Some x → slice_get (xs ++ ys) i ≡ Some x
+slice_get-more [] ys i x h = absurd (none-some x h)
+slice_get-more (z ∷ xs) ys zero x h = h
+slice_get-more (z ∷ xs) ys (suc i) x h = slice_get-more xs ys i x h
+
+begun-more : (o : Option Message) (next next' after after' : List Message) (i : ℕ) (m : Message)
+    → ((k : ℕ) → slice_get next k ≡ Some m → slice_get next' k ≡ Some m) → ((k : ℕ) → slice_get after k ≡ Some m → slice_get after' k ≡ Some m)
+    → slice_get (option_map_or (λ m. m ∷ next) o after) i ≡ Some m → slice_get (option_map_or (λ m. m ∷ next') o after') i ≡ Some m
+begun-more None next next' after after' i m f g h = g i h
+begun-more (Some first) next next' after after' zero m f g h = h
+begun-more (Some first) next next' after after' (suc i) m f g h = f i h
+
+-- the messages that are there keep their numbers
+messages_from-more : (place number : ℕ) (xs ys : List (Entry ContentText)) (i : ℕ) (m : Message)
+    → slice_get (messages_from place number xs) i ≡ Some m → slice_get (messages_from place number (xs ++ ys)) i ≡ Some m
+messages_from-more place number [] ys i m h = absurd (none-some m h)
+messages_from-more place number (x ∷ xs) ys i m h =
+    begun-more (message_of place number x.at x.event) (messages_from (suc place) (suc number) xs) (messages_from (suc place) (suc number) (xs ++ ys))
+    (messages_from (suc place) number xs) (messages_from (suc place) number (xs ++ ys)) i m
+    (λ k. messages_from-more (suc place) (suc number) xs ys k m) (λ k. messages_from-more (suc place) number xs ys k m) h
+
+-- and their contents
+content_of-more : (lines more : List (Entry ContentText)) (m : Message) (content : ContentText) → content_of lines m ≡ Some content → content_of (lines ++ more) m ≡ Some content
+content_of-more lines more m content h =
+    option_and_then_some _ (slice_get lines m.place) content h (λ e at is. rw (slice_get-more lines more m.place e at) is)
+
+-- ---- an entry that begins and ends no transfer
+
+or_neither : (b : Bool) → (b || false) ≡ b
+or_neither true = refl
+or_neither false = refl
+
+module _ (e : Entry ContentText) (begins : departures e.event ≡ []) (ends : (t : Transfer) → ends_transfer t e.event ≡ false) where
+  ended-push : (t : Transfer) (es : List (Entry ContentText)) → list_any (λ later. ends_transfer t later.event) (es ++ e ∷ []) ≡ list_any (λ later. ends_transfer t later.event) es
+  ended-push t es =
+      list_any-append (λ later. ends_transfer t later.event) es (e ∷ [])
+      ∙ ap (λ (b : Bool). list_any (λ later. ends_transfer t later.event) es || (b || false)) (ends t)
+      ∙ or_neither (list_any (λ later. ends_transfer t later.event) es)
+
+  pending-push : (es : List (Entry ContentText)) → pending_transfers (es ++ e ∷ []) ≡ pending_transfers es
+  pending-push [] = rw begins refl
+  pending-push (x ∷ es) =
+      rw (pending-push es)
+      (ap (λ (begun : List Transfer). begun ++ pending_transfers es)
+      (filter_agree (λ t. not (list_any (λ later. ends_transfer t later.event) (es ++ e ∷ []))) (λ t. not (list_any (λ later. ends_transfer t later.event) es))
+      (λ t. ap not (ended-push t es)) (departures x.event)))
+
+  transferred-push : (q : QueueHistory) (t : Transfer) (p : Parcel) → transferred_parcel q t ≡ Some p → transferred_parcel (record q { lines = q.lines ++ e ∷ [] }) t ≡ Some p
+  transferred-push q t p h =
+      option_and_then_some _ (message_numbered q.lines t.number) p h
+      (λ m at is. rw (messages_from-more 0 0 q.lines (e ∷ []) t.number m at) (with_content m (content_of q.lines m) refl is))
+    where
+      with_content : (m : Message) (o : Option ContentText) → content_of q.lines m ≡ o → option_map (λ content. parcel_of q t m content) o ≡ Some p
+          → option_map (λ content. parcel_of q t m content) (content_of (q.lines ++ e ∷ []) m) ≡ Some p
+      with_content m None here is = absurd (none-some p is)
+      with_content m (Some content) here is = rw (content_of-more q.lines (e ∷ []) m content here) is
+
+  first-push : (q : QueueHistory) (p : Parcel) → first_parcel_of q ≡ Some p → first_parcel_of (record q { lines = q.lines ++ e ∷ [] }) ≡ Some p
+  first-push q p h =
+      option_and_then_some _ (first_transfer q) p h
+      (λ t first is. rw (pending-push q.lines, first) (transferred-push q t p is))
+
+-- ---- what an arrival leaves
+
+or_last : (b c : Bool) → c ≡ true → (b || c) ≡ true
+or_last true c h = refl
+or_last false c h = h
+
+arrived-accepts : (p : Parcel) → accepts p.origin.uid p.origin.number (Arrived p.origin p.content) ≡ true
+arrived-accepts p = rw (eq-eqb p.origin.uid p.origin.uid refl, eq-eqb p.origin.number p.origin.number refl) refl
+
+accepted-push : (lines : List (Entry ContentText)) (at : ℕ) (p : Parcel) → has_accepted (lines ++ record { at = at; event = Arrived p.origin p.content } ∷ []) p.origin.uid p.origin.number ≡ true
+accepted-push lines at p =
+    list_any-append (λ e. accepts p.origin.uid p.origin.number e.event) lines (record { at = at; event = Arrived p.origin p.content } ∷ [])
+    ∙ or_last (has_accepted lines p.origin.uid p.origin.number) _ (rw (arrived-accepts p) refl)
+
+abbrev again : QueueHistory → Outcome
+again q = record { event = None; reply = Ok (replies.Arrived arrivals.Again) }
+
+abbrev new : QueueHistory → Parcel → Outcome
+new q p = record { event = Some (Arrived p.origin p.content); reply = Ok (replies.Arrived arrivals.New) }
+
+-- an arrival that is not refused leaves the parcel accepted
+arrival-accepted : (q : QueueHistory) (p : Parcel) (m : Moved) (refused : Option Fault) (accepted : Bool) → has_accepted q.lines p.origin.uid p.origin.number ≡ accepted
+    → Ok m ≡ as_moved (unless_refused refused (cond accepted (again q) (new q p))).reply
+    → has_accepted (with_optional_event q (unless_refused refused (cond accepted (again q) (new q p))).event).lines p.origin.uid p.origin.number ≡ true
+arrival-accepted q p m (Some fault) accepted e h = absurd cc
+arrival-accepted q p m None true e h = e
+arrival-accepted q p m None false e h = accepted-push q.lines q.clock p
+
+-- and no arrival ends a transfer
+arrival-first : (q : QueueHistory) (p first : Parcel) (refused : Option Fault) (accepted : Bool) → first_parcel_of q ≡ Some first
+    → first_parcel_of (with_optional_event q (unless_refused refused (cond accepted (again q) (new q p))).event) ≡ Some first
+arrival-first q p first (Some fault) accepted h = h
+arrival-first q p first None true h = h
+arrival-first q p first None false h = first-push (record { at = q.clock; event = Arrived p.origin p.content }) refl (λ t. refl) q first h
+
+-- ---- the world between the halves
+
+-- an orphaning is nothing to be confirmed
+orphaned-moved : (q : QueueHistory) (target : ℕ) (refused : Option Fault) (m : Moved) → Ok m ≡ as_moved (unless_refused refused (orphan_outcome q target)).reply → needs_confirmation (Ok m) ≡ true → ⊥
+orphaned-moved q target (Some fault) m h k = absurd cc
+orphaned-moved q target None m h k =
+    let same : m ≡ moved.Orphaned = cc in
+    false≢true (subst (λ (m : Moved). needs_confirmation (Ok m) ≡ true) same k)
+
+present : (o : Option QueueHistory) → is_some o ≡ true → (q : QueueHistory) × (o ≡ Some q)
+present None h = absurd cc
+present (Some q) h = (q, refl)
+
+abbrev delivery : World → ℕ → Parcel → Bool → Delivery
+delivery w source p there = cond there (record { uid = p.target; command = Arrive p }) (record { uid = source; command = Orphan p.target })
+
+module _ (w : World) (source at : ℕ) (m : Moved) (confirmed : needs_confirmation (Ok m) ≡ true) where
+  module _ (p : Parcel) (t s : QueueHistory) (there : queue_of_uid w p.target ≡ Some t) (here : queue_of_uid w source ≡ Some s) (first : first_parcel_of s ≡ Some p)
+      (answered : Ok m ≡ as_moved (outcome_at t at (Arrive p)).reply) where
+    abbrev arrived : QueueHistory → QueueHistory
+    arrived q = after_answer {T = Moved} q at (Arrive p) (Ok m)
+
+    abbrev received : World
+    received = world_after_command w p.target at (Arrive p) (Ok m)
+
+    first-between : (own : Bool) → nat_eq p.target source ≡ own → first_parcel_in received source ≡ Some p
+    first-between true e =
+        ap (λ (o : Option QueueHistory). option_and_then (λ q. first_parcel_of q) o)
+        (changed-queue w p.target source arrived true (λ q. after_answer-uid at (Arrive p) (Ok m) q) e ∙ ap (λ (o : Option QueueHistory). option_map arrived o) here)
+        ∙ arrival-first (at_moment s at) p p (first_refusal (at_moment s at)) (has_accepted s.lines p.origin.uid p.origin.number) first
+    first-between false e =
+        ap (λ (o : Option QueueHistory). option_and_then (λ q. first_parcel_of q) o)
+        (changed-queue w p.target source arrived false (λ q. after_answer-uid at (Arrive p) (Ok m) q) e ∙ here)
+        ∙ first
+
+    accepted-between : is_accepted received p ≡ true
+    accepted-between =
+        ap (λ (o : Option QueueHistory). option_map_or (λ q. has_accepted q.lines p.origin.uid p.origin.number) o false)
+        (changed-queue w p.target p.target arrived true (λ q. after_answer-uid at (Arrive p) (Ok m) q) (eq-eqb p.target p.target refl) ∙ ap (λ (o : Option QueueHistory). option_map arrived o) there)
+        ∙ arrival-accepted (at_moment t at) p m (first_refusal (at_moment t at)) (has_accepted t.lines p.origin.uid p.origin.number) refl answered
+
+    number-between : accepted_number received source ≡ Some p.origin.number
+    number-between = rw (first-between (nat_eq p.target source) refl, accepted-between) refl
+
+  delivered-number : (p : Parcel) (s : QueueHistory) (there : Bool) (o : Option QueueHistory) → queue_of_uid w p.target ≡ o → is_some o ≡ there
+      → queue_of_uid w source ≡ Some s → first_parcel_of s ≡ Some p → Ok m ≡ delivered_answer w at (delivery w source p there)
+      → accepted_number (world_after_command w (delivery w source p there).uid at (delivery w source p there).command (Ok m)) source ≡ Some p.origin.number
+  delivered-number p s true None is there here first h = absurd cc
+  delivered-number p s true (Some t) is there here first h = number-between p t s is here first (rw is at h)
+  delivered-number p s false o is there here first h = absurd (orphaned-moved (at_moment s at) p.target (first_refusal (at_moment s at)) m (rw here at h) confirmed)
+
+  handed-parcel : (there : Bool) (o : Option Parcel) → Ok m ≡ cond there (option_map_or (λ p. delivered_answer w at (delivery_of w source p)) o (Ok moved.None)) (Err QueueDoesNotExist)
+      → (p : Parcel) × ((o ≡ Some p) × (Ok m ≡ delivered_answer w at (delivery_of w source p)))
+  handed-parcel false o h = absurd cc
+  handed-parcel true None h =
+      let same : m ≡ moved.None = cc in
+      absurd (false≢true (subst (λ (m : Moved). needs_confirmation (Ok m) ≡ true) same confirmed))
+  handed-parcel true (Some p) h = (p, (refl, h))
+
+  at-source : (p : Parcel) → first_parcel_in w source ≡ Some p → (s : QueueHistory) × ((queue_of_uid w source ≡ Some s) × (first_parcel_of s ≡ Some p))
+  at-source p h = option_and_then_some _ (queue_of_uid w source) p h (λ s here first. (s, (here, first)))
+
+  moved-number : Ok m ≡ arrive_answer w source at
+      → (p : Parcel) × ((first_parcel_in w source ≡ Some p) × (accepted_number (world_after_hand_over {T = Moved} w source at (Ok m)) source ≡ Some p.origin.number))
+  moved-number h =
+      let handed = handed-parcel (has_queue w source) (first_parcel_in w source) h in
+      let p = handed.0 in
+      let found = at-source p handed.1.0 in
+      let left : Option Parcel → World = λ o. option_map_or (λ p. world_after_command {T = Moved} w (delivery_of w source p).uid at (delivery_of w source p).command (Ok m)) o w in
+      (p, (handed.1.0, ap (λ (o : Option Parcel). accepted_number (left o) source) handed.1.0 ∙ (delivered-number p found.0 (has_queue w p.target) (queue_of_uid w p.target) refl refl found.1.0 found.1.1 handed.1.1)))
+
+-- ---- the whole move
+
+needs-Ok : (answer : Result Moved Fault) → needs_confirmation answer ≡ true → (m : Moved) × (answer ≡ Ok m)
+needs-Ok (Ok m) h = (m, refl)
+needs-Ok (Err fault) h = absurd cc
+
+handed-Ok : (old between : World) (source at : ℕ) (m : Moved) → IsHandedOver old source at (Ok m) between → between ≡ world_after_hand_over {T = Moved} old source at (Ok m)
+handed-Ok old between source at m (inl is) = is
+handed-Ok old between source at m (inr h) = absurd (false≢true h.0)
+
+module _ (old between new : World) (source at : ℕ) (half : Result Moved Fault) (meets : Meets half (arrive_answer old source at)) (first_half : IsHandedOver old source at half between) where
+  -- with a confirmation
+  pub IsMoved-confirmed : (m : Moved) (answer : Result Moved Fault) (confirmed : Result Reply Fault) → half ≡ Ok m → needs_confirmation (Ok m) ≡ true
+      → Meets confirmed (confirm_answer between source at) → answer ≡ answer_of_halves (Ok m) confirmed → new ≡ world_after_confirm between source at confirmed
+      → IsMoved old source at answer new
+  IsMoved-confirmed m answer confirmed is needs second answered left =
+      let same : between ≡ world_after_hand_over {T = Moved} old source at (Ok m) = handed-Ok old between source at m (subst (λ (r : Result Moved Fault). IsHandedOver old source at r between) is first_half) in
+      let number = moved-number old source at m needs (subst (λ (r : Result Moved Fault). Meets r (arrive_answer old source at)) is meets) in
+      record {
+        handed_over = half;
+        between = between;
+        meets = meets;
+        first_half = first_half;
+        second_half = λ h. record {
+          number = number.0.origin.number;
+          first = ap (λ (o : Option Parcel). option_map (λ p. p.origin.number) o) number.1.0;
+          accepted = rw same (number.1.1);
+          confirmed = confirmed;
+          meets = second;
+          answered = rw is answered;
+          left = left;
+        };
+        no_second_half = λ h. absurd (false≢true (sym h ∙ rw is needs));
+      }

@@ -1,0 +1,90 @@
+-- The queue of a uid at its place in the list: what is done there is done to the queue of the uid.
+use Rattle.std.proofs.Common.{◌≡◌, ℕ, ◌<◌, true, false, List, length, get_or, Some, Result, Ok, Err, sym, ap, ◌∙◌}
+use Rattle.std.specs.Prelude.{nat_eq, remove, slice_get, IfSome, OnOk, OnErr, IfErr}
+use Rattle.std.specs.List.{position}
+use Rattle.std.proofs.lemmas.List.{set-get_or}
+use Rattle.std.proofs.lemmas.List.Elements.{All-get_or}
+use Rattle.std.proofs.lemmas.List.Quantifiers.{position-Some}
+use Rattle.std.proofs.lemmas.Option.{slice_get-get_or}
+use Rattle.message.specs.declared.fault.Fault.{Fault}
+use Rattle.message.specs.declared.fault.Fault.TheVariants.{OutOfMemory}
+use Rattle.message.specs.Fault.{Meets}
+use Rattle.queue_core.specs.declared.command.Command.{Command}
+use Rattle.queue_core.specs.declared.reply.Reply.{Reply}
+use Rattle.queue_core.specs.Messages.{is_closed}
+use Rattle.queue_core.specs.Queue.{QueueHistory, at_moment, outcome_at, takes_memory, after_answer}
+use Rattle.redrive.specs.World.{World, queue_of_uid, queue_answer, takes_memory_in, with_queue_changed, world_after_command, closed_queue, take_answer, without_queue, world_after_delete, IsRegistry}
+use Rattle.redrive.specs.ByPlace.{with_place_changed, without_place, closes_queue}
+use Rattle.redrive.proofs.KeyedLemmas.{find-position, map-present, remove-present}
+use Rattle.redrive.proofs.RegistryLemmas.{some_queue, IsRegistry-after_step, IsRegistry-without, IsRegistry-moved}
+
+abbrev uid_of : QueueHistory → ℕ
+uid_of q = q.uid
+
+module _ (w : World) (uid place : ℕ) (here : position (λ q. nat_eq q.uid uid) w.queues ≡ Some place) where
+  -- the queue that stands there
+  abbrev there : QueueHistory
+  there = get_or w.queues place some_queue
+
+  pub within : place < length w.queues
+  within = (position-Some (λ q. nat_eq q.uid uid) w.queues place some_queue here).0
+
+  own : nat_eq there.uid uid ≡ true
+  own = (position-Some (λ q. nat_eq q.uid uid) w.queues place some_queue here).1
+
+  stands : slice_get w.queues place ≡ Some there
+  stands = slice_get-get_or w.queues place some_queue within
+
+  found : queue_of_uid w uid ≡ Some there
+  found = find-position uid_of uid w.queues place some_queue here
+
+  pub unclosed-at : IsRegistry w → IfSome (slice_get w.queues place) (λ q. is_closed q.lines ≡ false)
+  unclosed-at r = rw stands (All-get_or (λ q. is_closed q.lines ≡ false) w.queues place some_queue within r.unclosed)
+
+  pub changed-at : (f : QueueHistory → QueueHistory) → IsRegistry w → with_place_changed w place f ≡ with_queue_changed w uid f
+  changed-at f r =
+      rw stands (ap (λ (queues : List QueueHistory). record w { queues = queues }) (map-present uid_of uid f w.queues place some_queue r.uids within own))
+
+  pub without-at : IsRegistry w → without_place w place ≡ without_queue w uid
+  without-at r =
+      ap (λ (queues : List QueueHistory). record w { queues = remove queues place }) (sym (set-get_or w.queues place some_queue))
+      ∙ ap (λ (queues : List QueueHistory). record w { queues = queues }) (remove-present uid_of uid w.queues place some_queue there r.uids within own)
+
+  -- ---- a command
+
+  pub answer-at : (at : ℕ) (command : Command) (r : Result Reply Fault) → IfSome (slice_get w.queues place) (λ q. Meets r (outcome_at q at command).reply)
+      → Meets r (queue_answer w uid at command)
+  answer-at at command r meets = rw found (rw stands at meets)
+
+  pub exact-at : (at : ℕ) (command : Command) (r : Result Reply Fault)
+      → IfSome (slice_get w.queues place) (λ q. takes_memory (outcome_at q at command) ≡ false → r ≡ (outcome_at q at command).reply)
+      → takes_memory_in w uid at command ≡ false → r ≡ queue_answer w uid at command
+  exact-at at command r exact none = rw found ((rw stands at exact) (rw found at none))
+
+  pub step-at : {T : Type 0} (at : ℕ) (command : Command) (r : Result T Fault) (new : World) → IsRegistry w
+      → new ≡ with_place_changed w place (λ q. after_answer q at command r) → new ≡ world_after_command w uid at command r
+  step-at at command r new kept is = is ∙ changed-at (λ q. after_answer q at command r) kept
+
+  pub IsRegistry-step_at : {T : Type 0} (at : ℕ) (command : Command) (r : Result T Fault) (new : World) → IsRegistry w → closes_queue command ≡ false
+      → new ≡ with_place_changed w place (λ q. after_answer q at command r) → IsRegistry new
+  IsRegistry-step_at at command r new kept stays is =
+      rw (is ∙ changed-at (λ q. after_answer q at command r) kept) (IsRegistry-after_step w uid at command r stays kept)
+
+  -- ---- a deletion
+
+  pub take-at : (at : ℕ) (r : Result QueueHistory Fault) → IfSome (slice_get w.queues place) (λ q. Meets r (Ok (closed_queue q at))) → Meets r (take_answer w uid at)
+  take-at at r meets = rw found (rw stands at meets)
+
+  pub left-at : {T : Type 0} (r : Result T Fault) (new : World) → IsRegistry w → OnOk r (new ≡ without_place w place) → OnOk r (new ≡ without_queue w uid)
+  left-at (Ok q) new kept ok = ok ∙ without-at kept
+  left-at (Err fault) new kept ok = tt
+
+  pub delete-at : {T : Type 0} (at : ℕ) (r : Result T Fault) (new : World) → IsRegistry w → OnOk r (new ≡ without_place w place)
+      → OnErr r (new ≡ with_place_changed w place (λ q. at_moment q at)) → IfErr r (λ fault. fault ≡ OutOfMemory) → new ≡ world_after_delete w uid at r
+  delete-at at (Ok q) new kept ok err errors = ok ∙ without-at kept
+  delete-at at (Err fault) new kept ok err errors = rw errors (err ∙ changed-at (λ q. at_moment q at) kept)
+
+  pub IsRegistry-delete_at : {T : Type 0} (at : ℕ) (r : Result T Fault) (new : World) → IsRegistry w → OnOk r (new ≡ without_place w place)
+      → OnErr r (new ≡ with_place_changed w place (λ q. at_moment q at)) → IsRegistry new
+  IsRegistry-delete_at at (Ok q) new kept ok err = rw (ok ∙ without-at kept) (IsRegistry-without w uid kept)
+  IsRegistry-delete_at at (Err fault) new kept ok err = rw (err ∙ changed-at (λ q. at_moment q at) kept) (IsRegistry-moved w uid at kept)

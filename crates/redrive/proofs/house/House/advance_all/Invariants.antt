@@ -1,6 +1,0 @@
-use Rattle.std.proofs.Common.{◌≡◌, ◌++◌, take, drop, map}
-use Rattle.queue_core.specs.Queue.{at_moment}
-use Rattle.redrive.proofs.house.House.advance_all.Given as goal
-
-abbrev pub invariant-loop-queue : goal.invariant-loop-queue
-invariant-loop-queue l = l.queue-items ≡ map (λ q. at_moment q l.at) (take l.queue-index l.initial.queue-items) ++ drop l.queue-index l.initial.queue-items

@@ -1,0 +1,10 @@
+pub mod Journals
+pub mod Views
+pub mod Commands
+pub mod Worlds
+pub mod Once
+pub mod Runs
+pub mod Fates
+pub mod Holders
+pub mod Laws
+pub mod Answering

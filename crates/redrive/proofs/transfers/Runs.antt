@@ -1,0 +1,56 @@
+-- What every step keeps is so after each list of steps, and what every opening keeps is so at the beginning.
+use Rattle.std.proofs.Common.{ℕ, false, List, [], ◌∷◌, refl}
+use Rattle.std.specs.Prelude.{fold}
+use Rattle.queue_config.specs.Config.{Configuration}
+use Rattle.queue_config.specs.declared.config.ConfiguredQueue.{ConfiguredQueue}
+use Rattle.redrive.specs.declared.steps.HouseStep.{HouseStep}
+use Rattle.redrive.specs.World.{World, empty_world, with_queue, next_queue, new_world}
+use Rattle.redrive.specs.History.{AllQueues}
+use Rattle.redrive.specs.WorldRun.{Answer, all_after, AreHouseAnswers, history_after}
+use Rattle.redrive.specs.Places.{IsSpared, NoRelayDeleted}
+use Rattle.redrive.proofs.transfers.Journals.{Line}
+use Rattle.redrive.proofs.transfers.Views.{View, view_of, Grows, IsOpened, Change}
+use Rattle.redrive.proofs.transfers.Worlds.{IsFresh, LeadsTo, IsDeletion, step-led, opening, opened-grows, opened-is, opened-fresh}
+
+module _ (P : View → Type 0) where
+  -- what is so of the beginning
+  pub record Begins (w : World) : Type 0 where
+    pub fresh : IsFresh (record { world = w; deleted = [] })
+    pub so : P (view_of (record { world = w; deleted = [] }))
+
+  begins-with : ((v v' : View) (u : ℕ) (e : Line) → Grows v v' u e → IsOpened v v' u e → P v → P v') → (at : ℕ) (queues : List ConfiguredQueue) (w : World) → Begins w
+      → Begins (fold (λ w q. with_queue w (next_queue w at q.name q.settings)) w queues)
+  begins-with f at [] w h = h
+  begins-with f at (q ∷ queues) w h =
+      let all : AllQueues = record { world = w; deleted = [] } in
+      begins-with f at queues (with_queue w (next_queue w at q.name q.settings))
+      (record {
+        fresh = opened-fresh all at q.name q.settings h.fresh;
+        so = f (view_of all) (view_of (record { world = with_queue w (next_queue w at q.name q.settings); deleted = [] })) w.next_uid (opening all at q.name q.settings h.fresh)
+            (opened-grows all at q.name q.settings h.fresh) (opened-is all at q.name q.settings h.fresh) h.so;
+      })
+
+  pub begins : ((v v' : View) (u : ℕ) (e : Line) → Grows v v' u e → IsOpened v v' u e → P v → P v') → P (record { is_open = λ u. false; lines = λ u. [] }) → (config : Configuration) (at : ℕ)
+      → Begins (new_world config at)
+  begins f h config at =
+      begins-with f at config.queues (empty_world config.limits) (record { fresh = record { none_there = λ u l. refl; none_deleted = λ u l. refl }; so = h })
+
+  pub through : ((all : AllQueues) (step : HouseStep) (answer : Answer) → Change (IsDeletion step answer) (view_of all) (view_of (all_after all step answer)) → P (view_of all) → P (view_of (all_after all step answer)))
+      → (all : AllQueues) (steps : List HouseStep) (answers : List Answer) → AreHouseAnswers all.world steps answers → IsFresh all → P (view_of all) → P (view_of (history_after all steps answers))
+  through f all [] [] are fresh h = h
+  through f all [] (answer ∷ answers) are fresh h = absurd are
+  through f all (step ∷ steps) [] are fresh h = absurd are
+  through f all (step ∷ steps) (answer ∷ answers) are fresh h =
+      let led : LeadsTo (IsDeletion step answer) all (all_after all step answer) = step-led all step answer fresh are.0.meets in
+      through f (all_after all step answer) steps answers are.1 led.fresh (f all step answer led.change h)
+
+-- what every step keeps that spares relays is so after each list of such steps
+pub through_spared : (P : AllQueues → Type 0)
+    → ((all : AllQueues) (step : HouseStep) (answer : Answer) → Change (IsDeletion step answer) (view_of all) (view_of (all_after all step answer)) → IsSpared all step answer → P all → P (all_after all step answer))
+    → (all : AllQueues) (steps : List HouseStep) (answers : List Answer) → AreHouseAnswers all.world steps answers → NoRelayDeleted all steps answers → IsFresh all → P all → P (history_after all steps answers)
+through_spared P f all [] [] are spared fresh h = h
+through_spared P f all [] (answer ∷ answers) are spared fresh h = absurd are
+through_spared P f all (step ∷ steps) [] are spared fresh h = absurd are
+through_spared P f all (step ∷ steps) (answer ∷ answers) are spared fresh h =
+    let led : LeadsTo (IsDeletion step answer) all (all_after all step answer) = step-led all step answer fresh are.0.meets in
+    through_spared P f (all_after all step answer) steps answers are.1 spared.1 led.fresh (f all step answer led.change spared.0 h)

@@ -1,0 +1,88 @@
+-- A registry as the laws of dead letters see it, and what a step does to it: at most one journal gets one entry more.
+use Rattle.std.proofs.Common.{◌≡◌, ℕ, Bool, true, false, List, [], ◌∷◌, Some, unwrap_or}
+use Rattle.std.specs.Prelude.{⊤, ◌⊎◌}
+use Rattle.message.specs.Content.{ContentText}
+use Rattle.queue_config.specs.Settings.{QueueSettings}
+use Rattle.journal.specs.declared.entry.Event.{Event}
+use Rattle.journal.specs.declared.entry.Event.TheVariants.{Opened, Sent, Arrived, Received, Changed, Deleted, DeletedAgain, Purged, Set, Settled, Orphaned, Refused, Closed}
+use Rattle.journal.specs.declared.entry.Origin.{Origin}
+use Rattle.queue_core.specs.declared.facts.Message.{Message}
+use Rattle.queue_core.specs.declared.facts.Status.TheVariants.{Present}
+use Rattle.queue_core.specs.Messages.{contains_number, message_id, pending_transfers, has_accepted}
+use Rattle.queue_core.specs.States.{message_numbered}
+use Rattle.redrive.specs.World.{has_queue}
+use Rattle.redrive.specs.History.{AllQueues, journal_of}
+use Rattle.redrive.specs.Places.{status_numbered}
+use Rattle.redrive.proofs.transfers.Journals.{Line, Lines, more}
+
+-- which uids are open, and the journal of each uid, which is empty where the uid was never used
+pub record View : Type 0 where
+  pub is_open : ℕ → Bool
+  pub lines : ℕ → Lines
+
+abbrev pub view_of : AllQueues → View
+view_of all = record { is_open = λ u. has_queue all.world u; lines = λ u. unwrap_or (journal_of all u) [] }
+
+abbrev pub Among : {X : Type 0} → X → List X → Type 0
+Among x [] = ⊥
+Among x (y ∷ ys) = (y ≡ x) ⊎ Among x ys
+
+-- the origin is that of a message of an open queue, which has left for the queue of a uid that has not accepted it
+pub record IsArrival (v : View) (u : ℕ) (o : Origin) : Type 0 where
+  pub there : v.is_open o.uid ≡ true
+  pub message : Message
+  pub numbered : message_numbered (v.lines o.uid) o.number ≡ Some message
+  pub named : message_id o.uid message ≡ o.id
+  pub pending : Among (record { number = o.number; target = u }) (pending_transfers (v.lines o.uid))
+  pub unaccepted : has_accepted (v.lines u) o.uid o.number ≡ false
+
+-- the message of a number has left the queue of a uid for one that has accepted it
+pub record IsSettling (v : View) (u n : ℕ) : Type 0 where
+  pub target : ℕ
+  pub pending : Among (record { number = n; target = target }) (pending_transfers (v.lines u))
+  pub accepted : has_accepted (v.lines target) u n ≡ true
+
+-- the numbers are of messages that are present
+abbrev pub ArePresent : Lines → List ℕ → Type 0
+ArePresent lines numbers = (n : ℕ) → contains_number n numbers ≡ true → status_numbered lines n ≡ Some Present
+
+-- what an entry says that comes to an open queue
+abbrev pub IsStep : View → ℕ → Event ContentText → Type 0
+IsStep v u (Opened uid settings) = ⊥
+IsStep v u (Sent delay content) = ⊤
+IsStep v u (Arrived origin content) = IsArrival v u origin
+IsStep v u (Received timeout offered leaving target) = ArePresent (v.lines u) leaving
+IsStep v u (Changed number timeout) = ⊤
+IsStep v u (Deleted number) = ⊤
+IsStep v u DeletedAgain = ⊤
+IsStep v u Purged = ⊤
+IsStep v u (Set settings) = ⊤
+IsStep v u (Settled number) = IsSettling v u number
+IsStep v u (Orphaned target) = v.is_open target ≡ false
+IsStep v u (Refused fault) = ⊤
+IsStep v u Closed = ⊥
+
+-- the journal of a uid gets an entry more
+pub record Grows (v v' : View) (u : ℕ) (e : Line) : Type 0 where
+  pub here : v'.lines u ≡ more (v.lines u) e
+  pub others : (w : ℕ) → (w ≡ u → ⊥) → v'.lines w ≡ v.lines w
+
+pub record IsOpened (v v' : View) (u : ℕ) (e : Line) : Type 0 where
+  pub unused : v.lines u ≡ []
+  pub was_shut : v.is_open u ≡ false
+  pub settings : QueueSettings
+  pub opening : e.event ≡ Opened u settings
+  pub others : (w : ℕ) → (w ≡ u → ⊥) → v'.is_open w ≡ v.is_open w
+
+pub record IsClosed (v v' : View) (u : ℕ) (e : Line) : Type 0 where
+  pub was_open : v.is_open u ≡ true
+  pub is_closed : v'.is_open u ≡ false
+  pub closing : e.event ≡ Closed
+  pub others : (w : ℕ) → (w ≡ u → ⊥) → v'.is_open w ≡ v.is_open w
+
+-- what is known of a uid that a step closes is said first
+pub data Change (ending : ℕ → Type 0) (v v' : View) : Type 0 where
+  Stays : ((w : ℕ) → v'.lines w ≡ v.lines w) → ((w : ℕ) → v'.is_open w ≡ v.is_open w) → Change ending v v'
+  Steps : (u : ℕ) (e : Line) → Grows v v' u e → ((w : ℕ) → v'.is_open w ≡ v.is_open w) → v.is_open u ≡ true → IsStep v u e.event → Change ending v v'
+  Opens : (u : ℕ) (e : Line) → Grows v v' u e → IsOpened v v' u e → Change ending v v'
+  Closes : (u : ℕ) (e : Line) → Grows v v' u e → IsClosed v v' u e → ending u → Change ending v v'

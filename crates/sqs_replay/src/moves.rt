@@ -1,0 +1,97 @@
+//! Dead letters move on after a line that names their queue.
+
+ghost use Rattle.std.specs.Prelude.{◌≡◌, ◌∷◌, false, IfErr, OnOk, Ok, Err};
+ghost use Rattle.message.specs.declared.fault.Fault.TheVariants.{OutOfMemory};
+ghost use Rattle.message.specs.Fault.{Meets, is_out_of_memory};
+ghost use Rattle.redrive.specs.World.{move_answer};
+ghost use Rattle.sqs_replay.specs.Answers.{IsOneOf};
+ghost use Rattle.sqs_replay.specs.Moves.{world_after_move, move_stages, goes_on, message_count_in, some_moves, all_moves};
+ghost use Rattle.sqs_replay.specs.Served.{moves_after, Leaves};
+
+use journal::{Moment, Ticks};
+use message::{Fault, QueueName};
+use redrive::{House, Moved};
+use std::alloc::Global;
+
+/// Moves the first parcel of the queue of a uid.
+fn move_first(
+    alloc: Global,
+    house: &mut House,
+    at: Moment,
+    source: u64,
+    ticks: &mut Ticks,
+) -> Result<Moved, Fault>
+    ensures answer { Meets result (move_answer house.old source at) }
+    ensures state { Leaves result house.new (world_after_move house.old source at) }
+    ensures stages { IsOneOf house.new (house.old ∷ move_stages house.old source at) }
+{
+    house.move_one(alloc, source, at, ticks)
+}
+
+/// Whether another parcel is tried after an answer. Want of memory is told on.
+fn goes_on(answer: Result<Moved, Fault>) -> Result<bool, Fault>
+    ensures known { OnOk result (result ≡ Ok (goes_on answer)) }
+    ensures memory { IfErr result (λ fault. (fault ≡ OutOfMemory) × (answer ≡ Err OutOfMemory)) }
+    ensures told { OnOk result (is_out_of_memory answer ≡ false) }
+{
+    match answer {
+        Ok(Moved::None) => Ok(false),
+        Ok(_) => Ok(true),
+        Err(Fault::OutOfMemory) => Err(Fault::OutOfMemory),
+        Err(_) => Ok(false),
+    }
+}
+
+/// Moves so many parcels at most of the queue of a uid, until none waits or a queue refuses.
+fn some_moves(
+    alloc: Global,
+    house: &mut House,
+    at: Moment,
+    source: u64,
+    most: u64,
+    ticks: &mut Ticks,
+) -> Result<(), Fault>
+    ensures state { OnOk result (house.new ≡ (some_moves most house.old source at).world) }
+    ensures stages { IsOneOf house.new (house.old ∷ (some_moves most house.old source at).stages) }
+    ensures fault { IfErr result (λ fault. fault ≡ OutOfMemory) }
+{
+    for _done in 0..most {
+        let answer = move_first(alloc, house, at, source, ticks);
+        if !goes_on(answer)? {
+            return Ok(());
+        }
+    }
+    Ok(())
+}
+
+/// How many messages the queue of a uid ever had.
+fn message_count_in(house: &House, uid: u64) -> u64
+    ensures { result ≡ message_count_in house.now uid }
+{
+    match house.state(uid) {
+        Some(queue) => queue.message_count(),
+        None => 0,
+    }
+}
+
+/// Moves every parcel of the queue of a name, where that queue is there.
+pub(crate) fn move_dead_letters(
+    alloc: Global,
+    house: &mut House,
+    at: Moment,
+    queue: Option<QueueName>,
+    ticks: &mut Ticks,
+) -> Result<(), Fault>
+    ensures state { OnOk result (house.new ≡ (moves_after house.old at queue).world) }
+    ensures stages { IsOneOf house.new (house.old ∷ (moves_after house.old at queue).stages) }
+    ensures fault { IfErr result (λ fault. fault ≡ OutOfMemory) }
+{
+    let Some(name) = queue else {
+        return Ok(());
+    };
+    let Some(source) = house.find(&name) else {
+        return Ok(());
+    };
+    let most = message_count_in(house, source);
+    some_moves(alloc, house, at, source, most, ticks)
+}
