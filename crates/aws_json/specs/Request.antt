@@ -218,3 +218,16 @@ request_of action body = do
   row ← ok_or (row_of action) UnsupportedOperation
   d ← object_of body
   asked_of_row row d
+
+-- ---- the queue that a body names, for an action that is none of these
+
+-- by its URL, where that is there
+abbrev pub queue_given : Option (List ℕ) → Result (Option (List ℕ)) Fault
+queue_given None = Ok None
+queue_given (Some text) = result_map Some (named_queue (Some text))
+
+-- the same of a body, judged as that of an action whose one member is the QueueUrl
+abbrev pub queue_of_body : List ℕ → Result (Option (List ℕ)) Fault
+queue_of_body body = do
+  d ← object_of body
+  if have_kinds (url ∷ []) d then queue_given (text_in (codes "QueueUrl") d) else Err SerializationException

@@ -5,7 +5,7 @@
 ghost use Rattle.std.specs.Prelude.{◌≡◌, Err, None};
 ghost use Rattle.message.specs.Fault.{Meets};
 ghost use Rattle.serde_json.specs.View.{view};
-ghost use Rattle.aws_json.specs.Request.{row, action_named, has_kinds, asked_of_row, maximum_given, create_queue, set_queue_attributes, purge_queue, delete_queue, get_queue_url, list_queues, list_dead_letter_source_queues, send_message, receive_message, delete_message, change_message_visibility, get_queue_attributes, batch, row_of, request_of};
+ghost use Rattle.aws_json.specs.Request.{row, action_named, has_kinds, asked_of_row, maximum_given, create_queue, set_queue_attributes, purge_queue, delete_queue, get_queue_url, list_queues, list_dead_letter_source_queues, send_message, receive_message, delete_message, change_message_visibility, get_queue_attributes, batch, row_of, request_of, queue_of_body};
 
 use crate::attribute_names::{asked_attribute_names, asked_names, asked_patterns};
 use crate::batch::{EntryKind, GivenMessage};
@@ -16,11 +16,11 @@ use crate::entries::{
 use crate::members::{
     Kind, have_kinds, items_in, members_in, number_in, read_object, text_in, within,
 };
-use crate::named_queue::{known_name, named_queue, new_name};
+use crate::named_queue::{known_name, named_queue, new_name, queue_given};
 use crate::request::Request;
 use crate::requested::{request_members, requested_attributes};
 use crate::text::Text;
-use message::Fault;
+use message::{Fault, QueueName};
 use queue_core::{MOST_OFFERS, Maximum};
 use serde_json::Value;
 use std::alloc::Global;
@@ -294,5 +294,18 @@ pub fn parse(alloc: Global, action: &str, body: &[u8]) -> Result<Request, Fault>
     match action_named(action) {
         Some(action) => asked_of_row(alloc, action, &read_object(alloc, body)?),
         None => Err(Fault::UnsupportedOperation),
+    }
+}
+
+/// The queue that a body names by its `QueueUrl`, for an action that is none of these: the body is
+/// judged as that of an action with this one member, which is `None` where it is missing or null.
+pub fn read_queue(alloc: Global, body: &[u8]) -> Result<Option<QueueName>, Fault>
+    ensures { Meets result (queue_of_body body.now) }
+{
+    let body = read_object(alloc, body)?;
+    if have_kinds(&body, &[URL]) {
+        queue_given(text_in(&body, "QueueUrl"))
+    } else {
+        Err(Fault::SerializationException)
     }
 }

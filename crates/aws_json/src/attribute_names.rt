@@ -30,7 +30,7 @@ pub enum QueueAttribute {
     Created,
     /// How long a sent message stays delayed, in seconds.
     Delay,
-    /// When the settings were last changed, in seconds.
+    /// When the queue last got settings, in seconds.
     Modified,
     /// How large a message may be, in bytes.
     Size,

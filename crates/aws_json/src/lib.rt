@@ -10,7 +10,7 @@
 //!   [`Patterns`]: which message attributes a receive asks for.
 //! - [`Prefix`] and [`QueueNames`]: which queues a client lists, and which there are.
 //! - [`Listed`]: a list, which contracts see as such.
-//! - [`read_object`]: the JSON object that a body is.
+//! - [`read_object`]: the JSON object that a body is. [`read_queue`]: the queue that it names.
 //!
 //! Each contract is exact: it names the value, or the one refusal, that a definition in `specs/`
 //! computes from the bytes. Want of memory is the one thing that may come in its place.
@@ -36,7 +36,7 @@ mod selection;
 mod tests;
 mod text;
 
-pub use actions::parse;
+pub use actions::{parse, read_queue};
 pub use attribute_names::{QueueAttribute, SystemAttribute};
 pub use batch::{BatchAnswer, BatchAnswers, BatchEntry, Entries, EntryReply};
 pub use listed::Listed;

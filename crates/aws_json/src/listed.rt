@@ -32,7 +32,7 @@ impl<T: Drop> Listed<T> {
     }
 
     /// These items.
-    pub(crate) fn of(items: Vec<T>) -> Listed<T>
+    pub fn of(items: Vec<T>) -> Listed<T>
         ensures { result ≡ items.items }
     {
         Listed { items }

@@ -1,7 +1,7 @@
 //! The queues that requests name. Which fault is which is this project's own choice.
 
 ghost use Rattle.std.specs.Prelude.{◌≡◌, option_map};
-ghost use Rattle.aws_json.specs.Request.{name_part, named_queue, known_name, new_name};
+ghost use Rattle.aws_json.specs.Request.{name_part, named_queue, queue_given, known_name, new_name};
 
 use message::{Fault, QueueName};
 
@@ -22,6 +22,16 @@ pub(crate) fn named_queue(url: Option<&str>) -> Result<QueueName, Fault>
 {
     let url = url.ok_or(Fault::InvalidParameterValue)?;
     known_name(Some(name_part(url)))
+}
+
+/// The queue that a `QueueUrl` names, where that is there.
+pub(crate) fn queue_given(url: Option<&str>) -> Result<Option<QueueName>, Fault>
+    ensures { result ≡ queue_given (option_map (λ s. s.now) url.entry) }
+{
+    match url {
+        Some(url) => Ok(Some(named_queue(Some(url))?)),
+        None => Ok(None),
+    }
 }
 
 /// The name of a queue that is looked for. It has to be there; a name that no queue can have is

@@ -58,13 +58,15 @@ fn all_agree(
 
 /// What is told of a line: of an action and a body, what is read of them; of the same after `reply`,
 /// the text of the reply; of entries after `batch`, the text of the reply to a batch; of names and
-/// the body of a receive after `asks`, those that it asks for.
+/// the body of a receive after `asks`, those that it asks for; of a body after `names`, the queue
+/// that it names.
 fn told(alloc: Global, ticks: &mut Ticks, template: &str, line: &str) -> Result<String, Fault> {
     let line = template.replace(alloc, "<>", line)?;
     match line.as_str().split_once(' ') {
         Some(("reply", request)) => replies::told_reply(alloc, request, ticks),
         Some(("batch", entries)) => replies::told_batch(alloc, entries),
         Some(("asks", asked)) => replies::told_asked(alloc, asked),
+        Some(("names", body)) => requests::told_queue(alloc, body),
         Some((action, body)) => requests::told_request(alloc, action, body),
         None => Err(Fault::InvalidParameterValue),
     }
@@ -137,6 +139,8 @@ DeleteMessageBatch {"QueueUrl":"jobs","Entries":[{"Id":"a","ReceiptHandle":"z"},
 jobs [a ReceiptHandleIsInvalid] [b 1.2.3]
 ChangeMessageVisibilityBatch {"QueueUrl":"jobs","Entries":[{"Id":"a","ReceiptHandle":"000000000000000100000000000000020000000000000003","VisibilityTimeout":4},{"Id":"b","ReceiptHandle":"z","VisibilityTimeout":4}]}
 jobs [a 1.2.3 4] [b ReceiptHandleIsInvalid]
+names {"QueueUrl":"jobs"}
+jobs
 reply GetQueueUrl {"QueueName":"jobs"}
 {"QueueUrl":"http://localhost:9324/000000000000/jobs"}
 reply ListQueues {"QueueNamePrefix":"b,A-1"}

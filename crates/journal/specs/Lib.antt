@@ -1,3 +1,4 @@
 pub mod Moment
 pub mod Ticks
 pub mod Journal
+pub mod Mark

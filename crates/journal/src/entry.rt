@@ -59,7 +59,8 @@ pub enum Event<C> {
     },
     /// A delete came for a message that was gone already, or under an older handle.
     DeletedAgain,
-    /// All messages were purged.
+    /// All messages that were in the queue were purged, and not those that had left for a dead-letter
+    /// queue.
     Purged,
     /// The queue got settings.
     Set {

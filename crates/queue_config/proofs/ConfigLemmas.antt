@@ -10,8 +10,9 @@ use Rattle.std.proofs.lemmas.Bool.Decides.{nat_tests}
 use Rattle.std.proofs.lemmas.List.{length-map, map_push, append-nil, append_assoc}
 use Rattle.std.proofs.lemmas.List.Elements.{All-nil, All-push}
 use Rattle.std.proofs.lemmas.List.Recursion.{same_from_clauses}
-use Rattle.queue_config.specs.Config.{AreConfigured, HasTarget, configured_uid, names_of, most_queues}
-use Rattle.queue_config.specs.ConfigText.{◌>>=◌, has_name, have_equal_names, target_among, configured_queue, with_targets, together}
+use Rattle.queue_config.specs.Config.{AreConfigured, IsConfiguration, HasTarget, configured_uid, names_of, most_queues}
+use Rattle.queue_config.specs.ConfigKeys.{◌>>=◌, with_each}
+use Rattle.queue_config.specs.ConfigText.{has_name, have_equal_names, target_among, configured_queue, configured_queues}
 use Rattle.queue_config.specs.Settings.{default_settings, requested_target, policy_with, settings_with}
 use Rattle.queue_config.specs.declared.config.ConfiguredQueue.{ConfiguredQueue}
 use Rattle.queue_config.specs.declared.config_fault.ConfigFault.{ConfigFault}
@@ -45,10 +46,10 @@ position-map p f xs = rw (position_or_len-map p f xs, length-map xs f) refl
 
 -- ---- steps that succeed
 
-within : (most n : ℕ) → nat_lt most n ≡ false → n ≤ most
+pub within : (most n : ℕ) → nat_lt most n ≡ false → n ≤ most
 within most n h = grind (arith, nat_tests)
 
-bind_ok : {A B : Type 0} (r : Result A ConfigFault) (next : A → Result B ConfigFault) (y : B) → (r >>= next) ≡ Ok y → (x : A) × (r ≡ Ok x) × (next x ≡ Ok y)
+pub bind_ok : {A B : Type 0} (r : Result A ConfigFault) (next : A → Result B ConfigFault) (y : B) → (r >>= next) ≡ Ok y → (x : A) × (r ≡ Ok x) × (next x ≡ Ok y)
 bind_ok (Ok x) next y h = (x, refl, h)
 bind_ok (Err fault) next y h = absurd cc
 
@@ -56,7 +57,7 @@ guard_ok : {A : Type 0} (b : Bool) (fault : ConfigFault) (r : Result A ConfigFau
 guard_ok true fault r y h = absurd cc
 guard_ok false fault r y h = (refl, h)
 
-found_ok : {A : Type 0} (o : Option A) (fault : ConfigFault) (y : A) → ok_or o fault ≡ Ok y → o ≡ Some y
+pub found_ok : {A : Type 0} (o : Option A) (fault : ConfigFault) (y : A) → ok_or o fault ≡ Ok y → o ≡ Some y
 found_ok (Some x) fault y h = cc
 found_ok None fault y h = absurd cc
 
@@ -85,7 +86,7 @@ queue-other names q queue h =
     subst (λ (x : ConfiguredQueue). (x.name ≡ q.name) × HasOther names x) same (refl, target-found names q.name q.wish.redrive_policy step.0 step.1)
 
 -- what the walk makes of the rest, after these queues
-queues-others : (names : List (List ℕ)) (front : List ConfiguredQueue) (rest : List RequestedQueue) (queues : List ConfiguredQueue) → with_targets names front rest ≡ Ok queues
+queues-others : (names : List (List ℕ)) (front : List ConfiguredQueue) (rest : List RequestedQueue) (queues : List ConfiguredQueue) → with_each (λ (q : RequestedQueue). configured_queue names q) front rest ≡ Ok queues
     → All (HasOther names) front → (names_of queues ≡ names_of front ++ map (λ q. q.name) rest) × All (HasOther names) queues
 queues-others names front [] queues h others =
     let same : front ≡ queues = ap (λ (r : Result (List ConfiguredQueue) ConfigFault). result_unwrap_or r front) h in
@@ -100,19 +101,23 @@ queues-others names front (q ∷ rest) queues h others =
 
 -- ---- the whole
 
-pub are_configured : (requested : List RequestedQueue) (queues : List ConfiguredQueue) → together requested ≡ Ok queues → AreConfigured queues
-are_configured requested queues h =
-    let few = guard_ok (nat_lt most_queues (length requested)) _ _ queues h in
-    let differ = guard_ok (have_equal_names requested) _ _ queues few.1 in
-    let found = queues-others (map (λ (q : RequestedQueue). q.name) requested) [] requested queues differ.1 (All-nil _) in
+pub are_configured : (requested : List RequestedQueue) (queues : List ConfiguredQueue) → length requested ≤ most_queues → have_equal_names requested ≡ false
+    → configured_queues requested ≡ Ok queues → (names_of queues ≡ map (λ q. q.name) requested) × AreConfigured queues
+are_configured requested queues few differ h =
+    let found = queues-others (map (λ (q : RequestedQueue). q.name) requested) [] requested queues h (All-nil _) in
     let many : length queues ≡ length requested =
-    sym (length-map queues (λ (q : ConfiguredQueue). q.name)) ∙ ap length found.0 ∙ length-map requested (λ (q : RequestedQueue). q.name) in
-    record {
-      names = subst (λ (ns : List (List ℕ)). IsDistinct bytes_eq ns) (sym found.0) (names-distinct requested differ.0);
-      count = subst (λ (n : ℕ). n ≤ most_queues) (sym many) (within most_queues (length requested) few.0);
-      targets = subst (λ (ns : List (List ℕ)). All (HasOther ns) queues) (sym found.0) found.1;
-    }
+    sym (length-map queues (λ (q : ConfiguredQueue). q.name)) ∙ ap length found.0 ∙ length-map requested (λ (q : RequestedQueue). q.name) in (
+      found.0,
+      record {
+        names = subst (λ (ns : List (List ℕ)). IsDistinct bytes_eq ns) (sym found.0) (names-distinct requested differ);
+        count = subst (λ (n : ℕ). n ≤ most_queues) (sym many) few;
+        targets = subst (λ (ns : List (List ℕ)). All (HasOther ns) queues) (sym found.0) found.1;
+      },
+    )
 
-pub no_queues_are_configured : AreConfigured []
+pub no_queues_are_configured : IsConfiguration [] []
 unfolding IsDistinct
-no_queues_are_configured = record { names = tt; count = omega arith; targets = All-nil _ }
+no_queues_are_configured = record {
+  queues = record { names = tt; count = omega arith; targets = All-nil _ };
+  alarms = record { queues = All-nil _; names = λ uid. tt; few = λ uid. omega arith };
+}

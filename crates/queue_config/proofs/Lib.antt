@@ -1,6 +1,7 @@
 pub mod DecimalLemmas
 pub mod ArnLemmas
 pub mod ConfigLemmas
+pub mod AlarmLemmas
 pub mod EmptyText
 pub mod KeyLemmas
 pub mod Utf8Lemmas

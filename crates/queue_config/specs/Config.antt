@@ -1,20 +1,23 @@
--- What a program is started with: limits, and the queues that are there from the start.
-use Rattle.std.specs.Prelude.{◌≡◌, ℕ, ◌+◌, ◌≤◌, false, List, [], map, length, Option, Some, option_map}
-use Rattle.std.specs.List.{All, IsDistinct, position}
+-- What a program is started with: limits, the queues that are there from the start, and their alarms.
+use Rattle.std.specs.Prelude.{◌≡◌, ℕ, ◌+◌, ◌≤◌, ◌==◌, false, List, [], map, length, Option, Some, option_map}
+use Rattle.std.specs.List.{All, IsDistinct, filter, position}
 use Rattle.std.specs.Option.{ForSome}
 use Rattle.std.specs.Str.{bytes_eq}
+use Rattle.queue_config.specs.AlarmRules.{Rule, most_alarms}
 use Rattle.queue_config.specs.Limits.{QueueLimits, default_limits}
+use Rattle.queue_config.specs.declared.config.ConfiguredAlarm.{ConfiguredAlarm}
 use Rattle.queue_config.specs.declared.config.ConfiguredQueue.{ConfiguredQueue}
 use Rattle.queue_config.specs.declared.policy.RedrivePolicy.{RedrivePolicy}
 
--- the queues stand in the order of the text
+-- queues and alarms stand in the order of the text
 pub record Configuration : Type 0 where
   pub limits : QueueLimits
   pub queues : List ConfiguredQueue
+  pub alarms : List ConfiguredAlarm
 
 -- what is configured where nothing is said
 abbrev pub default_configuration : Configuration
-default_configuration = record { limits = default_limits; queues = [] }
+default_configuration = record { limits = default_limits; queues = []; alarms = [] }
 
 -- how many queues there may be at a time: this project's own
 abbrev pub most_queues : ℕ
@@ -37,3 +40,18 @@ pub record AreConfigured (queues : List ConfiguredQueue) : Type 0 where
   pub names : IsDistinct bytes_eq (names_of queues)
   pub count : length queues ≤ most_queues
   pub targets : All (λ queue. ForSome queue.settings.redrive_policy (λ policy. HasTarget (names_of queues) queue.name policy)) queues
+
+-- the rules of the alarms of a queue, in the order of the text
+abbrev pub rules_of : List ConfiguredAlarm → ℕ → List Rule
+rules_of alarms uid = map (λ alarm. alarm.rule) (filter (λ alarm. alarm.queue == uid) alarms)
+
+-- each alarm is of a queue, of which there are so many; no queue has two alarms of one name, or too many
+pub record AreAlarms (count : ℕ) (alarms : List ConfiguredAlarm) : Type 0 where
+  pub queues : All (λ alarm. (1 ≤ alarm.queue) × (alarm.queue ≤ count)) alarms
+  pub names : (uid : ℕ) → IsDistinct bytes_eq (map (λ rule. rule.name) (rules_of alarms uid))
+  pub few : (uid : ℕ) → length (rules_of alarms uid) ≤ most_alarms
+
+-- the queues, and the alarms of these queues
+pub record IsConfiguration (configured : List ConfiguredQueue) (rules : List ConfiguredAlarm) : Type 0 where
+  pub queues : AreConfigured configured
+  pub alarms : AreAlarms (length configured) rules

@@ -1,74 +1,22 @@
 -- The configuration that a text is, or the first fault. The text is TOML 1.1; its tables, their keys, and the order of the faults are this project's own.
-use Rattle.std.specs.Prelude.{ℕ, ℤ, pos, negsuc, nat_le, nat_lt, Bool, true, false, ◌&&◌, ◌||◌, if◌then◌else◌, List, [], ◌∷◌, ◌++◌, map, length, codes, Option, Some, None, Result, Ok, Err, ok_or}
-use Rattle.std.specs.Global.{Vec}
+use Rattle.std.specs.Prelude.{ℕ, nat_lt, Bool, true, false, ◌&&◌, ◌||◌, if◌then◌else◌, List, [], ◌∷◌, map, length, codes, Option, Some, None, Result, Ok, Err, ok_or}
 use Rattle.std.specs.Str.{bytes_eq, is_utf8}
-use Rattle.message.specs.Name.{is_queue_name}
-use Rattle.toml.specs.Data.{Data, Items, no_items, item, Members, no_members, member, get_member, as_integer, as_str, as_array, as_table}
+use Rattle.toml.specs.Data.{Data, Members, no_members, member, get_member, as_table}
 use Rattle.toml.specs.Parse.{parse_document}
+use Rattle.queue_config.specs.AlarmText.{alarm_in, have_too_many_alarms, have_equal_alarms, configured_alarms}
 use Rattle.queue_config.specs.Limits.{QueueLimits, max_lines_row, in_flight_row, default_limits}
 use Rattle.queue_config.specs.SettingRows.{row_of, all_settings}
 use Rattle.queue_config.specs.Settings.{default_settings, no_requested_attributes, requested_target, with_setting_value, with_policy, settings_with}
 use Rattle.queue_config.specs.Config.{Configuration, configured_uid, most_queues}
+use Rattle.queue_config.specs.ConfigKeys.{◌>>=◌, KeyRow, number_key, name_key, with_keys, tables_in, with_each}
 use Rattle.queue_config.specs.declared.config.ConfiguredQueue.{ConfiguredQueue}
 use Rattle.queue_config.specs.declared.config_fault.ConfigFault.{ConfigFault}
 use Rattle.queue_config.specs.declared.config_fault.ConfigFault.TheVariants.{Syntax, UnknownKey, WrongKind, OutOfRange, NameTwice, NoSuchTarget}
 use Rattle.queue_config.specs.declared.config_text.QueueTable.{QueueTable}
+use Rattle.queue_config.specs.declared.requested_alarms.RequestedAlarm.{RequestedAlarm}
 use Rattle.queue_config.specs.declared.requested_queues.RequestedQueue.{RequestedQueue}
 use Rattle.queue_config.specs.declared.policy.RequestedPolicy.{RequestedPolicy}
 use Rattle.queue_config.specs.declared.setting.Setting.{Setting}
-
-infixl 10 ◌>>=◌
--- what a value leads to, or the fault in its place
-abbrev pub ◌>>=◌ : {A B : Type 0} → Result A ConfigFault → (A → Result B ConfigFault) → Result B ConfigFault
-Ok x >>= next = next x
-Err fault >>= next = Err fault
-
--- ---- values
-
--- a whole number between two bounds; a number with a point is of another kind
-abbrev pub whole_between : ℕ → ℕ → Option ℤ → Result ℕ ConfigFault
-whole_between least most None = Err WrongKind
-whole_between least most (Some (pos n)) = if nat_le least n && nat_le n most then Ok n else Err OutOfRange
-whole_between least most (Some (negsuc n)) = Err OutOfRange
-
-abbrev pub number_between : ℕ → ℕ → Data → Result ℕ ConfigFault
-number_between least most d = whole_between least most (as_integer d)
-
-abbrev pub if_name : List ℕ → Result (List ℕ) ConfigFault
-if_name text = if is_queue_name text then Ok text else Err OutOfRange
-
--- the name of a queue
-abbrev pub name_in : Data → Result (List ℕ) ConfigFault
-name_in d = do
-  text ← ok_or (as_str d) WrongKind
-  if_name text
-
--- ---- tables, key by key
-
--- a key of a table, and what its value does to what the table has said so far
-pub record KeyRow (S : Type 0) : Type 0 where
-  pub key : List ℕ
-  pub take : S → Data → Result S ConfigFault
-
--- a key whose value is a whole number between two bounds
-abbrev pub number_key : {S : Type 0} → List ℕ → ℕ → ℕ → (S → ℕ → S) → KeyRow S
-number_key key least most change = record { key = key; take = λ s d. number_between least most d >>= λ n. Ok (change s n) }
-
--- a key whose value is the name of a queue
-abbrev pub name_key : {S : Type 0} → List ℕ → (S → List ℕ → S) → KeyRow S
-name_key key change = record { key = key; take = λ s d. name_in d >>= λ name. Ok (change s name) }
-
--- what a table has said after one more key
-abbrev pub with_key : {S : Type 0} → List (KeyRow S) → S → List ℕ → Data → Result S ConfigFault
-with_key [] s key d = Err UnknownKey
-with_key (row ∷ rows) s key d = if bytes_eq key row.key then row.take s d else with_key rows s key d
-
--- keys stand in the order of their bytes
-abbrev pub with_keys : {S : Type 0} → List (KeyRow S) → S → Members → Result S ConfigFault
-with_keys rows s no_members = Ok s
-with_keys rows s (member key d rest) = do
-  more ← with_key rows s key d
-  with_keys rows more rest
 
 -- ---- limits
 
@@ -124,21 +72,7 @@ queue_in d = do
   queue ← with_keys queue_keys no_keys table
   queue_of_table queue
 
--- these queues, and those of the tables after them
-abbrev pub with_queues : List RequestedQueue → Items → Result (List RequestedQueue) ConfigFault
-with_queues queues no_items = Ok queues
-with_queues queues (item d rest) = do
-  queue ← queue_in d
-  with_queues (queues ++ queue ∷ []) rest
-
--- those of the tables, where there are any
-abbrev pub queues_in : Option Data → Result (List RequestedQueue) ConfigFault
-queues_in None = Ok []
-queues_in (Some d) = do
-  tables ← ok_or (as_array d) WrongKind
-  with_queues [] tables
-
--- ---- all queues together
+-- ---- all of them together
 
 -- whether one of these queues has the name
 abbrev pub has_name : List ℕ → List RequestedQueue → Bool
@@ -161,39 +95,37 @@ configured_queue names queue = do
   target ← target_among names queue.name (requested_target queue.wish)
   Ok (record { name = queue.name; settings = settings_with default_settings queue.wish target })
 
--- these queues, and those after them
-abbrev pub with_targets : List (List ℕ) → List ConfiguredQueue → List RequestedQueue → Result (List ConfiguredQueue) ConfigFault
-with_targets names queues [] = Ok queues
-with_targets names queues (q ∷ rest) = do
-  queue ← configured_queue names q
-  with_targets names (queues ++ queue ∷ []) rest
-
 abbrev pub configured_queues : List RequestedQueue → Result (List ConfiguredQueue) ConfigFault
-configured_queues queues = with_targets (map (λ q. q.name) queues) [] queues
+configured_queues queues = with_each (λ queue. configured_queue (map (λ q. q.name) queues) queue) [] queues
 
--- how many there are, then their names, and then their dead-letter queues
-abbrev pub together : List RequestedQueue → Result (List ConfiguredQueue) ConfigFault
-together queues =
+-- how many there are, queues and alarms of each; then their names; and then the queues that they name
+abbrev pub together : QueueLimits → List RequestedQueue → List RequestedAlarm → Result Configuration ConfigFault
+together limits queues alarms =
     if nat_lt most_queues (length queues) then Err OutOfRange
+    else if have_too_many_alarms alarms then Err OutOfRange
     else if have_equal_names queues then Err NameTwice
-    else configured_queues queues
+    else if have_equal_alarms alarms then Err NameTwice
+    else do
+      configured ← configured_queues queues
+      rules ← configured_alarms (map (λ q. q.name) queues) alarms
+      Ok (record { limits = limits; queues = configured; alarms = rules })
 
 -- ---- the whole
 
 abbrev pub is_top_key : List ℕ → Bool
-is_top_key key = bytes_eq key (codes "limits") || bytes_eq key (codes "queue")
+is_top_key key = bytes_eq key (codes "limits") || bytes_eq key (codes "queue") || bytes_eq key (codes "alarm")
 
 abbrev pub have_top_keys : Members → Bool
 have_top_keys no_members = true
 have_top_keys (member key d rest) = is_top_key key && have_top_keys rest
 
--- the limits come first, then the queues in their order, then the queues together
+-- the limits come first, then the queues in their order, then the alarms in theirs, and then what is judged of all together
 abbrev pub configuration_in : Members → Result Configuration ConfigFault
 configuration_in table = do
   limits ← limits_in (get_member (codes "limits") table)
-  requested ← queues_in (get_member (codes "queue") table)
-  queues ← together requested
-  Ok (record { limits = limits; queues = queues })
+  queues ← tables_in queue_in (get_member (codes "queue") table)
+  alarms ← tables_in alarm_in (get_member (codes "alarm") table)
+  together limits queues alarms
 
 -- an unknown key at the top comes before every table
 abbrev pub configuration_of_table : Members → Result Configuration ConfigFault
@@ -214,7 +146,3 @@ configuration_of_bytes bytes = if is_utf8 bytes then configuration_of bytes else
 abbrev pub with_setting_key : Option Setting → QueueTable → Data → Result QueueTable ConfigFault
 with_setting_key None queue d = Err UnknownKey
 with_setting_key (Some setting) queue d = (setting_key setting).take queue d
-
-abbrev pub items_of : {T : Type 0} → Result (Vec T) ConfigFault → Result (List T) ConfigFault
-items_of (Ok queues) = Ok queues.items
-items_of (Err fault) = Err fault

@@ -3,6 +3,9 @@ pub mod Limits
 pub mod SettingRows
 pub mod Policy
 pub mod Settings
+pub mod AlarmRules
 pub mod ConfigFault
 pub mod Config
+pub mod ConfigKeys
+pub mod AlarmText
 pub mod ConfigText

@@ -2,6 +2,7 @@
 
 ghost use Rattle.std.specs.Prelude.{◌≡◌, []};
 
+use crate::alarm_rule::AlarmRule;
 use crate::limits::Limits;
 use crate::settings::Settings;
 use message::QueueName;
@@ -18,34 +19,46 @@ pub struct ConfiguredQueue {
     pub settings: Settings,
 }
 
+/// An alarm of a queue that is there from the start.
+#[derive(Clone, Copy, Debug, PartialEq, Eq)]
+pub struct ConfiguredAlarm {
+    /// The queue's uid, which is its place among the queues, plus one.
+    pub queue: u64,
+    pub rule: AlarmRule,
+}
+
 /// What a program is started with: the limits of every queue, and the queues that are there from the
 /// start, at most 1,000 and no two of one name. Their uids are 1, 2, 3 and so on, in their order, and
-/// each dead-letter queue is another of them.
+/// each dead-letter queue is another of them. Each alarm is of one of them, and no queue has more than
+/// 16 alarms, or two of one name.
 #[derive(Debug, Drop)]
 pub struct Config {
     pub limits: Limits,
     pub queues: Vec<ConfiguredQueue>,
+    /// In the order of the file, those of all queues.
+    pub alarms: Vec<ConfiguredAlarm>,
 }
 
 impl Model for Config {
-    ghost use Rattle.queue_config.specs.Config.{Configuration, AreConfigured};
+    ghost use Rattle.queue_config.specs.Config.{Configuration, IsConfiguration};
 
     ghost Value = { Configuration };
 
-    ghost view = { λ c. record { limits = c.limits; queues = c.queues.items } };
+    ghost view = { λ c. record { limits = c.limits; queues = c.queues.items; alarms = c.alarms.items } };
 
-    ghost invariant = { λ c. AreConfigured c.queues.items };
+    ghost invariant = { λ c. IsConfiguration c.queues.items c.alarms.items };
 }
 
 impl Config {
-    /// These limits, and no queue. It takes no memory.
+    /// These limits, no queue and no alarm. It takes no memory.
     #[tactic(auto, using(crate::proofs::ConfigLemmas::no_queues_are_configured))]
     pub fn with_limits(alloc: Global, limits: Limits) -> Config
-        ensures { result ≡ record { limits = limits; queues = [] } }
+        ensures { result ≡ record { limits = limits; queues = []; alarms = [] } }
     {
         Config {
             limits,
             queues: Vec::new(alloc),
+            alarms: Vec::new(alloc),
         }
     }
 }

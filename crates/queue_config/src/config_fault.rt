@@ -21,13 +21,15 @@ pub enum ConfigFault {
     /// a policy.
     #[error("A value is of the wrong kind, or missing.")]
     WrongKind,
-    /// A value is out of its range, a text is no queue's name, or there are too many queues.
+    /// A value is out of its range, a text is no name or word of a table, a rule has more breaches
+    /// than minutes, or there are too many queues, or alarms of one queue.
     #[error("A value is out of range.")]
     OutOfRange,
-    /// Two queues have one name.
+    /// Two queues, or two alarms of one queue, have one name.
     #[error("A name is given twice.")]
     NameTwice,
-    /// A dead-letter queue is not in the text, or is the queue itself.
+    /// A dead-letter queue is not in the text, or is the queue itself; or an alarm's queue is not in
+    /// the text.
     #[error("A target does not exist.")]
     NoSuchTarget,
     /// An allocation was refused.

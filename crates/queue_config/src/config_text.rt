@@ -11,8 +11,10 @@ ghost use Rattle.queue_config.specs.ConfigFault.{IsReadAs};
 ghost use Rattle.queue_config.specs.Limits.{default_limits};
 ghost use Rattle.queue_config.specs.Policy.{IsReceiveLimit};
 ghost use Rattle.queue_config.specs.SettingRows.{row_of, IsInRange};
-ghost use Rattle.queue_config.specs.ConfigText.{number_between, name_in, with_key, with_keys, limit_keys, limits_in, queue_keys, with_setting_key, no_keys, policy_of_keys, queue_in, with_queues, queues_in, is_top_key, have_top_keys, configuration_of_table, configuration_of, configuration_of_bytes, items_of};
+ghost use Rattle.queue_config.specs.ConfigKeys.{number_between, name_in, with_key, with_keys, with_tables, tables_in, items_of};
+ghost use Rattle.queue_config.specs.ConfigText.{limit_keys, limits_in, queue_keys, with_setting_key, no_keys, policy_of_keys, queue_in, is_top_key, have_top_keys, configuration_of_table, configuration_of, configuration_of_bytes};
 
+use crate::alarm_text::alarms_in;
 use crate::config::Config;
 use crate::config_fault::ConfigFault;
 use crate::limits::{IN_FLIGHT, Limits, MAX_LINES};
@@ -42,7 +44,7 @@ fn value_at<'a>(table: &'a Table, key: &str) -> Option<&'a Value>
 }
 
 /// The whole number that a value is, between two bounds.
-fn number_between(value: &Value, least: u32, most: u32) -> Result<u32, ConfigFault>
+pub(crate) fn number_between(value: &Value, least: u32, most: u32) -> Result<u32, ConfigFault>
     ensures value { result ≡ number_between least most (view value.now) }
     ensures least { IfOk result (λ n. least ≤ n) }
     ensures most { IfOk result (λ n. n ≤ most) }
@@ -57,7 +59,7 @@ fn number_between(value: &Value, least: u32, most: u32) -> Result<u32, ConfigFau
 }
 
 /// The name of a queue that a value is.
-fn name_in(value: &Value) -> Result<QueueName, ConfigFault>
+pub(crate) fn name_in(value: &Value) -> Result<QueueName, ConfigFault>
     ensures { result ≡ name_in (view value.now) }
 {
     let text = value.as_str().ok_or(ConfigFault::WrongKind)?;
@@ -213,7 +215,7 @@ fn queue_in(value: &Value) -> Result<RequestedQueue, ConfigFault>
 
 /// The queues of tables, one after another.
 fn with_queues(alloc: Global, tables: &[Value]) -> Result<Vec<RequestedQueue>, ConfigFault>
-    ensures { IsReadAs (items_of result) (with_queues [] (items_view tables.now)) }
+    ensures { IsReadAs (items_of result) (with_tables queue_in [] (items_view tables.now)) }
 {
     let mut queues = Vec::new(alloc);
     for table in tables {
@@ -224,7 +226,7 @@ fn with_queues(alloc: Global, tables: &[Value]) -> Result<Vec<RequestedQueue>, C
 
 /// The queues, which need not be there.
 fn queues_in(alloc: Global, value: Option<&Value>) -> Result<Vec<RequestedQueue>, ConfigFault>
-    ensures read { IsReadAs (items_of result) (queues_in (option_map (λ v. view v.now) value.entry)) }
+    ensures read { IsReadAs (items_of result) (tables_in queue_in (option_map (λ v. view v.now) value.entry)) }
     ensures none { value.entry ≡ None → items_of result ≡ Ok [] }
 {
     match value {
@@ -240,7 +242,7 @@ fn queues_in(alloc: Global, value: Option<&Value>) -> Result<Vec<RequestedQueue>
 fn is_top_key(key: &str) -> bool
     ensures { result ≡ is_top_key key.now }
 {
-    key == "limits" || key == "queue"
+    key == "limits" || key == "queue" || key == "alarm"
 }
 
 /// Whether a configuration knows each key of a table.
@@ -264,18 +266,20 @@ fn configuration_of_table(alloc: Global, table: &Table) -> Result<Config, Config
         return Err(ConfigFault::UnknownKey);
     }
     let limits = limits_in(value_at(table, "limits"))?;
-    let requested = queues_in(alloc, value_at(table, "queue"))?;
-    let queues = together(alloc, requested.as_slice())?;
-    Ok(Config { limits, queues })
+    let queues = queues_in(alloc, value_at(table, "queue"))?;
+    let alarms = alarms_in(alloc, value_at(table, "alarm"))?;
+    together(alloc, limits, queues.as_slice(), alarms.as_slice())
 }
 
 /// Reads a configuration, or tells the first fault: a text that is no TOML; then an unknown key at
 /// the top; then `limits`, which has to be a table, and its keys; then `queue`, which has to be an
-/// array, and each of its tables in their order; then more than 1,000 queues; then two queues of one
-/// name; then a dead-letter queue that is not in the text or is the queue itself. Of a table the keys
-/// are judged in the order of their bytes, each as unknown, of another kind, or out of range; and then
-/// what is missing. An empty text has the default limits and no queue, and takes no memory; for any
-/// other `OutOfMemory` may come at any point.
+/// array, and each of its tables in their order, and `alarm` likewise; then more than 1,000 queues, or
+/// more than 16 alarms of one queue; then two queues of one name, or two alarms of one queue and name;
+/// then a dead-letter queue that is not in the text or is the queue itself, or an alarm's queue that is
+/// not in the text. Of a table the keys are judged in the order of their bytes, each as unknown, of
+/// another kind, or out of range; then what is missing; and then more breaches than minutes. An empty
+/// text has the default limits, no queue and no alarm, and takes no memory; for any other `OutOfMemory`
+/// may come at any point.
 pub fn config_from_text(alloc: Global, text: &str) -> Result<Config, ConfigFault>
     ensures config { IsReadAs result (configuration_of text.now) }
     ensures empty { text.now ≡ [] → result ≡ Ok default_configuration }

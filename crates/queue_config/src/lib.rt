@@ -12,19 +12,26 @@
 //! - [`RequestedPolicy`]: the policy that a request asks for, before its queue's uid is known.
 //! - [`is_ignored`]: the attributes that are accepted without effect.
 //! - [`Limits`]: how many entries a journal has and how many messages may be in flight.
-//! - [`Config`]: what a program is started with, and [`config_from_text`] and [`config_from_bytes`]:
+//! - [`AlarmRule`]: when an alarm of a queue is on, by a [`Metric`] and an [`Operator`], each of which
+//!   has one table of names.
+//! - [`Config`]: what a program is started with, the alarms of its queues among it, and [`config_from_text`] and [`config_from_bytes`]:
 //!   its reading from TOML, or the first [`ConfigFault`].
 //! - [`decimal_number`]: the number that a text of decimal digits is.
 //!
 //! Each contract is exact: which texts are taken, with which value, and which refusal comes otherwise.
 #![tactic(auto)]
 
+mod alarm_rule;
+mod alarm_text;
 mod config;
 mod config_fault;
 mod config_text;
 mod decimal;
 mod limits;
+mod metric;
+mod operator;
 mod policy;
+mod requested_alarms;
 mod requested_queues;
 mod setting;
 mod settings;
@@ -32,11 +39,14 @@ mod settings;
 mod tests;
 mod wish;
 
-pub use config::{Config, ConfiguredQueue, QUEUE_LIMIT};
+pub use alarm_rule::{ALARM_LIMIT, AlarmRule};
+pub use config::{Config, ConfiguredAlarm, ConfiguredQueue, QUEUE_LIMIT};
 pub use config_fault::ConfigFault;
 pub use config_text::{config_from_bytes, config_from_text};
 pub use decimal::decimal_number;
 pub use limits::Limits;
+pub use metric::{ALL_METRICS, Metric, metric_named};
+pub use operator::{ALL_OPERATORS, Operator, operator_named};
 pub use policy::{RedrivePolicy, RequestedPolicy};
 pub use setting::{ALL_SETTINGS, Setting, SettingRow, row_of, setting_named};
 pub use settings::Settings;

@@ -1,15 +1,20 @@
-//! The queues of a configuration, judged together: how many there are, their names, and their
-//! dead-letter queues. Which fault comes first is this project's own choice.
+//! The queues of a configuration, judged together and with their alarms: how many there are, their
+//! names, and their dead-letter queues. Which fault comes first is this project's own choice.
 
 ghost use Rattle.std.specs.Prelude.{◌≡◌, [], map, Ok};
 ghost use Rattle.std.specs.List.{position};
 ghost use Rattle.std.specs.Str.{bytes_eq};
 ghost use Rattle.queue_config.specs.Config.{configured_uid};
 ghost use Rattle.queue_config.specs.ConfigFault.{IsReadAs};
-ghost use Rattle.queue_config.specs.ConfigText.{has_name, have_equal_names, target_among, configured_queue, configured_queues, together, items_of};
+ghost use Rattle.queue_config.specs.ConfigKeys.{items_of};
+ghost use Rattle.queue_config.specs.ConfigText.{has_name, have_equal_names, target_among, configured_queue, configured_queues, together};
 
-use crate::config::{ConfiguredQueue, QUEUE_LIMIT};
+use crate::config::{Config, ConfiguredQueue, QUEUE_LIMIT};
 use crate::config_fault::ConfigFault;
+use crate::limits::Limits;
+use crate::requested_alarms::{
+    RequestedAlarm, configured_alarms, have_equal_alarms, have_too_many_alarms,
+};
 use crate::settings::Settings;
 use crate::wish::Wish;
 use message::QueueName;
@@ -56,7 +61,7 @@ fn place_of(name: &QueueName, queues: &[RequestedQueue]) -> Option<usize>
 }
 
 /// The uid of the queue that has the name.
-fn configured_uid(name: &QueueName, queues: &[RequestedQueue]) -> Option<u64>
+pub(crate) fn configured_uid(name: &QueueName, queues: &[RequestedQueue]) -> Option<u64>
     ensures { result ≡ configured_uid name.now (map (λ q. q.name) queues.now) }
 {
     match place_of(name, queues) {
@@ -110,20 +115,34 @@ fn configured_queues(
     Ok(configured)
 }
 
-/// What is judged of all queues together: how many there are, their names, and their dead-letter
-/// queues.
+/// What is judged of all queues and alarms together: how many there are, their names, and then the
+/// queues that they name.
 pub(crate) fn together(
     alloc: Global,
+    limits: Limits,
     queues: &[RequestedQueue],
-) -> Result<Vec<ConfiguredQueue>, ConfigFault>
-    ensures queues { IsReadAs (items_of result) (together queues.now) }
-    ensures none { queues.now ≡ [] → items_of result ≡ Ok [] }
+    alarms: &[RequestedAlarm],
+) -> Result<Config, ConfigFault>
+    ensures config { IsReadAs result (together limits queues.now alarms.now) }
+    ensures none { queues.now ≡ [] → alarms.now ≡ [] → result ≡ Ok (record { limits = limits; queues = []; alarms = [] }) }
 {
     if QUEUE_LIMIT < queues.len() {
+        return Err(ConfigFault::OutOfRange);
+    }
+    if have_too_many_alarms(alarms) {
         return Err(ConfigFault::OutOfRange);
     }
     if have_equal_names(queues) {
         return Err(ConfigFault::NameTwice);
     }
-    configured_queues(alloc, queues)
+    if have_equal_alarms(alarms) {
+        return Err(ConfigFault::NameTwice);
+    }
+    let configured = configured_queues(alloc, queues)?;
+    let rules = configured_alarms(alloc, queues, alarms)?;
+    Ok(Config {
+        limits,
+        queues: configured,
+        alarms: rules,
+    })
 }

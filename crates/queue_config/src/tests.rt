@@ -1,5 +1,6 @@
 //! Values at the borders of each range, as the Amazon SQS API Reference has it for
-//! `SetQueueAttributes`, and the forms of texts that docs/PROFILE.md lists; policies; configurations.
+//! `SetQueueAttributes`, and the forms of texts that docs/PROFILE.md lists; policies; configurations
+//! and their alarms.
 
 use super::*;
 use message::Fault;
@@ -7,6 +8,7 @@ use std::alloc::Global;
 use std::process::Abort;
 use std::test::Fail;
 
+mod alarms;
 mod attributes;
 mod configurations;
 mod numbers;
@@ -86,7 +88,7 @@ fn run(rt: &impl Abort, alloc: Global, asked: Asked, transcript: &str) -> Result
     Ok(())
 }
 
-/// A limit, and a dead-letter queue that comes later.
+/// A limit, a dead-letter queue that comes later, and an alarm.
 const CONFIGURATION: &str = r#"[limits]
 in_flight = 2
 [[queue]]
@@ -95,6 +97,13 @@ dead_letter_queue = "b"
 max_receive_count = 3
 [[queue]]
 name = "b"
+[[alarm]]
+queue = "b"
+name = "deep"
+metric = "RefusedCalls"
+operator = "GreaterThanThreshold"
+threshold = 4
+minutes = 3
 "#;
 
 /// A call whose allocation is refused is `OutOfMemory`, changes nothing, and gives its value when it
@@ -111,6 +120,8 @@ fn refused_memory(rt: HostRuntime) -> Result<(), Fail> {
     assert_eq!(rt; config.queues.len(), 2);
     let settings = config.queues.first().ok_or("a queue")?.settings;
     assert_eq!(rt; settings.redrive_policy.ok_or("a policy")?.target, 2);
+    let alarm = *config.alarms.first().ok_or("an alarm")?;
+    assert_eq!(rt; (alarm.queue, alarm.rule.breaches), (2, 3));
 
     let mut wish = Wish::new();
     let (name, value) = policies::DEAD_AFTER_3

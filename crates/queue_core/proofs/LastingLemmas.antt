@@ -199,9 +199,9 @@ unopened q commands.Look = tt
 
 -- ---- a property of queues that lasts
 
-record Lasts (P : QueueHistory → Type 0) : Type 0 where
-  later : (q : QueueHistory) (at : ℕ) → P q → P (at_moment q at)
-  more : (q : QueueHistory) (event : Event ContentText) → opens event ≡ false → P q → P (with_event q event)
+pub record Lasts (P : QueueHistory → Type 0) : Type 0 where
+  pub later : (q : QueueHistory) (at : ℕ) → P q → P (at_moment q at)
+  pub more : (q : QueueHistory) (event : Event ContentText) → opens event ≡ false → P q → P (with_event q event)
 
 module _ (P : QueueHistory → Type 0) (lasts : Lasts P) where
   lasts_optional : (q : QueueHistory) (event : Option (Event ContentText)) → IsUnopened event → P q → P (with_optional_event q event)
@@ -218,7 +218,7 @@ module _ (P : QueueHistory → Type 0) (lasts : Lasts P) where
       lasts_cond (is_out_of_memory answer) (reached q at command) (with_optional_event (reached q at command) (outcome_at q at command).event) there
       (lasts_optional (reached q at command) (outcome_at q at command).event (unopened (reached q at command) command) there)
 
-  lasts_all : (q : QueueHistory) (steps : List Step) (answers : List (Result Reply Fault)) → P q → P (after_all q steps answers)
+  pub lasts_all : (q : QueueHistory) (steps : List Step) (answers : List (Result Reply Fault)) → P q → P (after_all q steps answers)
   lasts_all q [] answers p = p
   lasts_all q (step ∷ steps) [] p = p
   lasts_all q (step ∷ steps) (answer ∷ answers) p = lasts_all (after_answer q step.at step.command answer) steps answers (lasts_answer q step.at step.command answer p)

@@ -19,7 +19,7 @@ use Rattle.queue_core.specs.declared.command.Command.TheVariants as commands
 use Rattle.queue_core.specs.declared.parcel.Parcel.{Parcel}
 use Rattle.queue_core.specs.declared.offers.Offer.{Offer}
 use Rattle.queue_core.specs.declared.reply.Reply.TheVariants as replies
-use Rattle.queue_core.specs.declared.gauges.Gauges.{Gauges}
+use Rattle.metric_window.specs.declared.gauges.Gauges.{Gauges}
 use Rattle.queue_core.specs.Messages.{settings_of, created_time, modified_time, closes, is_closed, has_accepted}
 use Rattle.queue_core.specs.States.{gauges_of}
 use Rattle.queue_core.specs.Queue.{QueueHistory, Outcome, at_moment, is_full, first_refusal, with_room, done, send_outcome, receive_outcome, change_outcome, delete_outcome, close_outcome, arrive_outcome, is_pending, settle_outcome, orphan_outcome, in_flight_count, offered_candidates, offers_of, received_event, change_refusal, is_valid_handle, holds_live, outcome_of, with_event, with_optional_event, look_of}

@@ -3,8 +3,10 @@ pub mod TransferLemmas
 pub mod LegalLemmas
 pub mod RunLemmas
 pub mod OrderLemmas
-mod MarkLemmas
+pub mod MarkLemmas
+pub mod MetricLemmas
 pub mod OfferLemmas
 mod StateLemmas
 mod RefusalLemmas
-mod LastingLemmas
+mod BeforeLemmas
+pub mod LastingLemmas

@@ -1,9 +1,10 @@
 -- An entry that records a refusal changes nothing, and a refused call adds no other.
-use Rattle.std.proofs.Common.{◌≡◌, ℕ, suc, ◌+◌, ◌-◌, ◌≤◌, ◌<◌, Bool, true, false, cond, ◌&&◌, ◌||◌, ltb, eqb, zero, List, [], ◌∷◌, ◌++◌, map, length, drop, Option, Some, None, Result, Ok, Err, refl, sym, ap, ◌∙◌, arith}
+use Rattle.std.proofs.Common.{◌≡◌, ℕ, suc, ◌+◌, ◌-◌, ◌≤◌, ◌<◌, Bool, true, false, cond, ◌&&◌, ◌||◌, not, ltb, eqb, zero, List, [], ◌∷◌, ◌++◌, map, length, drop, Option, Some, None, Result, Ok, Err, refl, sym, ap, ◌∙◌, arith}
 use Rattle.std.specs.Prelude.{⊤, ◌/◌, nat_lt, nat_le, count_by, filter, slice_get}
 use Rattle.std.specs.Option.{option_map_or}
 use Rattle.std.specs.List.{list_any, find, AllByRecursion}
 use Rattle.std.proofs.lemmas.List.{drop-append-le}
+use Rattle.std.proofs.lemmas.List.Elements.{filter_agree}
 use Rattle.std.proofs.lemmas.List.Sums.{sum_by-cons, sum_by-append}
 use Rattle.std.proofs.lemmas.Bool.Decides.{nat_tests}
 use Rattle.message.specs.declared.fault.Fault.{Fault}
@@ -19,14 +20,15 @@ use Rattle.queue_core.specs.declared.facts.Message.{Message}
 use Rattle.queue_core.specs.declared.facts.Candidate.{Candidate}
 use Rattle.queue_core.specs.declared.facts.Course.{Course}
 use Rattle.queue_core.specs.declared.facts.Status.{Status}
+use Rattle.queue_core.specs.declared.facts.Transfer.{Transfer}
 use Rattle.queue_core.specs.declared.facts.Status.TheVariants.{Present, Removed, Waiting, Transferred}
 use Rattle.queue_core.specs.declared.facts.MessageState.{MessageState}
 use Rattle.queue_core.specs.declared.facts.MessageState.TheVariants.{Visible, Delayed, InFlight}
-use Rattle.queue_core.specs.declared.gauges.Gauges.{Gauges}
+use Rattle.metric_window.specs.declared.gauges.Gauges.{Gauges}
 use Rattle.queue_core.specs.declared.command.Command.{Command}
 use Rattle.queue_core.specs.declared.command.Command.TheVariants as commands
 use Rattle.queue_core.specs.declared.reply.Reply.{Reply}
-use Rattle.queue_core.specs.Messages.{effect_of, message_of, messages_from, messages, settings_after, settings_from, settings_of, closes_period, periods_from, runs_out_in, offers_number, receive_count, course_after, course_from, course_of, due_time, is_returned, is_closed, closes, opens, created_time, gives_settings, modified_from, has_accepted}
+use Rattle.queue_core.specs.Messages.{effect_of, message_of, messages_from, messages, settings_after, settings_from, settings_of, closes_period, periods_from, runs_out_in, offers_number, receive_count, course_after, course_from, course_of, due_time, is_returned, is_closed, closes, opens, created_time, gives_settings, modified_from, departures, ends_transfer, pending_transfers, accepts, has_accepted}
 use Rattle.queue_core.specs.States.{is_live, is_in_state, count_in_state, oldest_age, candidate_of, in_order, receive_order, is_numbered}
 use Rattle.queue_core.specs.Queue.{QueueHistory, Outcome, uncounted_refusal, refusal, unless_refused, first_refusal, refused_or, done, send_outcome, receive_outcome, change_outcome, delete_outcome, in_flight_count, change_refusal, arrive_outcome, is_pending, settle_outcome, orphan_outcome, outcome_of, reached, outcome_at, with_event, with_optional_event, after_answer, is_valid_handle}
 use Rattle.queue_core.specs.Lasting.{StandsAs}
@@ -109,6 +111,23 @@ module _ (at : ℕ) (fault : Fault) where
   is_closed-refused : (lines : List (Entry ContentText)) → is_closed (lines ++ refused ∷ []) ≡ is_closed lines
   is_closed-refused [] = refl
   is_closed-refused (e ∷ es) = ap (λ (b : Bool). closes e.event || b) (is_closed-refused es)
+
+  ended-refused : (t : Transfer) (lines : List (Entry ContentText))
+      → list_any (λ later. ends_transfer t later.event) (lines ++ refused ∷ []) ≡ list_any (λ later. ends_transfer t later.event) lines
+  ended-refused t [] = refl
+  ended-refused t (e ∷ es) = ap (λ (b : Bool). ends_transfer t e.event || b) (ended-refused t es)
+
+  pending-refused : (lines : List (Entry ContentText)) → pending_transfers (lines ++ refused ∷ []) ≡ pending_transfers lines
+  pending-refused [] = refl
+  pending-refused (e ∷ es) =
+      rw (pending-refused es)
+      (ap (λ (begun : List Transfer). begun ++ pending_transfers es)
+      (filter_agree (λ t. not (list_any (λ later. ends_transfer t later.event) (es ++ refused ∷ []))) (λ t. not (list_any (λ later. ends_transfer t later.event) es))
+      (λ t. ap not (ended-refused t es)) (departures e.event)))
+
+  has_accepted-refused : (uid number : ℕ) (lines : List (Entry ContentText)) → has_accepted (lines ++ refused ∷ []) uid number ≡ has_accepted lines uid number
+  has_accepted-refused uid number [] = refl
+  has_accepted-refused uid number (e ∷ es) = ap (λ (b : Bool). accepts uid number e.event || b) (has_accepted-refused uid number es)
 
   periods_from-refused : (m : Message) (place : ℕ) (s : QueueSettings) (clock : ℕ) (lines : List (Entry ContentText)) → m.place < place + length lines
       → list_any (λ p. runs_out_in m p) (periods_from place s clock (lines ++ refused ∷ [])) ≡ list_any (λ p. runs_out_in m p) (periods_from place s clock lines)
@@ -232,6 +251,8 @@ module _ (q : QueueHistory) (fault : Fault) where
     modified = modified_from-refused q.clock fault 0 q.lines;
     closed = is_closed-refused q.clock fault q.lines;
     settings = settings_from-refused q.clock fault default_settings q.lines;
+    waiting = pending-refused q.clock fault q.lines;
+    accepted = λ uid number. has_accepted-refused q.clock fault uid number q.lines;
     given = handle-refused;
     in_flight = λ h.
         holds-same (is_numbered (λ m. is_in_state InFlight after q.clock m) after h.number) (is_numbered (λ m. is_in_state InFlight q.lines q.clock m) q.lines h.number)
@@ -301,7 +322,7 @@ quiet q commands.Close fault h = quiet-close (is_closed q.lines) QueueDoesNotExi
 quiet q commands.Look fault h = absurd cc
 
 StandsAs-itself : (q : QueueHistory) → StandsAs q q
-StandsAs-itself q = record { counts = refl; order = refl; messages = refl; created = refl; modified = refl; closed = refl; settings = refl; given = λ h. refl; in_flight = λ h. refl; live = λ h. refl }
+StandsAs-itself q = record { counts = refl; order = refl; messages = refl; created = refl; modified = refl; closed = refl; settings = refl; waiting = refl; accepted = λ uid number. refl; given = λ h. refl; in_flight = λ h. refl; live = λ h. refl }
 
 StandsAs-quiet : (q : QueueHistory) (event : Option (Event ContentText)) → IsQuiet event → StandsAs (with_optional_event q event) q
 StandsAs-quiet q None h = StandsAs-itself q

@@ -1,6 +1,7 @@
 -- What a queue keeps about its journal.
 use Rattle.std.specs.Prelude.{◌≡◌, ℕ, ◌+◌, ◌≤◌, false, [], ◌∷◌, List, length}
 use Rattle.queue_config.specs.Settings.{QueueSettings}
+use Rattle.queue_config.specs.AlarmRules.{Rule}
 use Rattle.queue_config.specs.Limits.{QueueLimits}
 use Rattle.journal.specs.declared.entry.Event.TheVariants.{Opened}
 use Rattle.queue_core.specs.Messages.{is_closed}
@@ -15,6 +16,6 @@ pub record IsKept (q : QueueHistory) (limit : ℕ) : Type 0 where
   pub legal : IsLegal q
 
 -- a queue as it is opened
-abbrev pub opened_queue : ℕ → List ℕ → QueueSettings → QueueLimits → ℕ → QueueHistory
-opened_queue uid name settings limits at =
-    record { uid = uid; name = name; limits = limits; clock = at; lines = record { at = at; event = Opened uid settings } ∷ [] }
+abbrev pub opened_queue : ℕ → List ℕ → QueueSettings → QueueLimits → List Rule → ℕ → QueueHistory
+opened_queue uid name settings limits rules at =
+    record { uid = uid; name = name; limits = limits; rules = rules; clock = at; lines = record { at = at; event = Opened uid settings } ∷ [] }

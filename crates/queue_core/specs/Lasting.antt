@@ -2,11 +2,11 @@
 use Rattle.std.specs.Prelude.{◌≡◌, ℕ, List, Option, option_and_then}
 use Rattle.receipt_handle.specs.declared.handle.Handle.{Handle}
 use Rattle.journal.specs.declared.entry.Entry.{Entry}
-use Rattle.queue_core.specs.Messages.{messages, content_of, settings_of, created_time, modified_time, is_closed}
+use Rattle.queue_core.specs.Messages.{messages, content_of, settings_of, created_time, modified_time, is_closed, pending_transfers, has_accepted}
 use Rattle.queue_core.specs.States.{gauges_of, receive_order, message_numbered}
 use Rattle.queue_core.specs.Queue.{QueueHistory, is_valid_handle, holds_in_flight, holds_live}
 
--- the counts and the age, the order, the messages, the settings and times, and what each handle may do are those of another queue
+-- the counts and the age, the order, the messages, the settings and times, the transfers that wait, those that were accepted, and what each handle may do are those of another queue
 pub record StandsAs (q other : QueueHistory) : Type 0 where
   pub counts : gauges_of q.lines q.clock ≡ gauges_of other.lines other.clock
   pub order : receive_order q.lines q.clock ≡ receive_order other.lines other.clock
@@ -15,6 +15,8 @@ pub record StandsAs (q other : QueueHistory) : Type 0 where
   pub modified : modified_time q.lines ≡ modified_time other.lines
   pub closed : is_closed q.lines ≡ is_closed other.lines
   pub settings : settings_of q.lines ≡ settings_of other.lines
+  pub waiting : pending_transfers q.lines ≡ pending_transfers other.lines
+  pub accepted : (uid number : ℕ) → has_accepted q.lines uid number ≡ has_accepted other.lines uid number
   pub given : (h : Handle) → is_valid_handle q h ≡ is_valid_handle other h
   pub in_flight : (h : Handle) → holds_in_flight q h ≡ holds_in_flight other h
   pub live : (h : Handle) → holds_live q h ≡ holds_live other h

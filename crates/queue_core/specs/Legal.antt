@@ -2,6 +2,7 @@
 use Rattle.std.specs.Prelude.{◌≡◌, ℕ, ◌<◌, ◌≤◌, ◌^◌, List, [], ◌∷◌, ◌++◌, Some, IsTrue}
 use Rattle.std.specs.Option.{ForSome}
 use Rattle.message.specs.Content.{ContentText, is_content}
+use Rattle.message.specs.Name.{is_queue_name}
 use Rattle.queue_config.specs.Settings.{QueueSettings, AreSettings, settings_with}
 use Rattle.journal.specs.declared.entry.Entry.{Entry}
 use Rattle.journal.specs.declared.entry.Event.{Event}
@@ -17,7 +18,7 @@ abbrev pub IsOrdered : ℕ → List (Entry ContentText) → ℕ → Type 0
 IsOrdered from [] clock = from ≤ clock
 IsOrdered from (e ∷ es) clock = (from ≤ e.at) × IsOrdered e.at es clock
 
--- a command that can be given: its content is allowed, its numbers are in range, and so are the settings that it gives the queue
+-- a command that can be given: its content and the name that it comes with are allowed, its numbers are in range, and so are the settings that it gives the queue
 abbrev pub IsAllowedIn : QueueHistory → Command → Type 0
 IsAllowedIn q (Send content delay) = IsTrue (is_content content) × ForSome delay (λ seconds. IsDelay seconds)
 IsAllowedIn q (Receive maximum timeout) = IsMaximum maximum × ForSome timeout (λ seconds. IsTimeout seconds)
@@ -25,7 +26,7 @@ IsAllowedIn q (Change handle timeout) = IsTimeout timeout
 IsAllowedIn q (Delete handle) = Unit {0}
 IsAllowedIn q Purge = Unit {0}
 IsAllowedIn q (Set wish target) = AreSettings (settings_with (settings_of q.lines) wish target)
-IsAllowedIn q (Arrive parcel) = IsTrue (is_content parcel.content) × (parcel.origin.sent < 2 ^ 62)
+IsAllowedIn q (Arrive parcel) = IsTrue (is_content parcel.content) × (IsTrue (is_queue_name parcel.origin.name) × (parcel.origin.sent < 2 ^ 62))
 IsAllowedIn q (Settle number) = Unit {0}
 IsAllowedIn q (Orphan target) = Unit {0}
 IsAllowedIn q Close = Unit {0}

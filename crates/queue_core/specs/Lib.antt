@@ -5,7 +5,7 @@ pub mod Ranges
 pub mod Legal
 pub mod Kept
 pub mod Run
-pub mod Mark
+pub mod Metrics
 pub mod Turns
 pub mod Lasting
 pub mod Examples

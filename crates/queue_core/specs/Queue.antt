@@ -6,6 +6,7 @@ use Rattle.message.specs.declared.fault.Fault.{Fault}
 use Rattle.message.specs.declared.fault.Fault.TheVariants.{QueueDoesNotExist, InvalidParameterValue, ReceiptHandleIsInvalid, MessageNotInflight, OverLimit, JournalFull}
 use Rattle.message.specs.Fault.{is_out_of_memory}
 use Rattle.message.specs.Content.{ContentText, content_size}
+use Rattle.queue_config.specs.AlarmRules.{Rule}
 use Rattle.queue_config.specs.Limits.{QueueLimits}
 use Rattle.queue_config.specs.Settings.{settings_with}
 use Rattle.receipt_handle.specs.declared.handle.Handle.{Handle}
@@ -33,6 +34,7 @@ pub record QueueHistory : Type 0 where
   pub uid : ℕ
   pub name : List ℕ
   pub limits : QueueLimits
+  pub rules : List Rule  -- of its alarms
   pub clock : ℕ
   pub lines : List (Entry ContentText)
 

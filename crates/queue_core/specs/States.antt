@@ -7,7 +7,7 @@ use Rattle.queue_core.specs.declared.facts.Message.{Message}
 use Rattle.queue_core.specs.declared.facts.Candidate.{Candidate}
 use Rattle.queue_core.specs.declared.facts.MessageState.{MessageState}
 use Rattle.queue_core.specs.declared.facts.MessageState.TheVariants.{Visible, Delayed, InFlight}
-use Rattle.queue_core.specs.declared.gauges.Gauges.{Gauges}
+use Rattle.metric_window.specs.declared.gauges.Gauges.{Gauges}
 use Rattle.queue_core.specs.Messages.{messages, is_present, is_returned, is_expired, receive_count, due_time}
 
 -- a message that was neither removed nor has left nor has expired

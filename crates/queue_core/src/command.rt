@@ -163,7 +163,8 @@ pub enum Command {
     Delete {
         handle: Handle,
     },
-    /// Removes all messages.
+    /// Removes all messages that are in the queue; those that have left for a dead-letter queue are not
+    /// among them.
     Purge,
     /// Gives the queue the requested settings; the target is the uid that a requested dead-letter
     /// queue's name stands for, 0 where none is named.

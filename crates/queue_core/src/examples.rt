@@ -194,8 +194,8 @@ pub fn other_commands_are_answered()
         ≡ example.looked_outcome example.look_at_released }
 {}
 
-/// A full journal refuses every command but a look, and the refusal is no entry. So does a queue
-/// with as many messages in flight as may be at a receive, and that refusal is one.
+/// A full journal refuses every command but a look, `FirstParcel` and a close, and the refusal is no
+/// entry. A queue with as many messages in flight as may be refuses a receive, and that refusal is one.
 pub fn limits_are_kept()
     ensures fourth_send { outcome_at (example.queue_with (example.at_most_lines 4) 1000
         example.three_sent)

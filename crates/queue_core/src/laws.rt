@@ -5,7 +5,7 @@ ghost use Rattle.std.specs.Prelude.{◌≡◌, ◌≢◌, ℕ, ◌+◌, ◌-◌,
 ghost use Rattle.std.specs.List.{All, AllPairs, Contains};
 ghost use Rattle.message.specs.declared.fault.Fault.{Fault};
 ghost use Rattle.message.specs.Fault.{Meets};
-ghost use Rattle.message.specs.Content.{ContentText};
+ghost use Rattle.message.specs.Content.{ContentText, content_size};
 ghost use Rattle.journal.specs.declared.entry.Entry.{Entry};
 ghost use Rattle.queue_core.specs.declared.command.Command.{Command};
 ghost use Rattle.queue_core.specs.declared.command.Command.TheVariants.{Send, Look};
@@ -21,27 +21,27 @@ ghost use Rattle.queue_core.specs.States.{is_live, is_in_state, count_in_state, 
 ghost use Rattle.queue_core.specs.Queue.{QueueHistory, at_moment, reached, outcome_at, with_event, after_answer, look_of, in_flight_count, scanned_candidates, offered_candidates, leaving_candidates, received_event, offers_of, numbers_of};
 ghost use Rattle.queue_core.specs.Lasting.{StandsAs, content_numbered};
 ghost use Rattle.queue_core.specs.Run.{AreExact, after_all};
-ghost use Rattle.queue_core.specs.Mark.{mark_of};
+ghost use Rattle.journal.specs.Mark.{mark_of};
 ghost use Rattle.queue_core.specs.Turns.{ComesBefore, remaining_candidates, IsVisibleCandidate};
 
 /// Counts and age need no content: from the entries' marks, which have a content's size in its
 /// place, they come out as from the lines.
 pub fn gauges_need_no_content()
     ensures gauges { (lines : List (Entry ContentText)) (clock : ℕ)
-        → gauges_of (map mark_of lines) clock ≡ gauges_of lines clock }
+        → gauges_of (map (mark_of content_size) lines) clock ≡ gauges_of lines clock }
 {}
 
 /// Nor is a content needed for the messages' numbers and times, the settings, how often a message
 /// was received, and the order in which messages are received.
 pub fn messages_need_no_content()
     ensures messages { (lines : List (Entry ContentText))
-        → messages (map mark_of lines) ≡ messages lines }
+        → messages (map (mark_of content_size) lines) ≡ messages lines }
     ensures settings { (lines : List (Entry ContentText))
-        → settings_of (map mark_of lines) ≡ settings_of lines }
+        → settings_of (map (mark_of content_size) lines) ≡ settings_of lines }
     ensures receives { (lines : List (Entry ContentText)) (number : ℕ)
-        → receive_count (map mark_of lines) number ≡ receive_count lines number }
+        → receive_count (map (mark_of content_size) lines) number ≡ receive_count lines number }
     ensures order { (lines : List (Entry ContentText)) (clock : ℕ)
-        → receive_order (map mark_of lines) clock ≡ receive_order lines clock }
+        → receive_order (map (mark_of content_size) lines) clock ≡ receive_order lines clock }
 {}
 
 /// The messages that a receive comes to, each of which it offers or lets leave, stand first in the
@@ -109,7 +109,8 @@ pub fn each_live_message_is_in_one_state()
 {}
 
 /// A call that is refused, or finds no memory, leaves the messages, the counts, the age, the order, the
-/// settings, the times and what each handle may do as they are at its moment without it.
+/// settings, the times, the transfers that wait, those that were accepted, and what each handle may do
+/// as they are at its moment without it.
 pub fn refused_calls_change_nothing()
     ensures stands { (q : QueueHistory) (at : ℕ) (command : Command) (fault : Fault)
         → Meets {T = Reply} (Err fault) (outcome_at q at command).reply

@@ -1,26 +1,30 @@
 //! One queue: its journal, its clock, and the commands that it answers.
 //!
 //! [`QueueState`] is the plain form: it keeps the journal and a clock, and finds every number by
-//! going through the journal. Each command's contract says that the clock never falls, which entry
-//! is added and what is answered, by the definitions in `specs/`:
+//! going through the journal. Each command's contract says where the clock is, which never falls,
+//! which entry is added and what is answered, by the definitions in `specs/`:
 //!
 //! - `Messages`: what each event does (`effect_of`), the messages of a journal, their times, retention
 //!   and expiry;
 //! - `States`: which messages are visible, delayed or in flight, the counts and the age;
+//! - `Metrics`: the row of each minute;
 //! - `Queue`: the outcome of each command;
 //! - `Ranges`, `Legal`: what commands carry, and which journals a queue can have.
 //!
 //! Want of memory of a command moves the clock and nothing else, and a command that adds no entry never
-//! wants memory. [`QueueState::run`] performs a list of commands: its answers are those of the
+//! wants memory. `FirstParcel` alone leaves the clock as it is, and may want memory without an entry,
+//! for the parcel that it hands over. [`QueueState::run`] performs a list of commands: its answers are those of the
 //! definitions one after another. What follows from the definitions, as that no message is offered
 //! before its due time, stands in the laws, which are functions without a body.
 #![tactic(auto)]
 
 mod command;
+mod entries;
 pub mod examples;
 mod facts;
-mod gauges;
 mod laws;
+mod metric_laws;
+mod metrics;
 mod numbering;
 mod offers;
 mod order;
@@ -35,7 +39,6 @@ mod transfers;
 pub use command::{
     Command, Delay, LONGEST_DELAY, LONGEST_TIMEOUT, MOST_OFFERS, Maximum, Step, Timeout,
 };
-pub use gauges::Gauges;
 pub use laws::{
     as_many_are_offered_as_may_be, each_live_message_is_in_one_state,
     each_visible_message_has_its_turn, gauges_need_no_content, looks_tell_what_the_journal_says,
@@ -43,6 +46,8 @@ pub use laws::{
     offers_are_the_first_in_order, refused_calls_change_nothing, replies_offer_what_lines_record,
     what_is_gone_stays_gone,
 };
+pub use metric_laws::{rows_add_up_to_the_journal, rows_need_no_content, rows_never_change};
+pub use metric_window::{Flows, Gauges, Row};
 pub use offers::{Offer, Offers};
 pub use parcel::{Arrival, Parcel};
 pub use reply::{Look, Posted, Reply};

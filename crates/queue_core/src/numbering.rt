@@ -4,20 +4,10 @@ ghost use Rattle.std.specs.Prelude.{◌≡◌, ◌+◌, ◌-◌, ◌^◌, ◌<�
 ghost use Rattle.std.specs.Iterator.{YieldsFirst, item_count};
 ghost use Rattle.queue_core.specs.Messages.{message_of, messages_from, messages};
 
+use crate::entries::{Entries, line_at};
 use crate::facts::Message;
-use journal::{Event, Journal, Line};
+use journal::{Event, Line};
 use std::marker::Model;
-
-/// The line at a place.
-pub(crate) fn line_at(journal: &Journal, place: usize) -> &Line
-    requires { place < length journal.now.lines }
-    ensures { slice_get journal.now.lines place ≡ Some result.now }
-{
-    match journal.peek(place) {
-        Some(line) => line,
-        None => unreachable!(),
-    }
-}
 
 /// The message that a line begins, if it begins one.
 fn message_of(line: &Line, place: usize, number: u64) -> Option<Message>
@@ -45,13 +35,13 @@ fn message_of(line: &Line, place: usize, number: u64) -> Option<Message>
 }
 
 /// The first message of the lines from a place on, where it has a number.
-fn first_message(journal: &Journal, from: usize, number: u64) -> Option<Message>
-    ensures first { IfSome result (λ m. messages_from from number (drop from journal.now.lines) ≡ m ∷ messages_from (m.place + 1) (number + 1) (drop (m.place + 1) journal.now.lines)) }
+fn first_message(lines: &Entries<'_>, from: usize, number: u64) -> Option<Message>
+    ensures first { IfSome result (λ m. messages_from from number (drop from lines.now) ≡ m ∷ messages_from (m.place + 1) (number + 1) (drop (m.place + 1) lines.now)) }
     ensures place { IfSome result (λ m. (from ≤ m.place) × (m.place < 2 ^ 64 - 1)) }
-    ensures none { IfNone result (messages_from from number (drop from journal.now.lines) ≡ []) }
+    ensures none { IfNone result (messages_from from number (drop from lines.now) ≡ []) }
 {
-    for place in from..journal.len() {
-        if let Some(message) = message_of(line_at(journal, place), place, number) {
+    for place in from..lines.len() {
+        if let Some(message) = message_of(line_at(lines, place), place, number) {
             return Some(message);
         }
     }
@@ -60,41 +50,41 @@ fn first_message(journal: &Journal, from: usize, number: u64) -> Option<Message>
 
 /// Goes over the messages of a journal. Contracts see those that are left.
 #[derive(Drop)]
-pub(crate) struct Messages<'a> {
-    journal: &'a Journal,
+pub(crate) struct Messages<'a, 'j> {
+    lines: &'a Entries<'j>,
     place: usize,
     number: u64,
 }
 
-impl<'a> Model for Messages<'a> {
+impl<'a, 'j> Model for Messages<'a, 'j> {
     ghost use Rattle.std.specs.Prelude.{◌≤◌, List, drop};
     ghost use Rattle.queue_core.specs.declared.facts.Message.{Message};
     ghost use Rattle.queue_core.specs.Messages.{messages_from};
 
     ghost Value = { List Message };
 
-    ghost view = { λ m. messages_from m.place m.number (drop m.place m.journal.now.lines) };
+    ghost view = { λ m. messages_from m.place m.number (drop m.place m.lines.now) };
 
     ghost invariant = { λ m. m.number ≤ m.place };
 }
 
-impl<'a> Messages<'a> {
+impl<'a, 'j> Messages<'a, 'j> {
     /// All messages of a journal.
-    pub(crate) fn of(journal: &'a Journal) -> Messages<'a>
-        ensures all { result ≡ messages journal.now.lines }
+    pub(crate) fn of(lines: &'a Entries<'j>) -> Messages<'a, 'j>
+        ensures all { result ≡ messages lines.now }
         ensures few { length result < 2 ^ 64 }
     {
         // There are no more messages than lines, whose number fits.
-        let _lines = journal.len();
+        let _lines = lines.len();
         Messages {
-            journal,
+            lines,
             place: 0,
             number: 0,
         }
     }
 }
 
-impl<'a> Iterator for Messages<'a> {
+impl<'a, 'j> Iterator for Messages<'a, 'j> {
     type Item = Message;
 
     ghost next_gives = { YieldsFirst (λ left. left) };
@@ -102,7 +92,7 @@ impl<'a> Iterator for Messages<'a> {
     ghost remaining = { item_count (λ left. left) };
 
     fn next(&mut self) -> Option<Message> {
-        let message = first_message(self.journal, self.place, self.number)?;
+        let message = first_message(self.lines, self.place, self.number)?;
         self.place = message.place + 1;
         self.number += 1;
         Some(message)

@@ -8,32 +8,33 @@ ghost use Rattle.queue_core.specs.Messages.{messages, content_of, message_count,
 ghost use Rattle.queue_core.specs.declared.facts.Status.TheVariants.{Present, Waiting};
 ghost use Rattle.queue_core.specs.States.{is_live, state_of, is_in_state, count_in_state, oldest_age, gauges_of, message_numbered};
 
+use crate::entries::{Entries, line_at};
 use crate::facts::{Course, Message, MessageState, Status};
-use crate::gauges::Gauges;
-use crate::numbering::{Messages, line_at};
-use journal::{Event, Journal, Line, Moment, Numbers};
+use crate::numbering::Messages;
+use journal::{Event, Line, Moment, Numbers};
 use message::Content;
+use metric_window::Gauges;
 use queue_config::Settings;
 
 /// How many messages there are.
-pub(crate) fn message_count(journal: &Journal) -> u64
-    ensures { result ≡ message_count journal.now.lines }
+pub(crate) fn message_count(lines: &Entries<'_>) -> u64
+    ensures { result ≡ message_count lines.now }
 {
-    Messages::of(journal).count() as u64
+    Messages::of(lines).count() as u64
 }
 
 /// The message of a number.
-pub(crate) fn message_numbered(journal: &Journal, number: u64) -> Option<Message>
-    ensures { result ≡ message_numbered journal.now.lines number }
+pub(crate) fn message_numbered(lines: &Entries<'_>, number: u64) -> Option<Message>
+    ensures { result ≡ message_numbered lines.now number }
 {
-    Messages::of(journal).nth(number as usize)
+    Messages::of(lines).nth(number as usize)
 }
 
 /// The content of a message.
-pub(crate) fn content_of<'a>(journal: &'a Journal, message: &Message) -> Option<&'a Content>
-    ensures { option_copied result ≡ content_of journal.now.lines message.now }
+pub(crate) fn content_of<'a>(lines: &Entries<'a>, message: &Message) -> Option<&'a Content>
+    ensures { option_copied result ≡ content_of lines.now message.now }
 {
-    match &journal.peek(message.place)?.event {
+    match &lines.get(message.place)?.event {
         Event::Sent { content, .. } | Event::Arrived { content, .. } => Some(content),
         _ => None,
     }
@@ -51,12 +52,12 @@ fn settings_after(settings: Settings, event: &Event<Content>) -> Settings
 }
 
 /// The settings in force.
-pub(crate) fn settings_of(journal: &Journal) -> Settings
-    ensures { result ≡ settings_of journal.now.lines }
+pub(crate) fn settings_of(lines: &Entries<'_>) -> Settings
+    ensures { result ≡ settings_of lines.now }
 {
     let mut settings = Settings::default();
-    for place in 0..journal.len() {
-        settings = settings_after(settings, &line_at(journal, place).event);
+    for place in 0..lines.len() {
+        settings = settings_after(settings, &line_at(lines, place).event);
     }
     settings
 }
@@ -83,11 +84,11 @@ fn closes_period(event: &Event<Content>) -> bool
 }
 
 /// When the queue was opened.
-pub(crate) fn created_time(journal: &Journal) -> Moment
-    ensures { result ≡ created_time journal.now.lines }
+pub(crate) fn created_time(lines: &Entries<'_>) -> Moment
+    ensures { result ≡ created_time lines.now }
 {
-    for place in 0..journal.len() {
-        let line = line_at(journal, place);
+    for place in 0..lines.len() {
+        let line = line_at(lines, place);
         if opens(&line.event) {
             return line.at;
         }
@@ -107,12 +108,12 @@ fn modified_after(time: Moment, line: &Line) -> Moment
 }
 
 /// When the queue last got settings.
-pub(crate) fn modified_time(journal: &Journal) -> Moment
-    ensures { result ≡ modified_time journal.now.lines }
+pub(crate) fn modified_time(lines: &Entries<'_>) -> Moment
+    ensures { result ≡ modified_time lines.now }
 {
     let mut time = Moment::zero();
-    for place in 0..journal.len() {
-        time = modified_after(time, line_at(journal, place));
+    for place in 0..lines.len() {
+        time = modified_after(time, line_at(lines, place));
     }
     time
 }
@@ -137,18 +138,18 @@ fn runs_out_at(message: &Message, settings: Settings, line: &Line, place: usize)
 }
 
 /// Whether the message's retention has run out.
-fn is_expired(journal: &Journal, clock: Moment, message: &Message) -> bool
-    ensures { result ≡ is_expired journal.now.lines clock message.now }
+fn is_expired(lines: &Entries<'_>, clock: Moment, message: &Message) -> bool
+    ensures { result ≡ is_expired lines.now clock message.now }
 {
     let mut settings = Settings::default();
-    for place in 0..journal.len() {
-        let line = line_at(journal, place);
+    for place in 0..lines.len() {
+        let line = line_at(lines, place);
         if runs_out_at(message, settings, line, place) {
             return true;
         }
         settings = settings_after(settings, &line.event);
     }
-    runs_out_in(message, settings, clock, journal.len())
+    runs_out_in(message, settings, clock, lines.len())
 }
 
 /// Whether a number is in the list.
@@ -169,13 +170,13 @@ fn offers_number(event: &Event<Content>, number: u64) -> bool
 }
 
 /// How often the message of a number was received.
-pub(crate) fn receive_count(journal: &Journal, number: u64) -> u64
-    ensures count { result ≡ receive_count journal.now.lines number }
-    ensures within { result ≤ length journal.now.lines }
+pub(crate) fn receive_count(lines: &Entries<'_>, number: u64) -> u64
+    ensures count { result ≡ receive_count lines.now number }
+    ensures within { result ≤ length lines.now }
 {
     let mut count = 0;
-    for place in 0..journal.len() {
-        if offers_number(&line_at(journal, place).event, number) {
+    for place in 0..lines.len() {
+        if offers_number(&line_at(lines, place).event, number) {
             count += 1;
         }
     }
@@ -183,11 +184,11 @@ pub(crate) fn receive_count(journal: &Journal, number: u64) -> u64
 }
 
 /// When the message of a number was first received.
-pub(crate) fn first_receive_time(journal: &Journal, number: u64) -> Option<Moment>
-    ensures { result ≡ first_receive_time journal.now.lines number }
+pub(crate) fn first_receive_time(lines: &Entries<'_>, number: u64) -> Option<Moment>
+    ensures { result ≡ first_receive_time lines.now number }
 {
-    for place in 0..journal.len() {
-        let line = line_at(journal, place);
+    for place in 0..lines.len() {
+        let line = line_at(lines, place);
         if offers_number(&line.event, number) {
             return Some(line.at);
         }
@@ -207,12 +208,12 @@ fn last_receive_after(time: Moment, line: &Line, number: u64) -> Moment
 }
 
 /// When the message of a number was last received, 0 where it never was.
-pub(crate) fn last_receive_time(journal: &Journal, number: u64) -> Moment
-    ensures { result ≡ last_receive_time journal.now.lines number }
+pub(crate) fn last_receive_time(lines: &Entries<'_>, number: u64) -> Moment
+    ensures { result ≡ last_receive_time lines.now number }
 {
     let mut time = Moment::zero();
-    for place in 0..journal.len() {
-        time = last_receive_after(time, line_at(journal, place), number);
+    for place in 0..lines.len() {
+        time = last_receive_after(time, line_at(lines, place), number);
     }
     time
 }
@@ -314,75 +315,75 @@ fn course_after(number: u64, course: Course, line: &Line) -> Course
 }
 
 /// What has become of a message.
-fn course_of(journal: &Journal, message: &Message) -> Course
-    ensures { result ≡ course_of journal.now.lines message.now }
+fn course_of(lines: &Entries<'_>, message: &Message) -> Course
+    ensures { result ≡ course_of lines.now message.now }
 {
     let mut course = Course {
         status: Status::Present,
         due: message.first_due_time,
         returned: false,
     };
-    for place in message.place..journal.len() {
-        course = course_after(message.number, course, line_at(journal, place));
+    for place in message.place..lines.len() {
+        course = course_after(message.number, course, line_at(lines, place));
     }
     course
 }
 
 /// When a message is to be offered next, in milliseconds.
-pub(crate) fn due_time(journal: &Journal, message: &Message) -> u64
-    ensures { result ≡ due_time journal.now.lines message.now }
+pub(crate) fn due_time(lines: &Entries<'_>, message: &Message) -> u64
+    ensures { result ≡ due_time lines.now message.now }
 {
-    course_of(journal, message).due
+    course_of(lines, message).due
 }
 
 /// Whether a message was neither removed nor has left.
-fn is_present(journal: &Journal, message: &Message) -> bool
-    ensures { result ≡ is_present journal.now.lines message.now }
+fn is_present(lines: &Entries<'_>, message: &Message) -> bool
+    ensures { result ≡ is_present lines.now message.now }
 {
-    matches!(course_of(journal, message).status, Status::Present)
+    matches!(course_of(lines, message).status, Status::Present)
 }
 
 /// Whether a message left and came back.
-fn is_returned(journal: &Journal, message: &Message) -> bool
-    ensures { result ≡ is_returned journal.now.lines message.now }
+fn is_returned(lines: &Entries<'_>, message: &Message) -> bool
+    ensures { result ≡ is_returned lines.now message.now }
 {
-    course_of(journal, message).returned
+    course_of(lines, message).returned
 }
 
 /// Whether a message has left for the dead-letter queue of a uid, and the transfer is not confirmed.
-pub(crate) fn waits_for(journal: &Journal, target: u64, message: &Message) -> bool
-    ensures { result ≡ waits_for journal.now.lines target message.now }
+pub(crate) fn waits_for(lines: &Entries<'_>, target: u64, message: &Message) -> bool
+    ensures { result ≡ waits_for lines.now target message.now }
 {
-    match course_of(journal, message).status {
+    match course_of(lines, message).status {
         Status::Waiting { target: own } => own == target,
         _ => false,
     }
 }
 
 /// Whether a message has left, and the transfer is not confirmed.
-pub(crate) fn awaits_transfer(journal: &Journal, message: &Message) -> bool
-    ensures { result ≡ awaits_transfer journal.now.lines message.now }
+pub(crate) fn awaits_transfer(lines: &Entries<'_>, message: &Message) -> bool
+    ensures { result ≡ awaits_transfer lines.now message.now }
 {
-    matches!(course_of(journal, message).status, Status::Waiting { .. })
+    matches!(course_of(lines, message).status, Status::Waiting { .. })
 }
 
 /// Whether a message was neither removed nor has left nor has expired.
-pub(crate) fn is_live(journal: &Journal, clock: Moment, message: &Message) -> bool
-    ensures { result ≡ is_live journal.now.lines clock message.now }
+pub(crate) fn is_live(lines: &Entries<'_>, clock: Moment, message: &Message) -> bool
+    ensures { result ≡ is_live lines.now clock message.now }
 {
-    is_present(journal, message) && !is_expired(journal, clock, message)
+    is_present(lines, message) && !is_expired(lines, clock, message)
 }
 
 /// The state of a message, where it is live.
-fn state_of(journal: &Journal, clock: Moment, message: &Message) -> Option<MessageState>
-    ensures { result ≡ state_of journal.now.lines clock message.now }
+fn state_of(lines: &Entries<'_>, clock: Moment, message: &Message) -> Option<MessageState>
+    ensures { result ≡ state_of lines.now clock message.now }
 {
-    if !is_live(journal, clock, message) {
+    if !is_live(lines, clock, message) {
         return None;
     }
-    if due_time(journal, message) <= clock.milliseconds() {
+    if due_time(lines, message) <= clock.milliseconds() {
         Some(MessageState::Visible)
-    } else if receive_count(journal, message.number) == 0 && !is_returned(journal, message) {
+    } else if receive_count(lines, message.number) == 0 && !is_returned(lines, message) {
         Some(MessageState::Delayed)
     } else {
         Some(MessageState::InFlight)
@@ -392,13 +393,13 @@ fn state_of(journal: &Journal, clock: Moment, message: &Message) -> Option<Messa
 /// Whether a message is in the state.
 pub(crate) fn is_in_state(
     state: MessageState,
-    journal: &Journal,
+    lines: &Entries<'_>,
     clock: Moment,
     message: &Message,
 ) -> bool
-    ensures { result ≡ is_in_state state journal.now.lines clock message.now }
+    ensures { result ≡ is_in_state state lines.now clock message.now }
 {
-    match state_of(journal, clock, message) {
+    match state_of(lines, clock, message) {
         None => false,
         Some(MessageState::Visible) => matches!(state, MessageState::Visible),
         Some(MessageState::Delayed) => matches!(state, MessageState::Delayed),
@@ -414,11 +415,11 @@ fn closes(event: &Event<Content>) -> bool
 }
 
 /// Whether the queue was closed.
-pub(crate) fn is_closed(journal: &Journal) -> bool
-    ensures { result ≡ is_closed journal.now.lines }
+pub(crate) fn is_closed(lines: &Entries<'_>) -> bool
+    ensures { result ≡ is_closed lines.now }
 {
-    for place in 0..journal.len() {
-        if closes(&line_at(journal, place).event) {
+    for place in 0..lines.len() {
+        if closes(&line_at(lines, place).event) {
             return true;
         }
     }
@@ -426,11 +427,11 @@ pub(crate) fn is_closed(journal: &Journal) -> bool
 }
 
 /// How many messages are in the state.
-pub(crate) fn count_in_state(state: MessageState, journal: &Journal, clock: Moment) -> u64
-    ensures { result ≡ count_in_state state journal.now.lines clock }
+pub(crate) fn count_in_state(state: MessageState, lines: &Entries<'_>, clock: Moment) -> u64
+    ensures { result ≡ count_in_state state lines.now clock }
 {
-    Messages::of(journal)
-        .filter(|message| is_in_state(state, journal, clock, message))
+    Messages::of(lines)
+        .filter(|message| is_in_state(state, lines, clock, message))
         .count() as u64
 }
 
@@ -442,30 +443,30 @@ fn seconds_between(from: Moment, to: Moment) -> u64
 }
 
 /// The first live message.
-fn oldest_message(journal: &Journal, clock: Moment) -> Option<Message>
-    ensures { result ≡ find (λ m. is_live journal.now.lines clock m) (messages journal.now.lines) }
+fn oldest_message(lines: &Entries<'_>, clock: Moment) -> Option<Message>
+    ensures { result ≡ find (λ m. is_live lines.now clock m) (messages lines.now) }
 {
-    Messages::of(journal).find(|message| is_live(journal, clock, message))
+    Messages::of(lines).find(|message| is_live(lines, clock, message))
 }
 
 /// Whole seconds since the first live message came, 0 where none is live.
-fn oldest_age(journal: &Journal, clock: Moment) -> u64
-    ensures { result ≡ oldest_age journal.now.lines clock }
+fn oldest_age(lines: &Entries<'_>, clock: Moment) -> u64
+    ensures { result ≡ oldest_age lines.now clock }
 {
-    match oldest_message(journal, clock) {
+    match oldest_message(lines, clock) {
         Some(message) => seconds_between(message.enqueue_time, clock),
         None => 0,
     }
 }
 
 /// The counts and the age at a time.
-pub(crate) fn gauges_of(journal: &Journal, clock: Moment) -> Gauges
-    ensures { result ≡ gauges_of journal.now.lines clock }
+pub(crate) fn gauges_of(lines: &Entries<'_>, clock: Moment) -> Gauges
+    ensures { result ≡ gauges_of lines.now clock }
 {
     Gauges {
-        visible: count_in_state(MessageState::Visible, journal, clock),
-        delayed: count_in_state(MessageState::Delayed, journal, clock),
-        in_flight: count_in_state(MessageState::InFlight, journal, clock),
-        age: oldest_age(journal, clock),
+        visible: count_in_state(MessageState::Visible, lines, clock),
+        delayed: count_in_state(MessageState::Delayed, lines, clock),
+        in_flight: count_in_state(MessageState::InFlight, lines, clock),
+        age: oldest_age(lines, clock),
     }
 }

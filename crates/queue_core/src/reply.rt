@@ -1,10 +1,10 @@
 //! What a queue answers.
 
-use crate::gauges::Gauges;
 use crate::offers::Offers;
 use crate::parcel::{Arrival, Parcel};
 use journal::Moment;
 use message::MessageId;
+use metric_window::Gauges;
 use queue_config::Settings;
 
 /// A message that was sent: its number in the queue, and its id.

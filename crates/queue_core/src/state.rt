@@ -8,19 +8,22 @@ ghost use Rattle.message.specs.Content.{content_size, is_content};
 ghost use Rattle.queue_config.specs.Settings.{AreSettings, settings_with};
 
 use crate::command::{Command, Maximum, Step, Timeout};
+use crate::entries::Entries;
 use crate::facts::{Candidate, Message, MessageState};
-use crate::gauges::Gauges;
 use crate::offers::{Offer, Offers};
 use crate::reply::{Look, Posted, Reply};
 use crate::{order, reading};
 use journal::{Entry, Event, Journal, Moment, Ticks};
 use message::{Content, Fault, MessageId, QueueName};
-use queue_config::{Limits, Settings, Wish};
+use metric_window::Gauges;
+use queue_config::{AlarmRule, Limits, Settings, Wish};
 use receipt_handle::Handle;
 use std::alloc::Global;
 use std::marker::Model;
 
+mod alarms;
 mod dead_letters;
+mod metrics;
 
 /// How many messages may leave by one receive. This project's own choice.
 const MOST_DEPARTURES: u64 = 100;
@@ -32,16 +35,19 @@ struct Scan {
     leaving: Vec<Candidate>,
 }
 
-/// One queue. Contracts see its uid, its name, its limits, its clock and its journal's lines.
+/// One queue. Contracts see its uid, its name, its limits, the rules of its alarms, its clock and its
+/// journal's lines.
 ///
-/// Each command acts at the later of the moment that it is handed and the queue's clock, which it
-/// leaves there. A closed queue answers each command but a look with `QueueDoesNotExist`, before
-/// anything else is judged, also before `JournalFull`; only its clock moves.
+/// Each command but `FirstParcel` acts at the later of the moment that it is handed and the queue's
+/// clock, which it leaves there; `FirstParcel` leaves the clock as it is. A closed queue answers each
+/// command but a look and `FirstParcel` with `QueueDoesNotExist`, before anything else is judged, also
+/// before `JournalFull`; only its clock moves.
 #[derive(Debug, Drop)]
 pub struct QueueState {
     uid: u64,
     name: QueueName,
     limits: Limits,
+    rules: Vec<AlarmRule>,
     clock: Moment,
     journal: Journal,
 }
@@ -52,9 +58,9 @@ impl Model for QueueState {
 
     ghost Value = { QueueHistory };
 
-    ghost view = { λ q. record { uid = q.uid; name = q.name; limits = q.limits; clock = q.clock; lines = q.journal.lines } };
+    ghost view = { λ q. record { uid = q.uid; name = q.name; limits = q.limits; rules = q.rules.items; clock = q.clock; lines = q.journal.lines } };
 
-    ghost invariant = { λ q. IsKept (record { uid = q.uid; name = q.name; limits = q.limits; clock = q.clock; lines = q.journal.lines }) q.journal.limit };
+    ghost invariant = { λ q. IsKept (record { uid = q.uid; name = q.name; limits = q.limits; rules = q.rules.items; clock = q.clock; lines = q.journal.lines }) q.journal.limit };
 }
 
 impl QueueState {
@@ -68,16 +74,17 @@ impl QueueState {
     ghost use Rattle.queue_core.specs.Kept.{opened_queue};
     ghost use Rattle.queue_core.specs.Run.{AreAnswers, AreExact, after_all};
 
-    /// Opens a queue. `OutOfMemory` is the only refusal.
+    /// Opens a queue, with the rules of its alarms. `OutOfMemory` is the only refusal.
     pub fn open(
         alloc: Global,
         uid: u64,
         name: QueueName,
         settings: Settings,
         limits: Limits,
+        rules: Vec<AlarmRule>,
         at: Moment,
     ) -> Result<QueueState, Fault>
-        ensures { Meets result (Ok (opened_queue uid name settings limits at)) }
+        ensures { Meets result (Ok (opened_queue uid name settings limits rules.items at)) }
     {
         let mut journal = Journal::new(alloc, limits.max_lines as usize + 1)?;
         // A field that is read tells the proof that the numbers are in range.
@@ -88,9 +95,17 @@ impl QueueState {
             uid,
             name,
             limits,
+            rules,
             clock: at,
             journal,
         })
+    }
+
+    /// All entries of its journal.
+    fn entries(&self) -> Entries<'_>
+        ensures { result ≡ self.now.lines }
+    {
+        Entries::of(&self.journal)
     }
 
     /// Moves the clock to a moment, where that is later.
@@ -111,7 +126,7 @@ impl QueueState {
     fn is_closed(&self) -> bool
         ensures { result ≡ is_closed self.now.lines }
     {
-        reading::is_closed(&self.journal)
+        reading::is_closed(&self.entries())
     }
 
     /// What refuses a command before anything of it is asked.
@@ -159,7 +174,7 @@ impl QueueState {
     pub fn settings(&self) -> Settings
         ensures { result ≡ settings_of self.now.lines }
     {
-        reading::settings_of(&self.journal)
+        reading::settings_of(&self.entries())
     }
 
     /// Whether a content is larger than the queue takes.
@@ -182,7 +197,7 @@ impl QueueState {
     pub fn message_count(&self) -> u64
         ensures { result ≡ message_count self.now.lines }
     {
-        reading::message_count(&self.journal)
+        reading::message_count(&self.entries())
     }
 
     /// Whether as many messages are in flight as may be.
@@ -196,7 +211,7 @@ impl QueueState {
     fn in_flight_count(&self) -> u64
         ensures { result ≡ in_flight_count self.now }
     {
-        reading::count_in_state(MessageState::InFlight, &self.journal, self.clock)
+        reading::count_in_state(MessageState::InFlight, &self.entries(), self.clock)
     }
 
     /// How many more messages may be in flight.
@@ -231,7 +246,7 @@ impl QueueState {
         ensures leaving { IfOk result (λ scan. scan.leaving.items ≡ leaving_candidates self.now maximum) }
         ensures errors { IfErr result (λ fault. fault ≡ OutOfMemory) }
     {
-        let order = order::receive_order(alloc, &self.journal, self.clock)?;
+        let order = order::receive_order(alloc, &self.entries(), self.clock)?;
         self.scan_in_order(alloc, order.as_slice(), self.offer_limit(maximum))
     }
 
@@ -295,14 +310,14 @@ impl QueueState {
     {
         // The journal has at most one entry more than this, a number of 32 bits.
         let _most = self.limits.max_lines;
-        reading::receive_count(&self.journal, number)
+        reading::receive_count(&self.entries(), number)
     }
 
     /// When the message of a number was first received, where this is the first time now.
     fn first_receive_or_now(&self, number: u64) -> Moment
         ensures { result ≡ unwrap_or (first_receive_time self.now.lines number) self.now.clock }
     {
-        reading::first_receive_time(&self.journal, number).unwrap_or(self.clock)
+        reading::first_receive_time(&self.entries(), number).unwrap_or(self.clock)
     }
 
     /// The offers of the candidates.
@@ -325,7 +340,7 @@ impl QueueState {
         ensures ok { IfOk result (λ content. content ≡ content_of self.now.lines candidate.now.message) }
         ensures errors { IfErr result (λ fault. fault ≡ OutOfMemory) }
     {
-        match reading::content_of(&self.journal, &candidate.message) {
+        match reading::content_of(&self.entries(), &candidate.message) {
             Some(content) => Ok(Some(content.share()?)),
             None => Ok(None),
         }
@@ -360,9 +375,14 @@ impl QueueState {
         ensures { result
             ≡ is_numbered (λ m. is_in_state InFlight self.now.lines self.now.clock m) self.now.lines number }
     {
-        match reading::message_numbered(&self.journal, number) {
+        match reading::message_numbered(&self.entries(), number) {
             Some(message) => {
-                reading::is_in_state(MessageState::InFlight, &self.journal, self.clock, &message)
+                reading::is_in_state(
+                    MessageState::InFlight,
+                    &self.entries(),
+                    self.clock,
+                    &message,
+                )
             }
             None => false,
         }
@@ -373,8 +393,8 @@ impl QueueState {
         ensures { result
             ≡ is_numbered (λ m. is_live self.now.lines self.now.clock m) self.now.lines number }
     {
-        match reading::message_numbered(&self.journal, number) {
-            Some(message) => reading::is_live(&self.journal, self.clock, &message),
+        match reading::message_numbered(&self.entries(), number) {
+            Some(message) => reading::is_live(&self.entries(), self.clock, &message),
             None => false,
         }
     }
@@ -398,7 +418,7 @@ impl QueueState {
     fn passes_twelve_hours(&self, number: u64, timeout: u32) -> bool
         ensures { result ≡ passes_twelve_hours self.now number timeout }
     {
-        let last = reading::last_receive_time(&self.journal, number).milliseconds();
+        let last = reading::last_receive_time(&self.entries(), number).milliseconds();
         last + 43_200_000 < self.clock.milliseconds() + 1000 * u64::from(timeout)
     }
 
@@ -608,8 +628,8 @@ impl QueueState {
         }
     }
 
-    /// Removes all messages. A full journal answers `JournalFull`; with `OutOfMemory` only the clock
-    /// has moved.
+    /// Removes all messages that are in the queue; those that have left for a dead-letter queue are not
+    /// among them. A full journal answers `JournalFull`; with `OutOfMemory` only the clock has moved.
     pub fn purge(&mut self, alloc: Global, at: Moment, _ticks: &mut Ticks) -> Result<(), Fault>
         ensures answer { Meets (as_reply (λ _. Reply.Done) result) (outcome_at self.old at Command.Purge).reply }
         ensures exact { IsExact (outcome_at self.old at Command.Purge) (as_reply (λ _. Reply.Done) result) }
@@ -689,8 +709,8 @@ impl QueueState {
         Look {
             gauges: self.gauges(),
             settings: self.settings(),
-            created: reading::created_time(&self.journal),
-            modified: reading::modified_time(&self.journal),
+            created: reading::created_time(&self.entries()),
+            modified: reading::modified_time(&self.entries()),
             lines: self.journal.len() as u64,
             clock: self.clock,
             closed: self.is_closed(),
@@ -702,7 +722,7 @@ impl QueueState {
         ensures counts { result ≡ gauges_of self.now.lines self.now.clock }
         ensures legal { IsLegal self.now }
     {
-        reading::gauges_of(&self.journal, self.clock)
+        reading::gauges_of(&self.entries(), self.clock)
     }
 
     /// Does what the call that the command names does. A send shares the content, where the queue is

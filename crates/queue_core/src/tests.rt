@@ -1,11 +1,13 @@
 //! Runs of one queue, with answers that were worked out by hand and never taken from the program,
 //! and what a refused allocation leaves.
 
+mod alarms;
 mod closing;
 mod dead_letters;
 mod limits;
 mod looking;
 mod receiving;
+mod rows;
 mod sending;
 
 use super::*;
@@ -179,7 +181,28 @@ fn open(alloc: Global, attribute: &str, value: &str, limits: Limits) -> Result<Q
     }
     let settings = Settings::default().with(&wish, 0);
     let name = QueueName::read("jobs")?;
-    QueueState::open(alloc, 1, name, settings, limits, Moment::zero())
+    QueueState::open(
+        alloc,
+        1,
+        name,
+        settings,
+        limits,
+        Vec::new(alloc),
+        Moment::zero(),
+    )
+}
+
+/// The answer to a call at a moment, as a text.
+fn answer(
+    alloc: Global,
+    queue: &mut QueueState,
+    ticks: &mut Ticks,
+    at: u64,
+    call: &str,
+) -> Result<String, Fault> {
+    let at = Moment::new(at).ok_or(Fault::InvalidParameterValue)?;
+    let answer = queue.perform(alloc, at, &command(alloc, call)?, ticks);
+    told(alloc, &answer)
 }
 
 /// Asserts the answers to the calls of a text. A line without an arrow opens another queue, with an
@@ -200,9 +223,8 @@ fn run(
             continue;
         };
         let (at, call) = first_word(asked);
-        let at = moment(number(at)?)?;
-        let answer = queue.perform(alloc, at, &command(alloc, call)?, ticks);
-        assert_eq!(rt; told(alloc, &answer)?.as_str(), wanted, "{asked}");
+        let told = answer(alloc, &mut queue, ticks, number(at)?, call)?;
+        assert_eq!(rt; told.as_str(), wanted, "{asked}");
     }
     Ok(())
 }

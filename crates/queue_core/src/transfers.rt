@@ -4,10 +4,11 @@ ghost use Rattle.std.specs.Prelude.{◌≡◌, not, map, drop, slice_get, count_
 ghost use Rattle.std.specs.List.{list_any, find};
 ghost use Rattle.queue_core.specs.Messages.{messages, waits_for, departures, ends_transfer, pending_transfers, accepts, has_accepted};
 
+use crate::entries::{Entries, line_at};
 use crate::facts::Transfer;
-use crate::numbering::{Messages, line_at};
+use crate::numbering::Messages;
 use crate::reading;
-use journal::{Event, Journal};
+use journal::Event;
 use message::Content;
 
 /// Whether an event ends a transfer.
@@ -23,11 +24,11 @@ fn ends_transfer(transfer: Transfer, event: &Event<Content>) -> bool
 }
 
 /// Whether an entry from a place on ends a transfer.
-fn is_ended_from(journal: &Journal, from: usize, transfer: Transfer) -> bool
-    ensures { result ≡ list_any (λ later. ends_transfer transfer later.event) (drop from journal.now.lines) }
+fn is_ended_from(lines: &Entries<'_>, from: usize, transfer: Transfer) -> bool
+    ensures { result ≡ list_any (λ later. ends_transfer transfer later.event) (drop from lines.now) }
 {
-    for place in from..journal.len() {
-        if ends_transfer(transfer, &line_at(journal, place).event) {
+    for place in from..lines.len() {
+        if ends_transfer(transfer, &line_at(lines, place).event) {
             return true;
         }
     }
@@ -35,23 +36,23 @@ fn is_ended_from(journal: &Journal, from: usize, transfer: Transfer) -> bool
 }
 
 /// The first transfer that an event begins and no entry from a place on ends.
-fn first_begun(journal: &Journal, from: usize, event: &Event<Content>) -> Option<Transfer>
-    ensures { result ≡ find (λ t. not (list_any (λ later. ends_transfer t later.event) (drop from journal.now.lines))) (departures event.now) }
+fn first_begun(lines: &Entries<'_>, from: usize, event: &Event<Content>) -> Option<Transfer>
+    ensures { result ≡ find (λ t. not (list_any (λ later. ends_transfer t later.event) (drop from lines.now))) (departures event.now) }
 {
     match event {
         Event::Received {
             leaving,
             target,
             ..
-        } => first_open(journal, from, leaving.as_slice(), *target),
+        } => first_open(lines, from, leaving.as_slice(), *target),
         _ => None,
     }
 }
 
 /// The first of the messages that leave for the dead-letter queue of a uid whose transfer no entry from
 /// a place on ends.
-fn first_open(journal: &Journal, from: usize, leaving: &[u64], target: u64) -> Option<Transfer>
-    ensures { result ≡ find (λ t. not (list_any (λ later. ends_transfer t later.event) (drop from journal.now.lines)))
+fn first_open(lines: &Entries<'_>, from: usize, leaving: &[u64], target: u64) -> Option<Transfer>
+    ensures { result ≡ find (λ t. not (list_any (λ later. ends_transfer t later.event) (drop from lines.now)))
         (map (λ number. record { number = number; target = target }) leaving.now) }
 {
     leaving
@@ -60,16 +61,16 @@ fn first_open(journal: &Journal, from: usize, leaving: &[u64], target: u64) -> O
             number: *number,
             target,
         })
-        .find(|transfer| !is_ended_from(journal, from, *transfer))
+        .find(|transfer| !is_ended_from(lines, from, *transfer))
 }
 
 /// The first transfer that is not confirmed.
-pub(crate) fn first_transfer(journal: &Journal) -> Option<Transfer>
-    ensures { result ≡ slice_get (pending_transfers journal.now.lines) 0 }
+pub(crate) fn first_transfer(lines: &Entries<'_>) -> Option<Transfer>
+    ensures { result ≡ slice_get (pending_transfers lines.now) 0 }
 {
-    for place in 0..journal.len() {
-        let event = &line_at(journal, place).event;
-        if let Some(transfer) = first_begun(journal, place + 1, event) {
+    for place in 0..lines.len() {
+        let event = &line_at(lines, place).event;
+        if let Some(transfer) = first_begun(lines, place + 1, event) {
             return Some(transfer);
         }
     }
@@ -87,11 +88,11 @@ fn accepts(uid: u64, number: u64, event: &Event<Content>) -> bool
 }
 
 /// Whether the transfer of the message of a number from the queue of a uid was accepted.
-pub(crate) fn has_accepted(journal: &Journal, uid: u64, number: u64) -> bool
-    ensures { result ≡ has_accepted journal.now.lines uid number }
+pub(crate) fn has_accepted(lines: &Entries<'_>, uid: u64, number: u64) -> bool
+    ensures { result ≡ has_accepted lines.now uid number }
 {
-    for place in 0..journal.len() {
-        if accepts(uid, number, &line_at(journal, place).event) {
+    for place in 0..lines.len() {
+        if accepts(uid, number, &line_at(lines, place).event) {
             return true;
         }
     }
@@ -99,10 +100,10 @@ pub(crate) fn has_accepted(journal: &Journal, uid: u64, number: u64) -> bool
 }
 
 /// How many messages wait for the dead-letter queue of a uid.
-pub(crate) fn waiting_count(journal: &Journal, target: u64) -> u64
-    ensures { result ≡ count_by (λ m. waits_for journal.now.lines target m) (messages journal.now.lines) }
+pub(crate) fn waiting_count(lines: &Entries<'_>, target: u64) -> u64
+    ensures { result ≡ count_by (λ m. waits_for lines.now target m) (messages lines.now) }
 {
-    Messages::of(journal)
-        .filter(|message| reading::waits_for(journal, target, message))
+    Messages::of(lines)
+        .filter(|message| reading::waits_for(lines, target, message))
         .count() as u64
 }

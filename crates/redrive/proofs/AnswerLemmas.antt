@@ -1,13 +1,13 @@
 -- The answers to a hand-over and to a confirmation, as answers to a step.
-use Rattle.std.proofs.Common.{◌≡◌, ℕ, Bool, true, false, cond, Option, Some, None, Result, Ok, Err, refl, ap}
-use Rattle.std.specs.Prelude.{MatchBool, ⊤, is_some}
+use Rattle.std.proofs.Common.{◌≡◌, ℕ, Bool, true, false, cond, Result, Ok, Err, refl, ap}
+use Rattle.std.specs.Prelude.{MatchBool, ⊤}
 use Rattle.message.specs.declared.fault.Fault.{Fault}
 use Rattle.message.specs.declared.fault.Fault.TheVariants.{QueueDoesNotExist}
 use Rattle.message.specs.Fault.{Meets, is_out_of_memory}
 use Rattle.queue_core.specs.declared.reply.Reply.{Reply}
 use Rattle.redrive.specs.declared.moved.Moved.{Moved}
 use Rattle.redrive.specs.declared.steps.HouseReply.TheVariants.{HandedOver, Confirmed}
-use Rattle.redrive.specs.World.{World, has_queue, first_parcel_in, hand_over_answer, accepted_number, confirm_answer}
+use Rattle.redrive.specs.World.{World, has_queue, hand_over_answer, hand_over_takes_memory, confirm_answer, confirm_takes_memory}
 use Rattle.redrive.specs.Halves.{handed_over, MeetsHandOver}
 use Rattle.redrive.specs.WorldRun.{Answer, as_house_reply, if_there, MeetsAnswer}
 
@@ -23,18 +23,14 @@ handed-exact true answer wanted h =
     ap (λ (a : Result Moved Fault). Ok (HandedOver a)) same
 handed-exact false answer wanted h = absurd cc
 
-no_parcel : {X : Type 0} (o : Option X) → is_some o ≡ false → o ≡ None
-no_parcel None h = refl
-no_parcel (Some x) h = absurd cc
-
 module _ (w : World) (source at : ℕ) where
   pub handed-meets : (answer : Result Moved Fault) → MeetsHandOver (Ok answer) (handed_over w source at)
       → MeetsAnswer (Ok (HandedOver answer)) (if_there w source (Ok (HandedOver (hand_over_answer w source at))))
   handed-meets answer h = handed-there (has_queue w source) answer (hand_over_answer w source at) h
 
-  pub handed-same : (answer : Result Moved Fault) → (first_parcel_in w source ≡ None → Ok answer ≡ handed_over w source at) → is_some (first_parcel_in w source) ≡ false
+  pub handed-same : (answer : Result Moved Fault) → (hand_over_takes_memory w source at ≡ false → Ok answer ≡ handed_over w source at) → hand_over_takes_memory w source at ≡ false
       → Ok (HandedOver answer) ≡ if_there w source (Ok (HandedOver (hand_over_answer w source at)))
-  handed-same answer h none = handed-exact (has_queue w source) answer (hand_over_answer w source at) (h (no_parcel (first_parcel_in w source) none))
+  handed-same answer h none = handed-exact (has_queue w source) answer (hand_over_answer w source at) (h none)
 
   refused-as : (failed : Bool) (fault : Fault) (x : Reply) → MatchBool failed ⊤ (Err fault ≡ Ok x) → MatchBool failed ⊤ (Err fault ≡ Ok (Confirmed x))
   refused-as true fault x h = tt
@@ -76,7 +72,7 @@ module _ (w : World) (source at : ℕ) where
       (confirmed-there (has_queue w source) r (confirm_answer w source at) refl absent meets)
 
   pub confirmed-same : (r : Result Reply Fault) → (has_queue w source ≡ false → r ≡ Err QueueDoesNotExist)
-      → (has_queue w source ≡ true → accepted_number w source ≡ None → r ≡ confirm_answer w source at) → is_some (accepted_number w source) ≡ false
+      → (has_queue w source ≡ true → confirm_takes_memory w source at ≡ false → r ≡ confirm_answer w source at) → confirm_takes_memory w source at ≡ false
       → as_house_reply Confirmed r ≡ if_there w source (as_house_reply Confirmed (confirm_answer w source at))
   confirmed-same r absent exact none =
-      confirmed-exact (has_queue w source) r (confirm_answer w source at) refl absent (λ e. exact e (no_parcel (accepted_number w source) none))
+      confirmed-exact (has_queue w source) r (confirm_answer w source at) refl absent (λ e. exact e none)

@@ -25,7 +25,7 @@ use Rattle.queue_core.specs.States.{message_numbered}
 use Rattle.queue_core.specs.Queue.{QueueHistory, Outcome, at_moment, first_refusal, unless_refused, orphan_outcome, outcome_at, with_optional_event, after_answer, parcel_of, transferred_parcel, first_transfer, first_parcel_of}
 use Rattle.redrive.specs.declared.moved.Moved.{Moved}
 use Rattle.redrive.specs.declared.moved.Moved.TheVariants as moved
-use Rattle.redrive.specs.World.{World, queue_of_uid, has_queue, first_parcel_in, Delivery, delivery_of, as_moved, delivered_answer, arrive_answer, world_after_command, world_after_hand_over, needs_confirmation, is_accepted, accepted_number, confirm_answer, world_after_confirm, answer_of_halves, IsHandedOver, IsMoved}
+use Rattle.redrive.specs.World.{World, queue_of_uid, has_queue, first_parcel_in, Delivery, delivery_of, as_moved, delivered_answer, arrive_answer, world_after_command, world_after_hand_over, needs_confirmation, is_accepted, accepted_number, confirm_answer, confirm_takes_memory, world_after_confirm, answer_of_halves, IsHandedOver, IsMoved}
 use Rattle.redrive.proofs.RegistryLemmas.{after_answer-uid, changed-queue}
 
 -- ---- a journal with more entries
@@ -205,15 +205,16 @@ needs-Ok (Ok m) h = (m, refl)
 needs-Ok (Err fault) h = absurd cc
 
 handed-Ok : (old between : World) (source at : ℕ) (m : Moved) → IsHandedOver old source at (Ok m) between → between ≡ world_after_hand_over {T = Moved} old source at (Ok m)
-handed-Ok old between source at m (inl is) = is
-handed-Ok old between source at m (inr h) = absurd (false≢true h.0)
+handed-Ok old between source at m (inl h) = h.left
+handed-Ok old between source at m (inr h) = absurd (false≢true h.no_memory)
 
 module _ (old between new : World) (source at : ℕ) (half : Result Moved Fault) (meets : Meets half (arrive_answer old source at)) (first_half : IsHandedOver old source at half between) where
   -- with a confirmation
   pub IsMoved-confirmed : (m : Moved) (answer : Result Moved Fault) (confirmed : Result Reply Fault) → half ≡ Ok m → needs_confirmation (Ok m) ≡ true
-      → Meets confirmed (confirm_answer between source at) → answer ≡ answer_of_halves (Ok m) confirmed → new ≡ world_after_confirm between source at confirmed
+      → Meets confirmed (confirm_answer between source at) → (confirm_takes_memory between source at ≡ false → confirmed ≡ confirm_answer between source at)
+      → answer ≡ answer_of_halves (Ok m) confirmed → new ≡ world_after_confirm between source at confirmed
       → IsMoved old source at answer new
-  IsMoved-confirmed m answer confirmed is needs second answered left =
+  IsMoved-confirmed m answer confirmed is needs second exact answered left =
       let same : between ≡ world_after_hand_over {T = Moved} old source at (Ok m) = handed-Ok old between source at m (subst (λ (r : Result Moved Fault). IsHandedOver old source at r between) is first_half) in
       let number = moved-number old source at m needs (subst (λ (r : Result Moved Fault). Meets r (arrive_answer old source at)) is meets) in
       record {
@@ -227,6 +228,7 @@ module _ (old between new : World) (source at : ℕ) (half : Result Moved Fault)
           accepted = rw same (number.1.1);
           confirmed = confirmed;
           meets = second;
+          exact = exact;
           answered = rw is answered;
           left = left;
         };

@@ -1,11 +1,14 @@
 -- The configured queues opened one after another.
-use Rattle.std.proofs.Common.{◌≡◌, ℕ, ◌+◌, ◌<◌, ◌≤◌, ◌^◌, Bool, false, ◌||◌, List, [], ◌∷◌, ◌++◌, length, get_or, take, drop, map, None, refl, sym, ap, subst, ◌∙◌, arith, append_assoc}
-use Rattle.std.specs.Prelude.{nat_le, fold}
+use Rattle.std.proofs.Common.{◌≡◌, ℕ, ◌+◌, ◌<◌, ◌≤◌, ◌^◌, ◌≢◌, Bool, true, false, cond, nat_eq, ◌||◌, List, [], ◌∷◌, ◌++◌, length, get_or, take, drop, map, None, refl, sym, ap, subst, ◌∙◌, arith, append_assoc}
+use Rattle.std.specs.Prelude.{nat_le, fold, filter}
 use Rattle.std.specs.List.{find, IsDistinct, AllByRecursion}
 use Rattle.std.specs.Str.{bytes_eq}
 use Rattle.std.proofs.lemmas.Bool.Decides.{nat_tests}
-use Rattle.std.proofs.lemmas.List.{append-nil, length-append, length-take-le, drop_more, take-append-drop}
-use Rattle.queue_config.specs.Config.{AreConfigured}
+use Rattle.std.proofs.lemmas.List.{append-nil, map-append, take_more, length-append, length-take-le, drop_more, take-append-drop}
+use Rattle.std.proofs.lemmas.List.Elements.{filter_more}
+use Rattle.std.proofs.lemmas.List.Sums.{fold_push}
+use Rattle.queue_config.specs.Config.{AreConfigured, rules_of}
+use Rattle.queue_config.specs.declared.config.ConfiguredAlarm.{ConfiguredAlarm}
 use Rattle.queue_config.specs.Limits.{QueueLimits}
 use Rattle.queue_config.specs.declared.config.ConfiguredQueue.{ConfiguredQueue}
 use Rattle.queue_core.specs.Queue.{QueueHistory}
@@ -32,55 +35,88 @@ map-both : {X K : Type 0} (key : X → K) (xs : List X) (x : X) (ys : List X) �
 map-both key [] x ys = refl
 map-both key (y ∷ xs) x ys = ap (λ (ks : List _). key y ∷ ks) (map-both key xs x ys)
 
+-- ---- the rules of one queue
+
+rules_of-more : (alarms : List ConfiguredAlarm) (uid i : ℕ) (alarm : ConfiguredAlarm) → i < length alarms → alarm ≡ get_or alarms i alarm
+    → rules_of (take (i + 1) alarms) uid ≡ map (λ a. a.rule) (filter (λ a. nat_eq a.queue uid) (take i alarms) ++ cond (nat_eq alarm.queue uid) (alarm ∷ []) [])
+rules_of-more alarms uid i alarm inside here =
+    ap (map (λ (a : ConfiguredAlarm). a.rule)) (filter_more (λ (a : ConfiguredAlarm). nat_eq a.queue uid) alarms i alarm inside
+    ∙ ap (λ (a : ConfiguredAlarm). filter (λ a. nat_eq a.queue uid) (take i alarms) ++ cond (nat_eq a.queue uid) (a ∷ []) []) (sym here))
+
+pub rules_of-own : (alarms : List ConfiguredAlarm) (uid i : ℕ) (alarm : ConfiguredAlarm) → i < length alarms → alarm ≡ get_or alarms i alarm → alarm.queue ≡ uid
+    → rules_of (take (i + 1) alarms) uid ≡ rules_of (take i alarms) uid ++ alarm.rule ∷ []
+rules_of-own alarms uid i alarm inside here own =
+    let yes_own : nat_eq alarm.queue uid ≡ true = grind (arith, nat_tests) in
+    rules_of-more alarms uid i alarm inside here
+    ∙ ap (λ (b : Bool). map (λ a. a.rule) (filter (λ a. nat_eq a.queue uid) (take i alarms) ++ cond b (alarm ∷ []) [])) yes_own
+    ∙ map-append (λ (a : ConfiguredAlarm). a.rule) (filter (λ a. nat_eq a.queue uid) (take i alarms)) (alarm ∷ [])
+
+pub rules_of-other : (alarms : List ConfiguredAlarm) (uid i : ℕ) (alarm : ConfiguredAlarm) → i < length alarms → alarm ≡ get_or alarms i alarm → alarm.queue ≢ uid
+    → rules_of (take (i + 1) alarms) uid ≡ rules_of (take i alarms) uid
+rules_of-other alarms uid i alarm inside here other =
+    let no_own : nat_eq alarm.queue uid ≡ false = grind (arith, nat_tests) in
+    rules_of-more alarms uid i alarm inside here
+    ∙ ap (λ (b : Bool). map (λ a. a.rule) (filter (λ a. nat_eq a.queue uid) (take i alarms) ++ cond b (alarm ∷ []) [])) no_own
+    ∙ ap (map (λ (a : ConfiguredAlarm). a.rule)) (append-nil (filter (λ a. nat_eq a.queue uid) (take i alarms)))
+
 -- ---- the world of some queues
 
-module _ (at : ℕ) where
+module _ (at : ℕ) (alarms : List ConfiguredAlarm) where
   opened : World → List ConfiguredQueue → World
-  opened w qs = fold (λ w q. with_queue w (next_queue w at q.name q.settings)) w qs
+  opened w qs = fold (λ w q. with_queue w (next_queue w at q.name q.settings (rules_of alarms w.next_uid))) w qs
 
   names-opened : (w : World) (qs : List ConfiguredQueue) → map (λ q. q.name) (opened w qs).queues ≡ map (λ q. q.name) w.queues ++ map (λ q. q.name) qs
   unfolding opened
   names-opened w [] = sym (append-nil (map (λ (q : QueueHistory). q.name) w.queues))
   names-opened w (q ∷ qs) =
-      names-opened (with_queue w (next_queue w at q.name q.settings)) qs
-      ∙ ap (λ (names : List (List ℕ)). names ++ map (λ (q : ConfiguredQueue). q.name) qs) (map-push (λ (q : QueueHistory). q.name) w.queues (next_queue w at q.name q.settings))
+      names-opened (with_queue w (next_queue w at q.name q.settings (rules_of alarms w.next_uid))) qs
+      ∙ ap (λ (names : List (List ℕ)). names ++ map (λ (q : ConfiguredQueue). q.name) qs) (map-push (λ (q : QueueHistory). q.name) w.queues (next_queue w at q.name q.settings (rules_of alarms w.next_uid)))
       ∙ append_assoc (map (λ (q : QueueHistory). q.name) w.queues) (q.name ∷ []) (map (λ (q : ConfiguredQueue). q.name) qs)
 
   length-opened : (w : World) (qs : List ConfiguredQueue) → length (opened w qs).queues ≡ length w.queues + length qs
   unfolding opened
   length-opened w [] = omega arith
   length-opened w (q ∷ qs) =
-      omega (arith, length-opened (with_queue w (next_queue w at q.name q.settings)) qs, length-append w.queues (next_queue w at q.name q.settings ∷ []))
+      omega (arith, length-opened (with_queue w (next_queue w at q.name q.settings (rules_of alarms w.next_uid))) qs, length-append w.queues (next_queue w at q.name q.settings (rules_of alarms w.next_uid) ∷ []))
 
   next-opened : (w : World) (qs : List ConfiguredQueue) → (opened w qs).next_uid ≡ w.next_uid + length qs
   unfolding opened
   next-opened w [] = omega arith
-  next-opened w (q ∷ qs) = omega (arith, next-opened (with_queue w (next_queue w at q.name q.settings)) qs)
+  next-opened w (q ∷ qs) = omega (arith, next-opened (with_queue w (next_queue w at q.name q.settings (rules_of alarms w.next_uid))) qs)
+
+-- one queue more
+pub opened-more : (limits : QueueLimits) (alarms : List ConfiguredAlarm) (at : ℕ) (qs : List ConfiguredQueue) (i : ℕ) (q : ConfiguredQueue) (w : World)
+    → w ≡ new_world (record { limits = limits; queues = take i qs; alarms = alarms }) at → i < length qs → q ≡ get_or qs i q
+    → with_queue w (next_queue w at q.name q.settings (rules_of alarms w.next_uid)) ≡ new_world (record { limits = limits; queues = take (i + 1) qs; alarms = alarms }) at
+opened-more limits alarms at qs i q w is inside here =
+    ap (λ (w : World). with_queue w (next_queue w at q.name q.settings (rules_of alarms w.next_uid))) is
+    ∙ sym (ap (λ (xs : List ConfiguredQueue). new_world (record { limits = limits; queues = xs; alarms = alarms }) at) (take_more qs i q inside ∙ ap (λ (x : ConfiguredQueue). take i qs ++ x ∷ []) (sym here))
+    ∙ fold_push (λ (w : World) (q : ConfiguredQueue). with_queue w (next_queue w at q.name q.settings (rules_of alarms w.next_uid))) (empty_world limits) (take i qs) q)
 
 -- the name of the next queue is new
-pub next_name-new : (house : World) (limits : QueueLimits) (at : ℕ) (qs : List ConfiguredQueue) (i : ℕ) (q : ConfiguredQueue)
-    → house ≡ new_world (record { limits = limits; queues = take i qs }) at → i < length qs → q ≡ get_or qs i q → AreConfigured qs → queue_named house q.name ≡ None
+pub next_name-new : (house : World) (limits : QueueLimits) (alarms : List ConfiguredAlarm) (at : ℕ) (qs : List ConfiguredQueue) (i : ℕ) (q : ConfiguredQueue)
+    → house ≡ new_world (record { limits = limits; queues = take i qs; alarms = alarms }) at → i < length qs → q ≡ get_or qs i q → AreConfigured qs → queue_named house q.name ≡ None
 unfolding opened
-next_name-new house limits at qs i q is l here h =
+next_name-new house limits alarms at qs i q is l here h =
     let split : qs ≡ take i qs ++ q ∷ drop (i + 1) qs = sym (take-append-drop i qs) ∙ ap (λ (rest : List ConfiguredQueue). take i qs ++ rest) (drop_more qs i q l ∙ ap (λ x. x ∷ drop (i + 1) qs) (sym here)) in
     let names : map (λ (q : ConfiguredQueue). q.name) qs ≡ map (λ (q : ConfiguredQueue). q.name) (take i qs) ++ q.name ∷ map (λ (q : ConfiguredQueue). q.name) (drop (i + 1) qs) =
     ap (map (λ (q : ConfiguredQueue). q.name)) split ∙ map-both (λ (q : ConfiguredQueue). q.name) (take i qs) q (drop (i + 1) qs) in
     let differ : AllByRecursion (λ y. bytes_eq y q.name ≡ false) (map (λ (q : ConfiguredQueue). q.name) (take i qs)) =
     apart bytes_eq (λ (q : ConfiguredQueue). q.name) (map (λ (q : ConfiguredQueue). q.name) (take i qs)) q.name (map (λ (q : ConfiguredQueue). q.name) (drop (i + 1) qs)) (subst (λ (ns : List (List ℕ)). IsDistinct bytes_eq ns) names h.names) in
     let there : map (λ (q : QueueHistory). q.name) house.queues ≡ map (λ (q : ConfiguredQueue). q.name) (take i qs) =
-    ap (λ (w : World). map (λ (q : QueueHistory). q.name) w.queues) is ∙ names-opened at (empty_world limits) (take i qs) in
+    ap (λ (w : World). map (λ (q : QueueHistory). q.name) w.queues) is ∙ names-opened at alarms (empty_world limits) (take i qs) in
     find-apart bytes_eq (λ (q : QueueHistory). q.name) house.queues q.name (subst (λ (ns : List (List ℕ)). AllByRecursion (λ y. bytes_eq y q.name ≡ false) ns) (sym there) differ)
 
 few : (n m : ℕ) → n < 1000 → m ≤ 1000 → (nat_le 1000 n || nat_le (2 ^ 62) m) ≡ false
 few n m h k = grind (arith, nat_tests)
 
 -- and there is a place for it
-pub next_name-place : (house : World) (limits : QueueLimits) (at : ℕ) (qs : List ConfiguredQueue) (i : ℕ)
-    → house ≡ new_world (record { limits = limits; queues = take i qs }) at → i < length qs → AreConfigured qs → has_no_place house ≡ false
+pub next_name-place : (house : World) (limits : QueueLimits) (alarms : List ConfiguredAlarm) (at : ℕ) (qs : List ConfiguredQueue) (i : ℕ)
+    → house ≡ new_world (record { limits = limits; queues = take i qs; alarms = alarms }) at → i < length qs → AreConfigured qs → has_no_place house ≡ false
 unfolding opened
-next_name-place house limits at qs i is l h =
+next_name-place house limits alarms at qs i is l h =
     let count = h.count in
     let some : length (take i qs) ≡ i = length-take-le i qs (omega arith) in
-    let here : length house.queues ≡ 0 + length (take i qs) = ap (λ (w : World). length w.queues) is ∙ length-opened at (empty_world limits) (take i qs) in
-    let next : house.next_uid ≡ 1 + length (take i qs) = ap (λ (w : World). w.next_uid) is ∙ next-opened at (empty_world limits) (take i qs) in
+    let here : length house.queues ≡ 0 + length (take i qs) = ap (λ (w : World). length w.queues) is ∙ length-opened at alarms (empty_world limits) (take i qs) in
+    let next : house.next_uid ≡ 1 + length (take i qs) = ap (λ (w : World). w.next_uid) is ∙ next-opened at alarms (empty_world limits) (take i qs) in
     few (length house.queues) house.next_uid (omega arith) (omega arith)

@@ -14,6 +14,7 @@ use Rattle.message.specs.declared.fault.Fault.{Fault}
 use Rattle.message.specs.declared.fault.Fault.TheVariants.{QueueDoesNotExist}
 use Rattle.message.specs.Fault.{Meets, is_out_of_memory}
 use Rattle.message.specs.Content.{ContentText}
+use Rattle.queue_config.specs.AlarmRules.{Rule}
 use Rattle.queue_config.specs.Limits.{QueueLimits, default_limits}
 use Rattle.queue_config.specs.Settings.{QueueSettings, default_settings}
 use Rattle.journal.specs.declared.entry.Event.{Event}
@@ -49,10 +50,10 @@ IsRegistry-with_queue w q h none uid limits unclosed place =
       unclosed = All-push (λ x. is_closed x.lines ≡ false) w.queues q h.unclosed unclosed;
     }
 
-pub IsRegistry-opened : (w new : World) (at : ℕ) (name : List ℕ) (settings : QueueSettings) (r : Result ℕ Fault) → IsRegistry w → queue_named w name ≡ None
-    → has_no_place w ≡ false → OnOk r (new ≡ with_queue w (next_queue w at name settings)) → OnErr r (new ≡ w) → IsRegistry new
-IsRegistry-opened w new at name settings (Ok uid) h none place ok err = rw ok (IsRegistry-with_queue w (next_queue w at name settings) h none refl refl refl place)
-IsRegistry-opened w new at name settings (Err fault) h none place ok err = rw err h
+pub IsRegistry-opened : (w new : World) (at : ℕ) (name : List ℕ) (settings : QueueSettings) (rules : List Rule) (r : Result ℕ Fault) → IsRegistry w → queue_named w name ≡ None
+    → has_no_place w ≡ false → OnOk r (new ≡ with_queue w (next_queue w at name settings rules)) → OnErr r (new ≡ w) → IsRegistry new
+IsRegistry-opened w new at name settings rules (Ok uid) h none place ok err = rw ok (IsRegistry-with_queue w (next_queue w at name settings rules) h none refl refl refl place)
+IsRegistry-opened w new at name settings rules (Err fault) h none place ok err = rw err h
 
 -- ---- queues changed, each under its uid, name and limits
 
@@ -122,7 +123,7 @@ uid_of q = q.uid
 
 -- some queue, read only past the end of a list
 pub some_queue : QueueHistory
-some_queue = next_queue (empty_world default_limits) 0 [] default_settings
+some_queue = next_queue (empty_world default_limits) 0 [] default_settings []
 
 pub present-absent : (w : World) (uid place : ℕ) → position (λ q. nat_eq q.uid uid) w.queues ≡ Some place → queue_of_uid w uid ≡ None → ⊥
 present-absent w uid place h none =
@@ -204,17 +205,17 @@ found-other w q other differs =
     rw (find-append (λ x. bytes_eq x.name other) w.queues (q ∷ []), bytes_eq-false q.name other (bytes_eq q.name other) (bytes_eq-Decides q.name other) (λ e. differs (sym e)))
     (same-or (find (λ x. bytes_eq x.name other) w.queues))
 
-pub found-opened : (old new : World) (at : ℕ) (name : List ℕ) (settings : QueueSettings) (r : Result ℕ Fault) → queue_named old name ≡ None → Meets r (Ok old.next_uid)
-    → OnOk r (new ≡ with_queue old (next_queue old at name settings)) → IfOk r (λ uid. found_uid new name ≡ Some uid)
-found-opened old new at name settings (Ok uid) none meets ok =
+pub found-opened : (old new : World) (at : ℕ) (name : List ℕ) (settings : QueueSettings) (rules : List Rule) (r : Result ℕ Fault) → queue_named old name ≡ None → Meets r (Ok old.next_uid)
+    → OnOk r (new ≡ with_queue old (next_queue old at name settings rules)) → IfOk r (λ uid. found_uid new name ≡ Some uid)
+found-opened old new at name settings rules (Ok uid) none meets ok =
     let e : uid ≡ old.next_uid = cc in
-    rw (ok, e) (found-new old (next_queue old at name settings) none)
-found-opened old new at name settings (Err fault) none meets ok = tt
+    rw (ok, e) (found-new old (next_queue old at name settings rules) none)
+found-opened old new at name settings rules (Err fault) none meets ok = tt
 
-pub others-opened : (old new : World) (at : ℕ) (name : List ℕ) (settings : QueueSettings) (r : Result ℕ Fault)
-    → OnOk r (new ≡ with_queue old (next_queue old at name settings)) → OnErr r (new ≡ old) → (other : List ℕ) → other ≢ name → found_uid new other ≡ found_uid old other
-others-opened old new at name settings (Ok uid) ok err other differs = rw ok (found-other old (next_queue old at name settings) other differs)
-others-opened old new at name settings (Err fault) ok err other differs = rw err refl
+pub others-opened : (old new : World) (at : ℕ) (name : List ℕ) (settings : QueueSettings) (rules : List Rule) (r : Result ℕ Fault)
+    → OnOk r (new ≡ with_queue old (next_queue old at name settings rules)) → OnErr r (new ≡ old) → (other : List ℕ) → other ≢ name → found_uid new other ≡ found_uid old other
+others-opened old new at name settings rules (Ok uid) ok err other differs = rw ok (found-other old (next_queue old at name settings rules) other differs)
+others-opened old new at name settings rules (Err fault) ok err other differs = rw err refl
 
 -- ---- every queue changed, one after another
 

@@ -1,14 +1,14 @@
 -- A run of steps in the registry: one step on, at its end, and what holds of all of it.
 use Rattle.std.proofs.Common.{◌≡◌, ℕ, ◌+◌, ◌<◌, ◌≤◌, false, length, List, [], ◌∷◌, ◌++◌, get_or, map, take, drop, Option, refl, sym, ap, subst, ◌∙◌, append_assoc}
 use Rattle.std.proofs.lemmas.List.{append-nil, drop_all, map_more}
-use Rattle.queue_core.specs.declared.gauges.Gauges.{Gauges}
+use Rattle.metric_window.specs.declared.gauges.Gauges.{Gauges}
 use Rattle.queue_core.specs.States.{gauges_of}
 use Rattle.queue_core.specs.Queue.{QueueHistory}
 use Rattle.redrive.specs.declared.steps.HouseStep.{HouseStep}
-use Rattle.redrive.specs.declared.steps.QueueGauges.{QueueGauges}
+use Rattle.redrive.specs.declared.steps.QueueMetrics.{QueueMetrics}
 use Rattle.redrive.specs.World.{World, queue_of_uid, IsRegistry}
 use Rattle.redrive.specs.History.{AllQueues, IsWholeHistory}
-use Rattle.redrive.specs.WorldRun.{Answer, answer_of_step, needs_memory, MeetsAnswer, IsAnswerOf, world_after, all_after, AreHouseAnswers, world_after_all, history_after, queue_after, IsAsIfAlone, AreTold, measured_queue}
+use Rattle.redrive.specs.WorldRun.{Answer, answer_of_step, needs_memory, MeetsAnswer, IsAnswerOf, world_after, all_after, AreHouseAnswers, world_after_all, history_after, queue_after, IsAsIfAlone, AreTold, metrics_of}
 use Rattle.redrive.proofs.StepLemmas.{queue_after-world, IsOwnAnswer-world}
 use Rattle.redrive.proofs.HistoryLemmas.{IsWholeHistory-after}
 use Rattle.redrive.proofs.ToldLemmas.{IsToldBy-world}
@@ -29,7 +29,7 @@ pub Continues-first : (w : World) (steps : List HouseStep) → Continues w steps
 Continues-first w steps = record { answered = λ rest h. h; state = λ rest. refl }
 
 pub Continues-step : (first : World) (steps : List HouseStep) (answers : List Answer) (now : World) (left rest : List HouseStep) (step : HouseStep) (answer : Answer) (next : World)
-    → Continues first steps answers now left → left ≡ step ∷ rest → IsRegistry now → MeetsAnswer answer (answer_of_step now step) → (needs_memory now step ≡ false → answer ≡ answer_of_step now step) → next ≡ world_after now step answer
+    → Continues first steps answers now left → left ≡ step ∷ rest → IsRegistry now → MeetsAnswer answer (answer_of_step now step) → (needs_memory now step answer ≡ false → answer ≡ answer_of_step now step) → next ≡ world_after now step answer
     → Continues first steps (answers ++ answer ∷ []) next rest
 Continues-step first steps answers now left rest step answer next h is registry meets exact after = record {
   answered = λ others p.
@@ -84,12 +84,10 @@ AreTold-run w (step ∷ steps) (answer ∷ answers) h = (IsToldBy-world w step a
 
 -- ---- the queues counted, one more
 
-pub measured-more : (qs : List QueueHistory) (i : ℕ) (q : QueueHistory) (before after : List QueueGauges) (uid : ℕ) (gauges : Gauges) → i < length qs → q ≡ get_or qs i q
-    → before ≡ map measured_queue (take i qs) → uid ≡ q.uid → gauges ≡ gauges_of q.lines q.clock → after ≡ before ++ record { uid = uid; gauges = gauges } ∷ []
-    → after ≡ map measured_queue (take (i + 1) qs)
-measured-more qs i q before after uid gauges l here same own counted is =
-    let told : record { uid = uid; gauges = gauges } ≡ measured_queue q =
-    ap (λ (u : ℕ). record { uid = u; gauges = gauges }) own ∙ ap (λ (g : Gauges). record { uid = q.uid; gauges = g }) counted in
-    is ∙ ap (λ (done : List QueueGauges). done ++ record { uid = uid; gauges = gauges } ∷ []) same
-    ∙ ap (λ (g : QueueGauges). map measured_queue (take i qs) ++ g ∷ []) (told ∙ ap measured_queue here)
-    ∙ sym (map_more measured_queue qs i q l)
+pub measured-more : (minute alarm : ℕ) (qs : List QueueHistory) (i : ℕ) (q : QueueHistory) (before after : List QueueMetrics) (told : QueueMetrics) → i < length qs → q ≡ get_or qs i q
+    → before ≡ map (λ q. metrics_of minute alarm q) (take i qs) → told ≡ metrics_of minute alarm q → after ≡ before ++ told ∷ []
+    → after ≡ map (λ q. metrics_of minute alarm q) (take (i + 1) qs)
+measured-more minute alarm qs i q before after told l here same own is =
+    is ∙ ap (λ (done : List QueueMetrics). done ++ told ∷ []) same
+    ∙ ap (λ (m : QueueMetrics). map (λ q. metrics_of minute alarm q) (take i qs) ++ m ∷ []) (own ∙ ap (λ (q : QueueHistory). metrics_of minute alarm q) here)
+    ∙ sym (map_more (λ q. metrics_of minute alarm q) qs i q l)

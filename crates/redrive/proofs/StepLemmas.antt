@@ -76,12 +76,12 @@ or-none (Some x) = refl
 -- the queue that is opened has the next uid, which no queue has
 opened-uid : (w : World) (uid at : ℕ) (name : List ℕ) (wish : RequestedAttributes) (own : Bool) → nat_eq w.next_uid uid ≡ own → IsRegistry w
     → queue_of_uid (with_queue w (new_queue w at name wish)) uid
-    ≡ cond own (Some (unwrap_or (queue_of_uid w uid) (opened_queue uid name (settings_with default_settings wish (target_uid w wish)) w.limits at))) (queue_of_uid w uid)
+    ≡ cond own (Some (unwrap_or (queue_of_uid w uid) (opened_queue uid name (settings_with default_settings wish (target_uid w wish)) w.limits [] at))) (queue_of_uid w uid)
 opened-uid w uid at name wish true e h =
     let same : w.next_uid ≡ uid = eqb-true w.next_uid uid e in
     let unused : queue_of_uid w uid ≡ None = subst (λ (u : ℕ). queue_of_uid w u ≡ None) same (find-unused uid_of w.next_uid w.queues h.used) in
     rw (find-append (λ x. nat_eq x.uid uid) w.queues (new_queue w at name wish ∷ []), unused, e)
-    (ap (λ (u : ℕ). Some (opened_queue u name (settings_with default_settings wish (target_uid w wish)) w.limits at)) same)
+    (ap (λ (u : ℕ). Some (opened_queue u name (settings_with default_settings wish (target_uid w wish)) w.limits [] at)) same)
 opened-uid w uid at name wish false e h =
     rw (find-append (λ x. nat_eq x.uid uid) w.queues (new_queue w at name wish ∷ []), e) (or-none (queue_of_uid w uid))
 
@@ -105,12 +105,12 @@ created-queue : (w : World) (uid at : ℕ) (name : List ℕ) (wish : RequestedAt
     → queue_named w name ≡ known → IsRegistry w
     → Meets answer (as_house_reply Created (cond may (option_map_or (λ q. existing_answer wish (target_uid w wish) q) known (cond full (Err OverLimit) (Ok w.next_uid))) (Err InvalidAttributeValue)))
     → queue_of_uid (cond (is_out_of_memory answer) w (cond (may && option_map_or (λ q. false) known (not full)) (with_queue w (new_queue w at name wish)) w)) uid
-    ≡ cond (answers_uid uid answer) (Some (unwrap_or (queue_of_uid w uid) (opened_queue uid name (settings_with default_settings wish (target_uid w wish)) w.limits at))) (queue_of_uid w uid)
+    ≡ cond (answers_uid uid answer) (Some (unwrap_or (queue_of_uid w uid) (opened_queue uid name (settings_with default_settings wish (target_uid w wish)) w.limits [] at))) (queue_of_uid w uid)
 created-queue w uid at name wish (Ok reply) false known full is h meets = absurd cc
 created-queue w uid at name wish (Ok reply) true (Some q) full known h meets =
     let p = created-only (existing_answer wish (target_uid w wish) q) reply meets in
     rw (p.1.0)
-    (known-uid w uid p.0 name q (opened_queue uid name (settings_with default_settings wish (target_uid w wish)) w.limits at) (nat_eq p.0 uid) refl
+    (known-uid w uid p.0 name q (opened_queue uid name (settings_with default_settings wish (target_uid w wish)) w.limits [] at) (nat_eq p.0 uid) refl
     (agreed-uid (has_all_requested wish (target_uid w wish) q) q.uid p.0 QueueNameExists p.1.1) known)
 created-queue w uid at name wish (Ok reply) true None true known h meets = absurd cc
 created-queue w uid at name wish (Ok reply) true None false known h meets =

@@ -8,3 +8,5 @@ pub mod Fates
 pub mod Holders
 pub mod Laws
 pub mod Answering
+pub mod Calls
+pub mod Targets

@@ -52,6 +52,7 @@ abbrev pub three_queues : Configuration
 three_queues = record {
   limits = default_limits;
   queues = record { name = name_a; settings = with_target name_b 2 } ∷ record { name = name_b; settings = with_target name_c 3 } ∷ record { name = name_c; settings = default_settings } ∷ [];
+  alarms = [];
 }
 
 -- what is live after these steps

@@ -6,7 +6,8 @@ use Rattle.std.specs.Str.{bytes_eq}
 use Rattle.message.specs.declared.fault.Fault.{Fault}
 use Rattle.message.specs.declared.fault.Fault.TheVariants.{QueueDoesNotExist, QueueNameExists, InvalidAttributeValue, OverLimit, UnsupportedOperation}
 use Rattle.message.specs.Fault.{is_out_of_memory, Meets}
-use Rattle.queue_config.specs.Config.{Configuration}
+use Rattle.queue_config.specs.AlarmRules.{Rule}
+use Rattle.queue_config.specs.Config.{Configuration, rules_of}
 use Rattle.queue_config.specs.Limits.{QueueLimits}
 use Rattle.queue_config.specs.Settings.{QueueSettings, RequestedAttributes, default_settings, settings_with, requested_target, same_settings}
 use Rattle.journal.specs.declared.entry.Event.TheVariants.{Closed}
@@ -38,12 +39,13 @@ abbrev pub with_queue : World → QueueHistory → World
 with_queue w q = record w { next_uid = w.next_uid + 1; queues = w.queues ++ q ∷ [] }
 
 -- a queue of the next uid
-abbrev pub next_queue : World → ℕ → List ℕ → QueueSettings → QueueHistory
-next_queue w at name settings = opened_queue w.next_uid name settings w.limits at
+abbrev pub next_queue : World → ℕ → List ℕ → QueueSettings → List Rule → QueueHistory
+next_queue w at name settings rules = opened_queue w.next_uid name settings w.limits rules at
 
--- the configured queues, in their order
+-- the configured queues, in their order, each with the rules of its own alarms
 abbrev pub new_world : Configuration → ℕ → World
-new_world config at = fold (λ w q. with_queue w (next_queue w at q.name q.settings)) (empty_world config.limits) config.queues
+new_world config at =
+    fold (λ w q. with_queue w (next_queue w at q.name q.settings (rules_of config.alarms w.next_uid))) (empty_world config.limits) config.queues
 
 -- ---- finding a queue
 
@@ -113,7 +115,7 @@ opens_queue w name wish = may_name_target w name wish && option_map_or (λ q. fa
 
 -- a queue of the next uid with what is requested, and the defaults of Amazon SQS for the rest
 abbrev pub new_queue : World → ℕ → List ℕ → RequestedAttributes → QueueHistory
-new_queue w at name wish = next_queue w at name (settings_with default_settings wish (target_uid w wish))
+new_queue w at name wish = next_queue w at name (settings_with default_settings wish (target_uid w wish)) []
 
 -- what a create leaves: one queue more where it opens one, and else the world as it was
 abbrev pub world_after_create : {T : Type 0} → World → ℕ → List ℕ → RequestedAttributes → Result T Fault → World
@@ -209,6 +211,11 @@ hand_over_answer w source at = option_map_or (λ p. delivered_answer w at (deliv
 abbrev pub arrive_answer : World → ℕ → ℕ → Result Moved Fault
 arrive_answer w source at = if has_queue w source then hand_over_answer w source at else Err QueueDoesNotExist
 
+-- whether the queue that the parcel goes to takes memory for its answer
+abbrev pub hand_over_takes_memory : World → ℕ → ℕ → Bool
+hand_over_takes_memory w source at =
+    option_map_or (λ p. takes_memory_in w (delivery_of w source p).uid at (delivery_of w source p).command) (first_parcel_in w source) false
+
 -- what it leaves, where the queue that the parcel goes to answers so
 abbrev pub world_after_hand_over : {T : Type 0} → World → ℕ → ℕ → Result T Fault → World
 world_after_hand_over w source at answer =
@@ -226,17 +233,31 @@ accepted_number w source = option_and_then (λ p. if is_accepted w p then Some p
 abbrev pub confirm_answer : World → ℕ → ℕ → Result Reply Fault
 confirm_answer w source at = option_map_or (λ number. queue_answer w source at (Settle number)) (accepted_number w source) (Ok (replies.Settled false))
 
+-- whether the confirmation takes memory
+abbrev pub confirm_takes_memory : World → ℕ → ℕ → Bool
+confirm_takes_memory w source at = option_map_or (λ number. takes_memory_in w source at (Settle number)) (accepted_number w source) false
+
 abbrev pub world_after_confirm : {T : Type 0} → World → ℕ → ℕ → Result T Fault → World
 world_after_confirm w source at answer =
     option_map_or (λ number. world_after_command w source at (Settle number) answer) (accepted_number w source) w
 
 -- ---- a parcel moved: handed over, and confirmed
 
+-- the parcel came to its queue, or there is none; it is answered so, exactly where that queue takes no memory for it
+pub record IsDelivered (old : World) (source at : ℕ) (answer : Result Moved Fault) (new : World) : Type 0 where
+  pub exact : hand_over_takes_memory old source at ≡ false → answer ≡ arrive_answer old source at
+  pub left : new ≡ world_after_hand_over old source at answer
+
+-- there is a parcel, which could not be made for want of memory
+pub record IsUnmade (old : World) (source : ℕ) (answer : Result Moved Fault) (new : World) : Type 0 where
+  pub waits : is_some (first_parcel_in old source) ≡ true
+  pub no_memory : is_out_of_memory answer ≡ true
+  pub left : new ≡ old
+
 -- What a hand-over leaves that is answered so. Memory may run out in two ways: where the queue that the parcel goes to finds none, that queue's clock has
 -- moved; where the parcel itself could not be made, nothing has changed
 abbrev pub IsHandedOver : World → ℕ → ℕ → Result Moved Fault → World → Type 0
-IsHandedOver old source at answer new =
-    (new ≡ world_after_hand_over old source at answer) ⊎ ((is_out_of_memory answer ≡ true) × (new ≡ old))
+IsHandedOver old source at answer new = IsDelivered old source at answer new ⊎ IsUnmade old source answer new
 
 -- whether the dead-letter queue has the parcel after a hand-over that is answered so: its source has to be told
 abbrev pub needs_confirmation : Result Moved Fault → Bool
@@ -266,6 +287,7 @@ pub record IsConfirmed (old between : World) (source at : ℕ) (handed_over answ
   pub accepted : accepted_number between source ≡ Some number
   pub confirmed : Result Reply Fault
   pub meets : Meets confirmed (confirm_answer between source at)
+  pub exact : confirm_takes_memory between source at ≡ false → confirmed ≡ confirm_answer between source at
   pub answered : answer ≡ answer_of_halves handed_over confirmed
   pub left : new ≡ world_after_confirm between source at confirmed
 

@@ -1,6 +1,7 @@
 -- The queue registry over a list of steps: queues created and deleted, commands for one queue, and time that passes for all.
-use Rattle.std.specs.Prelude.{◌≡◌, ℕ, ◌==◌, Bool, false, if◌then◌else◌, is_some, IfSome, option_and_then, List, [], ◌∷◌, map, Option, Some, None, unwrap_or, Result, Ok, Err}
+use Rattle.std.specs.Prelude.{◌≡◌, ℕ, ◌==◌, Bool, false, if◌then◌else◌, is_some, IfSome, option_and_then, List, [], ◌∷◌, map, slice_get, option_map, Option, Some, None, unwrap_or, Result, Ok, Err}
 use Rattle.std.specs.Option.{option_map, option_map_or}
+use Rattle.message.specs.Content.{content_size}
 use Rattle.message.specs.declared.fault.Fault.{Fault}
 use Rattle.message.specs.declared.fault.Fault.TheVariants.{QueueDoesNotExist}
 use Rattle.message.specs.Fault.{is_out_of_memory, Meets}
@@ -10,14 +11,16 @@ use Rattle.queue_core.specs.declared.command.Command.TheVariants as commands
 use Rattle.queue_core.specs.declared.reply.Reply.{Reply}
 use Rattle.queue_core.specs.declared.reply.Reply.TheVariants as replies
 use Rattle.queue_core.specs.States.{gauges_of}
+use Rattle.queue_core.specs.Metrics.{current_flows, row_of, alarm_state_in}
 use Rattle.queue_core.specs.Queue.{QueueHistory, at_moment, outcome_at, after_answer, offered_candidates, offers_of}
 use Rattle.queue_core.specs.Kept.{opened_queue}
+use Rattle.redrive.specs.declared.moved.Moved.{Moved}
 use Rattle.redrive.specs.declared.steps.HouseReply.{HouseReply}
 use Rattle.redrive.specs.declared.steps.HouseReply.TheVariants.{Created, Deleted, Performed, HandedOver, Confirmed, Advanced}
 use Rattle.redrive.specs.declared.steps.HouseStep.{HouseStep}
 use Rattle.redrive.specs.declared.steps.HouseStep.TheVariants as steps
-use Rattle.redrive.specs.declared.steps.QueueGauges.{QueueGauges}
-use Rattle.redrive.specs.World.{World, queue_of_uid, has_queue, target_uid, opens_queue, step_refusal, closed_queue, create_answer, world_after_create, take_answer, world_after_delete, step_answer, takes_memory_at, world_after_step, first_parcel_in, delivery_of, hand_over_answer, world_after_hand_over, accepted_number, confirm_answer, world_after_confirm, world_at_moment}
+use Rattle.redrive.specs.declared.steps.QueueMetrics.{QueueMetrics}
+use Rattle.redrive.specs.World.{World, queue_of_uid, has_queue, target_uid, opens_queue, step_refusal, closed_queue, create_answer, world_after_create, take_answer, world_after_delete, step_answer, takes_memory_at, world_after_step, first_parcel_in, delivery_of, hand_over_answer, hand_over_takes_memory, world_after_hand_over, accepted_number, confirm_answer, confirm_takes_memory, world_after_confirm, needs_confirmation, world_at_moment}
 use Rattle.redrive.specs.History.{AllQueues}
 
 abbrev pub Answer : Type 0
@@ -41,14 +44,16 @@ answer_of_step w (steps.HandOver at source) = if_there w source (Ok (HandedOver 
 answer_of_step w (steps.Confirm at source) = if_there w source (as_house_reply Confirmed (confirm_answer w source at))
 answer_of_step w (steps.Advance at) = Ok Advanced
 
--- whether a step needs memory: where it opens a queue, adds to the journal of one, or shares the content of a parcel
-abbrev pub needs_memory : World → HouseStep → Bool
-needs_memory w (steps.Create at name wish) = opens_queue w name wish
-needs_memory w (steps.Delete at uid) = has_queue w uid
-needs_memory w (steps.Perform at uid command) = takes_memory_at w uid at command
-needs_memory w (steps.HandOver at source) = is_some (first_parcel_in w source)
-needs_memory w (steps.Confirm at source) = is_some (accepted_number w source)
-needs_memory w (steps.Advance at) = false
+-- whether a step that is answered so needs memory: where it opens a queue, adds to the journal of one, or shares the content of a parcel. A parcel that came
+-- to its queue was made, so that only this queue may find none
+abbrev pub needs_memory : World → HouseStep → Answer → Bool
+needs_memory w (steps.Create at name wish) answer = opens_queue w name wish
+needs_memory w (steps.Delete at uid) answer = has_queue w uid
+needs_memory w (steps.Perform at uid command) answer = takes_memory_at w uid at command
+needs_memory w (steps.HandOver at source) (Ok (HandedOver answer)) = hand_over_takes_memory w source at
+needs_memory w (steps.HandOver at source) _ = is_some (first_parcel_in w source)
+needs_memory w (steps.Confirm at source) answer = confirm_takes_memory w source at
+needs_memory w (steps.Advance at) answer = false
 
 -- the registry that a step leaves which is answered so. Where the first parcel is not found for want of memory, nothing is handed over
 abbrev pub world_after : World → HouseStep → Answer → World
@@ -79,7 +84,7 @@ MeetsAnswer answer wanted = Meets answer wanted
 -- the answer is that of the registry; only a step that needs memory may find none
 pub record IsAnswerOf (w : World) (step : HouseStep) (answer : Answer) : Type 0 where
   pub meets : MeetsAnswer answer (answer_of_step w step)
-  pub exact : needs_memory w step ≡ false → answer ≡ answer_of_step w step
+  pub exact : needs_memory w step answer ≡ false → answer ≡ answer_of_step w step
 
 -- each answer is that of the registry which the answers before it leave
 abbrev pub AreHouseAnswers : World → List HouseStep → List Answer → Type 0
@@ -93,6 +98,16 @@ abbrev pub world_after_all : World → List HouseStep → List Answer → World
 world_after_all w [] answers = w
 world_after_all w (step ∷ steps) [] = w
 world_after_all w (step ∷ steps) (answer ∷ answers) = world_after_all (world_after w step answer) steps answers
+
+-- some answers of the registry to these steps leave the new world
+pub record AreStepsTo (old : World) (steps : List HouseStep) (new : World) : Type 0 where
+  pub answers : List Answer
+  pub answered : AreHouseAnswers old steps answers
+  pub left : new ≡ world_after_all old steps answers
+
+-- the steps of a move whose hand-over is answered so
+abbrev pub steps_of_move : ℕ → ℕ → Result Moved Fault → List HouseStep
+steps_of_move source at handed_over = steps.HandOver at source ∷ (if needs_confirmation handed_over then steps.Confirm at source ∷ [] else [])
 
 -- everything that the answers leave
 abbrev pub history_after : AllQueues → List HouseStep → List Answer → AllQueues
@@ -123,7 +138,7 @@ after_command q at (Some command) answer = option_map (λ q. after_answer q at c
 -- what a step leaves of the queue of a uid, if there is one: it sees its own creation, the commands that are for it, its deletion, and time, and nothing else
 abbrev pub queue_after : World → ℕ → Option QueueHistory → HouseStep → Answer → Option QueueHistory
 queue_after w uid q (steps.Create at name wish) answer =
-    if answers_uid uid answer then Some (unwrap_or q (opened_queue uid name (settings_with default_settings wish (target_uid w wish)) w.limits at)) else q
+    if answers_uid uid answer then Some (unwrap_or q (opened_queue uid name (settings_with default_settings wish (target_uid w wish)) w.limits [] at)) else q
 queue_after w uid q (steps.Delete at own) answer =
     if own == uid then (if is_out_of_memory answer then option_map (λ q. at_moment q at) q else None) else q
 queue_after w uid q (steps.Perform at own command) answer = after_command q at (command_for w uid (steps.Perform at own command)) answer
@@ -164,10 +179,17 @@ AreTold w [] answers = Unit {0}
 AreTold w (step ∷ steps) [] = Unit {0}
 AreTold w (step ∷ steps) (answer ∷ answers) = IsToldBy w step answer × AreTold (world_after w step answer) steps answers
 
-abbrev pub measured_queue : QueueHistory → QueueGauges
-measured_queue q = record { uid = q.uid; gauges = gauges_of q.lines q.clock }
+-- what the whole journal of a queue gives at its clock: the counts and the age, the current minute, the row of a minute, and the state of the alarm at a place
+abbrev pub metrics_of : ℕ → ℕ → QueueHistory → QueueMetrics
+metrics_of minute alarm q = record {
+  uid = q.uid;
+  gauges = gauges_of q.lines q.clock;
+  current = current_flows content_size q.lines q.clock;
+  row = row_of content_size q.lines q.clock minute;
+  alarm = option_map (λ rule. alarm_state_in content_size q.lines q.clock rule) (slice_get q.rules alarm);
+}
 
--- the main theorem of the registry: each look, each receive, and the counts and the age of every queue at the end are what the whole journal of the queue gives
-pub record AreRecomputed (old new : World) (steps : List HouseStep) (answers : List Answer) (gauges : List QueueGauges) : Type 0 where
+-- the main theorem of the registry: each look, each receive, and at the end the counts, the age, each row and each alarm of every queue are what the whole journal of the queue gives
+pub record AreRecomputed (old new : World) (steps : List HouseStep) (answers : List Answer) (minute alarm : ℕ) (metrics : List QueueMetrics) : Type 0 where
   pub told : AreTold old steps answers
-  pub counted : gauges ≡ map measured_queue new.queues
+  pub measured : metrics ≡ map (λ q. metrics_of minute alarm q) new.queues

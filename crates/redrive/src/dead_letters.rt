@@ -33,7 +33,7 @@ fn needs_confirmation(moved: Moved) -> bool
 }
 
 impl House {
-    ghost use Rattle.redrive.specs.World.{queue_of_uid, has_queue, first_parcel_in, delivery_of, delivered_answer, hand_over_answer, arrive_answer, world_after_command, world_after_hand_over, accepted_number, confirm_answer, world_after_confirm, IsHandedOver, move_answer, IsMoved};
+    ghost use Rattle.redrive.specs.World.{queue_of_uid, has_queue, first_parcel_in, delivery_of, delivered_answer, hand_over_answer, arrive_answer, hand_over_takes_memory, takes_memory_in, world_after_command, world_after_hand_over, accepted_number, confirm_answer, confirm_takes_memory, world_after_confirm, IsHandedOver, move_answer, IsMoved};
     ghost use Rattle.redrive.specs.ByPlace.{closes_queue};
     ghost use Rattle.redrive.specs.Halves.{handed_over, MeetsHandOver};
 
@@ -72,6 +72,8 @@ impl House {
         ticks: &mut Ticks,
     ) -> Result<Moved, Fault>
         ensures answer { Meets result (delivered_answer self.old at (delivery_of self.old source parcel)) }
+        ensures exact { takes_memory_in self.old (delivery_of self.old source parcel).uid at (delivery_of self.old source parcel).command ≡ false
+            → result ≡ delivered_answer self.old at (delivery_of self.old source parcel) }
         ensures state { self.new ≡ world_after_command self.old (delivery_of self.old source parcel).uid at
             (delivery_of self.old source parcel).command result }
     {
@@ -91,6 +93,7 @@ impl House {
     ) -> Result<Result<Moved, Fault>, Fault>
         ensures answer { MeetsHandOver result (handed_over self.old source at) }
         ensures none { first_parcel_in self.old source ≡ None → result ≡ handed_over self.old source at }
+        ensures exact { IfOk result (λ answer. hand_over_takes_memory self.old source at ≡ false → Ok answer ≡ handed_over self.old source at) }
         ensures ok { IfOk result (λ answer. self.new ≡ world_after_hand_over self.old source at answer) }
         ensures err { OnErr result (self.new ≡ self.old) }
     {
@@ -106,10 +109,12 @@ impl House {
     /// Hands the first parcel of the queue of a uid to its dead-letter queue, without telling the
     /// source: the same parcel is handed over again, and the dead-letter queue answers `Again`, until
     /// [`move_one`](House::move_one) confirms it. Where the dead-letter queue is gone, the source takes
-    /// back everything that waited for it, and its policy is cleared. Where no queue has the uid it is
-    /// `QueueDoesNotExist`; where no parcel waits it is `None`, and no clock moves; neither needs
-    /// memory. A refusal of the queue that the parcel goes to, as `JournalFull`, leaves the parcel
-    /// waiting, and that queue's clock alone has moved. With `OutOfMemory` not even that may have moved.
+    /// back everything that waited for it, and its policy is cleared where it names that queue. Where no
+    /// queue has the uid it is `QueueDoesNotExist`; where no parcel waits it is `None`, and no clock moves;
+    /// neither needs memory. A refusal of the queue that the parcel goes to, as `JournalFull`, leaves the
+    /// parcel waiting, and that queue's clock alone has moved. With `OutOfMemory` not even that has moved
+    /// where the parcel itself could not be made; a parcel that was made is answered `OutOfMemory` only
+    /// where that queue has an entry to add.
     pub fn arrive_one(
         &mut self,
         alloc: Global,
@@ -151,8 +156,8 @@ impl House {
         }
     }
 
-    /// Confirms the first parcel of the queue of a uid, where it is accepted. Else it does nothing,
-    /// which needs no memory.
+    /// Confirms the first parcel of the queue of a uid, where it is accepted. Else it does nothing. It
+    /// needs memory only where the source has an entry to add.
     fn confirm_one(
         &mut self,
         alloc: Global,
@@ -161,7 +166,7 @@ impl House {
         ticks: &mut Ticks,
     ) -> Result<Reply, Fault>
         ensures answer { Meets result (confirm_answer self.old source at) }
-        ensures none { accepted_number self.old source ≡ None → result ≡ confirm_answer self.old source at }
+        ensures exact { confirm_takes_memory self.old source at ≡ false → result ≡ confirm_answer self.old source at }
         ensures state { self.new ≡ world_after_confirm self.old source at result }
     {
         match self.accepted_number(source) {
@@ -180,7 +185,7 @@ impl House {
     ) -> Result<Reply, Fault>
         ensures absent { has_queue self.old source ≡ false → result ≡ Err Fault.QueueDoesNotExist }
         ensures answer { has_queue self.old source ≡ true → Meets result (confirm_answer self.old source at) }
-        ensures none { has_queue self.old source ≡ true → accepted_number self.old source ≡ None → result ≡ confirm_answer self.old source at }
+        ensures exact { has_queue self.old source ≡ true → confirm_takes_memory self.old source at ≡ false → result ≡ confirm_answer self.old source at }
         ensures state { self.new ≡ world_after_confirm self.old source at result }
     {
         if !self.has_queue(source) {
@@ -192,7 +197,8 @@ impl House {
     /// Moves the first parcel of the queue of a uid to its dead-letter queue: hands it over, as
     /// [`arrive_one`](House::arrive_one), and, where the dead-letter queue answered `Arrived` or
     /// `Again`, confirms it at the source, so that it waits no longer. Where one of these halves is
-    /// refused, that refusal is the answer, and the parcel waits still.
+    /// refused, that refusal is the answer, and the parcel waits still. A full source refuses its half
+    /// as `JournalFull`, never as `OutOfMemory`.
     pub fn move_one(
         &mut self,
         alloc: Global,

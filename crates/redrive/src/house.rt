@@ -4,15 +4,17 @@ ghost use Rattle.std.specs.Prelude.{◌≡◌, ◌≢◌, ℕ, ◌<◌, ◌≤�
 ghost use Rattle.std.specs.List.{position};
 ghost use Rattle.std.specs.Option.{option_copied, option_map};
 ghost use Rattle.message.specs.Fault.{Meets};
+ghost use Rattle.queue_config.specs.Config.{rules_of};
 ghost use Rattle.queue_core.specs.Queue.{QueueHistory};
 ghost use Rattle.redrive.specs.Listed.{items_of};
+ghost use Rattle.redrive.specs.WorldRun.{metrics_of};
 
 use crate::listing::{list_name, put_name};
 use crate::queues::Queues;
-use crate::steps::QueueGauges;
+use crate::steps::QueueMetrics;
 use journal::{Moment, Ticks};
 use message::{Fault, QueueName};
-use queue_config::{Config, Limits, Settings, Wish};
+use queue_config::{AlarmRule, Config, ConfiguredAlarm, Limits, Settings, Wish};
 use queue_core::{Command, QueueState, Reply};
 use std::alloc::Global;
 use std::marker::Model;
@@ -83,11 +85,38 @@ fn has_target(queue: &QueueState, uid: u64) -> bool
     }
 }
 
+/// The rules of the alarms of the configured queue of a uid, in the order of the configuration.
+fn rules_of(alloc: Global, alarms: &[ConfiguredAlarm], uid: u64) -> Result<Vec<AlarmRule>, Fault>
+    ensures ok { IfOk result (λ rules. rules.items ≡ rules_of alarms.now uid) }
+    ensures errors { IfErr result (λ fault. fault ≡ Fault.OutOfMemory) }
+{
+    let mut rules = Vec::new(alloc);
+    for alarm in alarms {
+        if alarm.queue == uid {
+            rules.push(alarm.rule)?;
+        }
+    }
+    Ok(rules)
+}
+
+/// What is told of a queue: its counts, its current minute, the row of a minute and the state of an
+/// alarm.
+fn metrics_of(minute: u64, alarm: usize, queue: &QueueState) -> QueueMetrics
+    ensures { result ≡ metrics_of minute alarm queue.now }
+{
+    QueueMetrics {
+        uid: queue.uid(),
+        gauges: queue.gauges(),
+        current: queue.current(),
+        row: queue.row(minute),
+        alarm: queue.alarm_state(alarm),
+    }
+}
+
 impl House {
     ghost use Rattle.redrive.specs.World.{empty_world, new_world, next_queue, queue_named, queue_of_uid, has_queue, found_uid, target_uid, may_name_target, may_have_target, may_set, has_no_place, opens_queue, create_answer, with_queue, world_after_create, step_refusal, queue_answer, step_answer, takes_memory_in, takes_memory_at, world_after_command, world_after_step, sources_in_world, sources_answer, take_answer, delete_answer, world_after_delete, names_in_world, world_at_moment, IsRegistry};
     ghost use Rattle.redrive.specs.ByPlace.{closes_queue};
     ghost use Rattle.redrive.specs.History.{journal_of, closed_journal};
-    ghost use Rattle.redrive.specs.WorldRun.{measured_queue};
 
     /// A registry with these limits and no queue.
     fn empty(alloc: Global, limits: Limits) -> House
@@ -107,7 +136,8 @@ impl House {
     {
         let mut house = House::empty(alloc, config.limits);
         for queue in config.queues.as_slice() {
-            house.open(alloc, at, queue.name, queue.settings)?;
+            let rules = rules_of(alloc, config.alarms.as_slice(), house.queues.next_uid())?;
+            house.open(alloc, at, queue.name, queue.settings, rules)?;
         }
         Ok(house)
     }
@@ -149,14 +179,15 @@ impl House {
         at: Moment,
         name: QueueName,
         settings: Settings,
+        rules: Vec<AlarmRule>,
     ) -> Result<u64, Fault>
         requires new_name { queue_named self.old name ≡ None }
         requires place { has_no_place self.old ≡ false }
         ensures answer { Meets result (Ok self.old.next_uid) }
-        ensures ok { OnOk result (self.new ≡ with_queue self.old (next_queue self.old at name settings)) }
+        ensures ok { OnOk result (self.new ≡ with_queue self.old (next_queue self.old at name settings rules.items)) }
         ensures err { OnErr result (self.new ≡ self.old) }
     {
-        self.queues.open(alloc, at, name, settings)
+        self.queues.open(alloc, at, name, settings, rules)
     }
 
     /// Whether a queue has the uid.
@@ -215,7 +246,8 @@ impl House {
         if self.queues.has_no_place() {
             return Err(Fault::OverLimit);
         }
-        self.open(alloc, at, name, Settings::default().with(&wish, target))
+        let settings = Settings::default().with(&wish, target);
+        self.open(alloc, at, name, settings, Vec::new(alloc))
     }
 
     /// The place of the queue of a uid.
@@ -310,7 +342,7 @@ impl House {
     /// those of dead letters ([`move_one`](House::move_one)), are `UnsupportedOperation`. A `Set` whose
     /// dead-letter queue is not there under the uid that is given, or is the queue itself, is
     /// `InvalidAttributeValue`. Each of these changes nothing, and needs no memory. With `OutOfMemory`
-    /// only that queue's clock has moved.
+    /// only that queue's clock has moved, and after `FirstParcel`, which leaves it, not even that.
     pub fn step(
         &mut self,
         alloc: Global,
@@ -428,19 +460,14 @@ impl House {
         let _queues = &self.queues;
     }
 
-    /// Counts every queue, into an empty list that has room for 1,000.
-    pub(crate) fn measure(&self, gauges: &mut Vec<QueueGauges>)
-        requires empty { gauges.old.items ≡ [] }
-        requires room { 1000 ≤ vec_capacity gauges.old }
-        ensures { gauges.new.items ≡ map measured_queue self.now.queues }
+    /// Tells of every queue, into an empty list that has room for 1,000.
+    pub(crate) fn measure(&self, minute: u64, alarm: usize, metrics: &mut Vec<QueueMetrics>)
+        requires empty { metrics.old.items ≡ [] }
+        requires room { 1000 ≤ vec_capacity metrics.old }
+        ensures { metrics.new.items ≡ map (λ q. metrics_of minute alarm q) self.now.queues }
     {
         for queue in self.queues.as_slice() {
-            let uid = queue.uid();
-            let counts = queue.gauges();
-            gauges.push_reserved(QueueGauges {
-                uid,
-                gauges: counts,
-            });
+            metrics.push_reserved(metrics_of(minute, alarm, queue));
         }
     }
 }

@@ -28,7 +28,8 @@ pub use catalog::{Catalog, Registered, UID_LIMIT};
 pub use house::House;
 pub use laws::{histories_begin, listed_names_ascend};
 pub use moved::Moved;
-pub use steps::{HouseReply, HouseRun, HouseStep, QueueGauges};
+pub use steps::{HouseReply, HouseRun, HouseStep, QueueMetrics};
 pub use transfer_laws::{
-    each_departure_has_its_fate, each_message_has_one_place, transfers_are_accepted_once,
+    each_departure_has_its_fate, each_message_has_one_place, moves_are_steps,
+    no_queue_is_its_own_target, transfers_are_accepted_once,
 };

@@ -10,7 +10,7 @@ ghost use Rattle.redrive.specs.World.{closed_queue};
 use crate::catalog::UID_LIMIT;
 use journal::{Moment, Ticks};
 use message::{Fault, QueueName};
-use queue_config::{Limits, QUEUE_LIMIT, Settings};
+use queue_config::{AlarmRule, Limits, QUEUE_LIMIT, Settings};
 use queue_core::{Command, QueueState, Reply};
 use std::alloc::Global;
 use std::marker::Model;
@@ -67,6 +67,13 @@ impl Queues {
         self.queues.as_slice()
     }
 
+    /// The uid of the next queue.
+    pub(crate) fn next_uid(&self) -> u64
+        ensures { result ≡ self.now.next_uid }
+    {
+        self.next_uid
+    }
+
     /// Whether there are as many queues as there may be, or no uid is left.
     pub(crate) fn has_no_place(&self) -> bool
         ensures { result ≡ has_no_place self.now }
@@ -82,14 +89,15 @@ impl Queues {
         at: Moment,
         name: QueueName,
         settings: Settings,
+        rules: Vec<AlarmRule>,
     ) -> Result<u64, Fault>
         requires { has_no_place self.old ≡ false }
         ensures answer { Meets result (Ok self.old.next_uid) }
-        ensures ok { OnOk result (self.new ≡ with_queue self.old (next_queue self.old at name settings)) }
+        ensures ok { OnOk result (self.new ≡ with_queue self.old (next_queue self.old at name settings rules.items)) }
         ensures err { OnErr result (self.new ≡ self.old) }
     {
         let uid = self.next_uid;
-        let queue = QueueState::open(alloc, uid, name, settings, self.limits, at)?;
+        let queue = QueueState::open(alloc, uid, name, settings, self.limits, rules, at)?;
         self.queues.push(queue)?;
         self.next_uid = uid + 1;
         Ok(uid)

@@ -4,10 +4,12 @@ ghost use Rattle.std.specs.Prelude.{◌≡◌, ℕ, false, IfOk, OnErr, IfErr};
 
 use crate::house::House;
 use crate::moved::Moved;
+use alarm::AlarmState;
 use journal::{Moment, Ticks};
 use message::{Fault, QueueName};
+use metric_window::{Flows, Gauges, Row};
 use queue_config::{QUEUE_LIMIT, Wish};
-use queue_core::{Command, Gauges, QueueState, Reply};
+use queue_core::{Command, QueueState, Reply};
 use std::alloc::Global;
 
 /// A step of the registry, and the moment that it comes at.
@@ -64,19 +66,26 @@ pub enum HouseReply {
     Advanced,
 }
 
-/// A queue's uid, with its counts and its age.
+/// What is told of a queue at its clock.
 #[derive(Clone, Copy, Debug, PartialEq, Eq)]
-pub struct QueueGauges {
+pub struct QueueMetrics {
     pub uid: u64,
+    /// Its counts and its age.
     pub gauges: Gauges,
+    /// What has happened so far in the clock's minute.
+    pub current: Flows,
+    /// The row of the minute that was asked for, where there is one.
+    pub row: Option<Row>,
+    /// The state of the alarm that was asked for, where there is one.
+    pub alarm: Option<AlarmState>,
 }
 
-/// What a list of steps gave: the answers in the order of the steps, and what the queues that are
-/// there after it count, in the order in which they were created.
+/// What a list of steps gave: the answers in the order of the steps, and what is told of each queue that
+/// is there after it, in the order in which they were created.
 #[derive(Debug, Drop)]
 pub struct HouseRun {
     pub answers: Vec<Result<HouseReply, Fault>>,
-    pub gauges: Vec<QueueGauges>,
+    pub metrics: Vec<QueueMetrics>,
 }
 
 impl House {
@@ -92,7 +101,7 @@ impl House {
         ticks: &mut Ticks,
     ) -> Result<HouseReply, Fault>
         ensures answer { MeetsAnswer result (answer_of_step self.old step.now) }
-        ensures exact { needs_memory self.old step.now ≡ false → result ≡ answer_of_step self.old step.now }
+        ensures exact { needs_memory self.old step.now result ≡ false → result ≡ answer_of_step self.old step.now }
         ensures state { self.new ≡ world_after self.old step.now result }
         ensures registry { IsRegistry self.old }
     {
@@ -121,13 +130,17 @@ impl House {
     }
 
     /// Does steps one after another: queues are created and deleted, perform commands, hand over dead
-    /// letters, and see time pass. Then it counts every queue that is there. Whatever the steps are, what is told of a queue
+    /// letters, and see time pass. Then it tells of every queue that is there the counts, the age, what has
+    /// happened in the current minute, the row of a minute, and the state of the alarm at a place among
+    /// its own, counted from 0. Whatever the steps, the minute and the place are, what is told of a queue
     /// is what its own whole journal gives, as if no other queue were there. A queue that is deleted is
     /// handed over closed. Where the two lists find no memory, nothing is done.
     pub fn run(
         &mut self,
         alloc: Global,
         steps: &[HouseStep],
+        minute: u64,
+        alarm: usize,
         ticks: &mut Ticks,
     ) -> Result<HouseRun, Fault>
         ensures answers { IfOk result (λ run. AreHouseAnswers self.old steps.now run.answers.items) }
@@ -136,17 +149,17 @@ impl House {
             steps.now run.answers.items (queue_of_uid self.new uid)) }
         ensures history { IfOk result (λ run. (all : AllQueues) → all.world ≡ self.old → IsWholeHistory all
             → IsWholeHistory (history_after all steps.now run.answers.items)) }
-        ensures recomputed { IfOk result (λ run. AreRecomputed self.old self.new steps.now run.answers.items run.gauges.items) }
+        ensures recomputed { IfOk result (λ run. AreRecomputed self.old self.new steps.now run.answers.items minute alarm run.metrics.items) }
         ensures err { OnErr result (self.new ≡ self.old) }
         ensures errors { IfErr result (λ fault. fault ≡ Fault.OutOfMemory) }
     {
         let mut answers = Vec::with_capacity(alloc, steps.len())?;
-        let mut gauges = Vec::with_capacity(alloc, QUEUE_LIMIT)?;
+        let mut metrics = Vec::with_capacity(alloc, QUEUE_LIMIT)?;
         for step in steps {
             let answer = self.take_step(alloc, step, ticks);
             answers.push_reserved(answer);
         }
-        self.measure(&mut gauges);
-        Ok(HouseRun { answers, gauges })
+        self.measure(minute, alarm, &mut metrics);
+        Ok(HouseRun { answers, metrics })
     }
 }

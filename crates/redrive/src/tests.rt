@@ -1,6 +1,7 @@
 //! The queue registry at its borders. Most tests are conversations: a text whose lines have a call and,
 //! behind an equals sign, what it has to answer.
 
+mod alarms;
 mod directory;
 mod memory;
 mod names;

@@ -1,11 +1,16 @@
 //! Laws about dead letters, over every list of steps of the registry. Nothing runs here: each
 //! function is empty, and its contract is the law.
 
-ghost use Rattle.std.specs.Prelude.{ℕ, List};
-ghost use Rattle.queue_config.specs.Config.{Configuration};
+ghost use Rattle.std.specs.Prelude.{◌≡◌, ℕ, false, List, [], ◌∷◌, Result};
+ghost use Rattle.std.specs.List.{All};
+ghost use Rattle.message.specs.declared.fault.Fault.{Fault};
+ghost use Rattle.message.specs.Fault.{Meets};
+ghost use Rattle.queue_config.specs.Config.{Configuration, AreConfigured};
 ghost use Rattle.redrive.specs.declared.steps.HouseStep.{HouseStep};
-ghost use Rattle.redrive.specs.World.{new_world};
-ghost use Rattle.redrive.specs.WorldRun.{Answer, AreHouseAnswers, history_after};
+ghost use Rattle.redrive.specs.declared.steps.HouseStep.TheVariants.{HandOver};
+ghost use Rattle.redrive.specs.declared.moved.Moved.{Moved};
+ghost use Rattle.redrive.specs.World.{World, new_world, arrive_answer, IsHandedOver, IsMoved, has_target};
+ghost use Rattle.redrive.specs.WorldRun.{Answer, AreHouseAnswers, AreStepsTo, steps_of_move, world_after_all, history_after};
 ghost use Rattle.redrive.specs.Places.{first_history, EachAcceptedOnce, EachHasItsFate, EachHasOnePlace, NoRelayDeleted};
 
 /// A queue accepts a transfer once: whatever the steps are, and wherever memory runs out, no journal
@@ -36,4 +41,23 @@ pub fn each_message_has_one_place()
         → AreHouseAnswers (new_world config at) steps answers
         → NoRelayDeleted (first_history config at) steps answers
         → EachHasOnePlace (history_after (first_history config at) steps answers) }
+{}
+
+/// What [`House::arrive_one`](crate::House::arrive_one) and [`House::move_one`](crate::House::move_one)
+/// leave is what steps leave: a hand-over, and, after `Arrived` or `Again`, a confirmation. So the laws
+/// over lists of steps are laws of these calls.
+pub fn moves_are_steps()
+    ensures handed_over { (old new : World) (source at : ℕ) (answer : Result Moved Fault)
+        → Meets answer (arrive_answer old source at) → IsHandedOver old source at answer new
+        → AreStepsTo old (HandOver at source ∷ []) new }
+    ensures moved { (old new : World) (source at : ℕ) (answer : Result Moved Fault) (m : IsMoved old source at answer new)
+        → AreStepsTo old (steps_of_move source at m.handed_over) new }
+{}
+
+/// No queue is ever its own dead-letter queue: from configured queues of which none is, whatever the
+/// steps are and however they are answered.
+pub fn no_queue_is_its_own_target()
+    ensures { (config : Configuration) (at : ℕ) (steps : List HouseStep) (answers : List Answer)
+        → AreConfigured config.queues
+        → All (λ q. has_target q.uid q ≡ false) (world_after_all (new_world config at) steps answers).queues }
 {}

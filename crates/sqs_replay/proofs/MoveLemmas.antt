@@ -6,7 +6,7 @@ use Rattle.message.specs.declared.fault.Fault.TheVariants.{OutOfMemory}
 use Rattle.message.specs.Fault.{is_out_of_memory, Meets}
 use Rattle.queue_core.specs.declared.reply.Reply.{Reply}
 use Rattle.redrive.specs.declared.moved.Moved.{Moved}
-use Rattle.redrive.specs.World.{World, arrive_answer, world_after_hand_over, needs_confirmation, answer_of_halves, confirm_answer, world_after_confirm, move_answer, IsConfirmed, IsMoved}
+use Rattle.redrive.specs.World.{World, arrive_answer, world_after_hand_over, needs_confirmation, answer_of_halves, confirm_answer, world_after_confirm, move_answer, IsHandedOver, IsConfirmed, IsMoved}
 use Rattle.sqs_replay.specs.Answers.{IsOneOf}
 use Rattle.sqs_replay.specs.Moves.{world_between, confirmed_world, world_after_move, move_stages, goes_on, some_moves}
 use Rattle.sqs_replay.specs.Served.{Leaves, moves_after}
@@ -81,18 +81,17 @@ module _ (w : World) (source at : ℕ) where
   memory_first answer new m memory =
       let ends = m.no_second_half (ap needs_confirmation memory) in
       subst (λ (a : Result Moved Fault). MovesOn a new) (sym (ends.0 ∙ memory)) (none_found new (stage_at m.first_half)) where
-        stage_at : (m.between ≡ world_after_hand_over w source at m.handed_over) ⊎ ((is_out_of_memory m.handed_over ≡ true) × (m.between ≡ w)) → IsOneOf new (w ∷ move_stages w source at)
-        stage_at (inl is) = inr (inl ((m.no_second_half (ap needs_confirmation memory)).1 ∙ is ∙ ap (λ (a : Result Moved Fault). world_after_hand_over w source at a) memory))
-        stage_at (inr same) = inl ((m.no_second_half (ap needs_confirmation memory)).1 ∙ same.1)
+        stage_at : IsHandedOver w source at m.handed_over m.between → IsOneOf new (w ∷ move_stages w source at)
+        stage_at (inl h) = inr (inl ((m.no_second_half (ap needs_confirmation memory)).1 ∙ h.left ∙ ap (λ (a : Result Moved Fault). world_after_hand_over w source at a) memory))
+        stage_at (inr h) = inl ((m.no_second_half (ap needs_confirmation memory)).1 ∙ h.left)
 
   other_first : (answer : Result Moved Fault) (new : World) (m : IsMoved w source at answer new) → is_out_of_memory m.handed_over ≡ false → MovesOn answer new
   other_first answer new m other =
       let e : m.handed_over ≡ arrive_answer w source at = met m.handed_over (arrive_answer w source at) other m.meets in
       same_first answer new m e (between_at e m.first_half) (needs_confirmation (arrive_answer w source at)) refl where
-        between_at : m.handed_over ≡ arrive_answer w source at
-            → (m.between ≡ world_after_hand_over w source at m.handed_over) ⊎ ((is_out_of_memory m.handed_over ≡ true) × (m.between ≡ w)) → m.between ≡ world_between w source at
-        between_at e (inl is) = is ∙ ap (λ (a : Result Moved Fault). world_after_hand_over w source at a) e
-        between_at e (inr same) = absurd (let without : true ≡ false = sym same.0 ∙ other in cc)
+        between_at : m.handed_over ≡ arrive_answer w source at → IsHandedOver w source at m.handed_over m.between → m.between ≡ world_between w source at
+        between_at e (inl h) = h.left ∙ ap (λ (a : Result Moved Fault). world_after_hand_over w source at a) e
+        between_at e (inr h) = absurd (let without : true ≡ false = sym h.no_memory ∙ other in cc)
 
   pub MovesOn-moved : (answer : Result Moved Fault) (new : World) → IsMoved w source at answer new → MovesOn answer new
   MovesOn-moved answer new m =

@@ -6,6 +6,7 @@ pub mod Progress
 pub mod Device
 pub mod InputLine
 pub mod Moves
+pub mod Sheets
 pub mod Served
 pub mod Replay
 pub mod LongLines

@@ -10,9 +10,9 @@ use Rattle.queue_core.specs.declared.command.Command.TheVariants as commands
 use Rattle.queue_core.specs.declared.reply.Reply.{Reply}
 use Rattle.queue_core.specs.declared.reply.Reply.TheVariants as replies
 use Rattle.serde_json.specs.Written.{compact_text}
-use Rattle.aws_json.specs.Steps.{◌>>=◌, result_map}
+use Rattle.aws_json.specs.Steps.{◌>>=◌, result_map, required}
 use Rattle.aws_json.specs.Members.{object_of}
-use Rattle.aws_json.specs.Request.{request_of}
+use Rattle.aws_json.specs.Request.{request_of, queue_of_body}
 use Rattle.aws_json.specs.Reply.{reply_data}
 use Rattle.aws_json.specs.FaultText.{fault_body, fault_status}
 use Rattle.aws_json.specs.declared.batch.BatchAnswer.{BatchAnswer}
@@ -26,18 +26,32 @@ use Rattle.aws_json.specs.declared.request.Request.TheVariants as requests
 use Rattle.aws_json.specs.declared.reply.ReplyShape.{ReplyShape}
 use Rattle.aws_json.specs.declared.reply.ReplyShape.TheVariants.{QueueUrl, QueueUrls, SourceQueueUrls, Sent, Attributes, Messages, Batch, Nothing}
 use Rattle.sqs_replay.specs.declared.answer.Asked.{Asked}
-use Rattle.sqs_replay.specs.declared.answer.Asked.TheVariants.{Client, Tick}
+use Rattle.sqs_replay.specs.declared.answer.Asked.TheVariants.{Client, Tick, Statistics, Rows, Alarms}
 use Rattle.sqs_replay.specs.declared.answer.Timed.{Timed}
+use Rattle.sqs_replay.specs.declared.shown.Shown.{Shown}
+use Rattle.sqs_replay.specs.declared.shown.Shown.TheVariants as shown
+use Rattle.board.specs.Sheet as board
+use Rattle.statistics_api.specs.Texts.{sheet_text, sheets_text, rows_text, alarms_text}
 use Rattle.sqs_replay.specs.Cutting.{longest_line}
 use Rattle.sqs_replay.specs.InputLine.{input_line_of}
-use Rattle.redrive.specs.World.{World, found_uid, target_uid, create_answer, world_after_create, step_answer, world_after_step, delete_answer, world_after_delete, names_in_world, sources_answer, world_at_moment}
+use Rattle.redrive.specs.World.{World, queue_of_uid, found_uid, target_uid, create_answer, world_after_create, step_answer, world_after_step, delete_answer, world_after_delete, names_in_world, sources_answer, world_at_moment}
 use Rattle.sqs_replay.specs.Moves.{Moves, no_moves, all_moves}
+use Rattle.sqs_replay.specs.Sheets.{sheet_of, sheets_of}
 
 -- ---- what a line asks
 
--- the replay's own action, or a client's request
+-- the queue that a body has to name
+abbrev pub required_queue : List ℕ → Result (List ℕ) Fault
+required_queue body = queue_of_body body >>= required
+
+-- one of the replay's own actions, or a client's request
 abbrev pub asked_by : List ℕ → List ℕ → Result Asked Fault
-asked_by action body = if bytes_eq action (codes "Tick") then result_map (λ d. Tick) (object_of body) else result_map Client (request_of action body)
+asked_by action body =
+    if bytes_eq action (codes "Tick") then result_map (λ d. Tick) (object_of body)
+    else if bytes_eq action (codes "Statistics") then result_map Statistics (queue_of_body body)
+    else if bytes_eq action (codes "Rows") then result_map Rows (required_queue body)
+    else if bytes_eq action (codes "Alarms") then result_map Alarms (required_queue body)
+    else result_map Client (request_of action body)
 
 -- a line that is too long cannot be read, whatever it says
 abbrev pub asked_of : List ℕ → Result Timed Fault
@@ -145,12 +159,38 @@ served w at (requests.SetQueueAttributes queue wish) = request_done w at queue (
 served w at (requests.PurgeQueue queue) = request_done w at queue commands.Purge
 served w at (requests.Batch queue entries) = in_queue w queue (λ uid. told (λ answers. Ok (Batch answers)) (batch_served w uid at entries))
 
+-- ---- statistics
+
+-- those of the queue of a uid
+abbrev pub sheet_in : World → ℕ → Result board.Statistics Fault
+sheet_in w uid = option_map_or (λ q. Ok (sheet_of q)) (queue_of_uid w uid) (Err QueueDoesNotExist)
+
+-- the same after a look at the queue, which moves its clock to that moment
+abbrev pub sheet_served : World → ℕ → ℕ → Served (Result board.Statistics Fault)
+sheet_served w uid at = told (λ reply. sheet_in (command_served w uid at commands.Look).world uid) (command_served w uid at commands.Look)
+
+-- the same of the queue of a name
+abbrev pub named_sheet_served : World → ℕ → List ℕ → Served (Result board.Statistics Fault)
+named_sheet_served w at name = in_queue w name (λ uid. sheet_served w uid at)
+
+-- what is shown of it
+abbrev pub sheet_shown : (board.Statistics → Shown) → World → ℕ → List ℕ → Served (Result Shown Fault)
+sheet_shown show w at name = told (result_map show) (named_sheet_served w at name)
+
+-- every queue's clock moves to a moment, and then this is the answer
+abbrev pub all_served : {T : Type 0} → World → ℕ → (World → T) → Served T
+all_served w at answer = record { answer = answer (world_at_moment w at); world = world_at_moment w at; stages = world_at_moment w at ∷ [] }
+
 -- ---- lines
 
--- the replay's own action moves every queue's clock
-abbrev pub asked_served : World → ℕ → Asked → Served (Result ReplyShape Fault)
-asked_served w at (Client request) = served w at request
-asked_served w at Tick = record { answer = Ok Nothing; world = world_at_moment w at; stages = world_at_moment w at ∷ [] }
+-- a client's request, or one of the replay's own actions
+abbrev pub asked_served : World → ℕ → Asked → Served (Result Shown Fault)
+asked_served w at (Client request) = told (result_map shown.Reply) (served w at request)
+asked_served w at Tick = all_served w at (λ after. Ok (shown.Reply Nothing))
+asked_served w at (Statistics None) = all_served w at (λ after. Ok (shown.Queues (sheets_of after)))
+asked_served w at (Statistics (Some queue)) = sheet_shown shown.Queue w at queue
+asked_served w at (Rows queue) = sheet_shown shown.Rows w at queue
+asked_served w at (Alarms queue) = sheet_shown shown.Alarms w at queue
 
 -- the queue that a line names by its URL, if it names one
 abbrev pub queue_of_request : Request → Option (List ℕ)
@@ -171,6 +211,9 @@ queue_of_request (requests.Batch queue entries) = Some queue
 abbrev pub queue_of_asked : Asked → Option (List ℕ)
 queue_of_asked (Client request) = queue_of_request request
 queue_of_asked Tick = None
+queue_of_asked (Statistics queue) = queue
+queue_of_asked (Rows queue) = Some queue
+queue_of_asked (Alarms queue) = Some queue
 
 -- the parcels of the queue of a name move on, where that queue is there
 abbrev pub moves_after : World → ℕ → Option (List ℕ) → Moves
@@ -181,18 +224,26 @@ abbrev pub then_moves : {T : Type 0} → Served T → Moves → Served T
 then_moves s moves = record { answer = s.answer; world = moves.world; stages = s.stages ++ s.world ∷ moves.stages }
 
 -- what is asked is answered, and then the dead letters of the queue that it names move on, whatever the answer was
-abbrev pub timed_served : World → Timed → Served (Result ReplyShape Fault)
+abbrev pub timed_served : World → Timed → Served (Result Shown Fault)
 timed_served w timed =
     then_moves (asked_served w timed.at timed.asked) (moves_after (asked_served w timed.at timed.asked).world timed.at (queue_of_asked timed.asked))
 
 -- a line that cannot be read changes nothing
-abbrev pub line_served : World → Result Timed Fault → Served (Result ReplyShape Fault)
+abbrev pub line_served : World → Result Timed Fault → Served (Result Shown Fault)
 line_served w (Ok timed) = timed_served w timed
 line_served w (Err fault) = unchanged w (Err fault)
 
+-- the JSON text of what is shown
+abbrev pub shown_text : Shown → List ℕ
+shown_text (shown.Reply shape) = compact_text (reply_data shape)
+shown_text (shown.Queue sheet) = sheet_text sheet
+shown_text (shown.Queues sheets) = sheets_text sheets
+shown_text (shown.Rows sheet) = rows_text sheet.rows
+shown_text (shown.Alarms sheet) = alarms_text sheet.alarms
+
 -- the status, a space, the JSON text and a line feed
-abbrev pub answer_text : Result ReplyShape Fault → List ℕ
-answer_text (Ok shape) = decimal 200 ++ codes " " ++ compact_text (reply_data shape) ++ codes "\n"
+abbrev pub answer_text : Result Shown Fault → List ℕ
+answer_text (Ok shown) = decimal 200 ++ codes " " ++ shown_text shown ++ codes "\n"
 answer_text (Err fault) = decimal (fault_status fault) ++ codes " " ++ fault_body fault ++ codes "\n"
 
 -- what answers a line, the world after it, and the worlds that it goes through

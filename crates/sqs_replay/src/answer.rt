@@ -5,17 +5,21 @@ ghost use Rattle.message.specs.Fault.{Meets, is_out_of_memory};
 ghost use Rattle.redrive.specs.World.{names_in_world, sources_answer, target_uid};
 ghost use Rattle.aws_json.specs.declared.reply.ReplyShape.TheVariants.{QueueUrl, QueueUrls, SourceQueueUrls};
 ghost use Rattle.aws_json.specs.Steps.{result_map};
+ghost use Rattle.aws_json.specs.Request.{request_of};
+ghost use Rattle.sqs_replay.specs.declared.answer.Asked.TheVariants.{Client};
 ghost use Rattle.sqs_replay.specs.Answers.{IsOneOf};
-ghost use Rattle.sqs_replay.specs.Served.{asked_by, asked_of, unchanged, in_queue, delete_served, attributes_shape, messages_shape, receive_served, done_shape, request_done, served, asked_served, queue_of_request, queue_of_asked, timed_served, line_served, answer_text, text_of_line, world_of_line, stages_of_line, Leaves};
+ghost use Rattle.sqs_replay.specs.Served.{asked_by, asked_of, unchanged, in_queue, delete_served, attributes_shape, messages_shape, receive_served, done_shape, request_done, served, asked_served, queue_of_request, queue_of_asked, required_queue, timed_served, line_served, answer_text, text_of_line, world_of_line, stages_of_line, Leaves};
 
 use crate::ReplayFault;
 use crate::batch::{serve_batch, serve_command, serve_done};
 use crate::input_line::{InputLine, read_line};
 use crate::lines::{LINE_LIMIT, Lines};
 use crate::moves::move_dead_letters;
+use crate::shown::{Shown, shown_text};
+use crate::statistics::{show_alarms, show_rows, show_statistics};
 use aws_json::{
     AttributeNames, EntryReply, Patterns, Prefix, QueueNames, ReceiveNames, ReplyShape, Request,
-    fault_text, parse, read_object, reply_text, status,
+    fault_text, parse, read_object, read_queue, status,
 };
 use journal::{Moment, Ticks};
 use message::{Fault, QueueName};
@@ -29,8 +33,14 @@ use std::alloc::Global;
 pub enum Asked {
     /// A client's request.
     Client(Request),
-    /// The replay's own action, which moves every queue's clock.
+    /// That every queue's clock moves.
     Tick,
+    /// The statistics of a queue, or of all queues.
+    Statistics(Option<QueueName>),
+    /// The rows of a queue.
+    Rows(QueueName),
+    /// The alarms of a queue.
+    Alarms(QueueName),
 }
 
 /// What a line asks, and when.
@@ -40,15 +50,35 @@ pub struct Timed {
     pub asked: Asked,
 }
 
-/// Reads the replay's own action, or a client's request.
+/// The queue that a body has to name.
+fn required_queue(alloc: Global, body: &[u8]) -> Result<QueueName, Fault>
+    ensures { Meets result (required_queue body.now) }
+{
+    let queue = read_queue(alloc, body)?;
+    queue.ok_or(Fault::InvalidParameterValue)
+}
+
+/// Reads a client's request.
+fn read_request(alloc: Global, action: &str, body: &[u8]) -> Result<Asked, Fault>
+    ensures { Meets result (result_map Client (request_of action.now body.now)) }
+{
+    Ok(Asked::Client(parse(alloc, action, body)?))
+}
+
+/// Reads one of the replay's own actions, or a client's request.
 fn read_asked(alloc: Global, action: &str, body: &[u8]) -> Result<Asked, Fault>
     ensures { Meets result (asked_by action.now body.now) }
 {
-    if action == "Tick" {
-        read_object(alloc, body)?;
-        return Ok(Asked::Tick);
+    match action {
+        "Tick" => {
+            read_object(alloc, body)?;
+            Ok(Asked::Tick)
+        }
+        "Statistics" => Ok(Asked::Statistics(read_queue(alloc, body)?)),
+        "Rows" => Ok(Asked::Rows(required_queue(alloc, body)?)),
+        "Alarms" => Ok(Asked::Alarms(required_queue(alloc, body)?)),
+        _ => read_request(alloc, action, body),
     }
-    Ok(Asked::Client(parse(alloc, action, body)?))
 }
 
 /// Reads a line. One that is too long cannot be read, whatever it says.
@@ -354,18 +384,21 @@ fn serve_asked(
     house: &mut House,
     timed: Timed,
     ticks: &mut Ticks,
-) -> Result<ReplyShape, Fault>
+) -> Result<Shown, Fault>
     ensures answer { Meets result (asked_served house.old timed.at timed.asked).answer }
     ensures state { Leaves result house.new (asked_served house.old timed.at timed.asked).world }
     ensures stages { IsOneOf house.new (house.old ∷ (asked_served house.old timed.at timed.asked).stages) }
 {
     let Timed { at, asked } = timed;
     match asked {
-        Asked::Client(request) => serve(alloc, house, at, request, ticks),
+        Asked::Client(request) => Ok(Shown::Reply(serve(alloc, house, at, request, ticks)?)),
         Asked::Tick => {
             house.advance_all(at, ticks);
-            Ok(ReplyShape::Nothing)
+            Ok(Shown::Reply(ReplyShape::Nothing))
         }
+        Asked::Statistics(queue) => show_statistics(alloc, house, at, queue, ticks),
+        Asked::Rows(queue) => show_rows(alloc, house, at, &queue, ticks),
+        Asked::Alarms(queue) => show_alarms(alloc, house, at, &queue, ticks),
     }
 }
 
@@ -397,6 +430,8 @@ fn queue_of_asked(asked: &Asked) -> Option<QueueName>
     match asked {
         Asked::Client(request) => queue_of_request(request),
         Asked::Tick => None,
+        Asked::Statistics(queue) => *queue,
+        Asked::Rows(queue) | Asked::Alarms(queue) => Some(*queue),
     }
 }
 
@@ -406,7 +441,7 @@ fn serve_timed(
     house: &mut House,
     timed: Timed,
     ticks: &mut Ticks,
-) -> Result<ReplyShape, Fault>
+) -> Result<Shown, Fault>
     ensures answer { Meets result (timed_served house.old timed).answer }
     ensures state { Leaves result house.new (timed_served house.old timed).world }
     ensures stages { IsOneOf house.new (house.old ∷ (timed_served house.old timed).stages) }
@@ -427,7 +462,7 @@ fn serve_line(
     house: &mut House,
     line: &[u8],
     ticks: &mut Ticks,
-) -> Result<ReplyShape, Fault>
+) -> Result<Shown, Fault>
     ensures answer { Meets result (line_served house.old (asked_of line.now)).answer }
     ensures state { Leaves result house.new (line_served house.old (asked_of line.now)).world }
     ensures stages { IsOneOf house.new (house.old ∷ (line_served house.old (asked_of line.now)).stages) }
@@ -437,7 +472,7 @@ fn serve_line(
 }
 
 /// The text of an answer: its status, a space, the JSON text and a line feed.
-fn text_of_answer(alloc: Global, answer: &Result<ReplyShape, Fault>) -> Result<Vec<u8>, ReplayFault>
+fn text_of_answer(alloc: Global, answer: &Result<Shown, Fault>) -> Result<Vec<u8>, ReplayFault>
     ensures text { IfOk result (λ bytes. bytes.items ≡ answer_text answer.now) }
     ensures answered { OnOk result (is_out_of_memory answer.now ≡ false) }
     ensures fault { IfErr result (λ fault. fault ≡ ReplayFault.OutOfMemory) }
@@ -446,8 +481,8 @@ fn text_of_answer(alloc: Global, answer: &Result<ReplyShape, Fault>) -> Result<V
         return Err(ReplayFault::OutOfMemory);
     }
     match answer {
-        Ok(shape) => {
-            let json = reply_text(alloc, shape).map_err(|_| ReplayFault::OutOfMemory)?;
+        Ok(shown) => {
+            let json = shown_text(alloc, shown).map_err(|_| ReplayFault::OutOfMemory)?;
             written(alloc, 200, json.as_str())
         }
         Err(fault) => written(alloc, status(*fault), fault_text(*fault)),
@@ -455,7 +490,7 @@ fn text_of_answer(alloc: Global, answer: &Result<ReplyShape, Fault>) -> Result<V
 }
 
 /// Whether an answer is that memory ran out, which is never told as an answer.
-fn has_no_memory(answer: &Result<ReplyShape, Fault>) -> bool
+fn has_no_memory(answer: &Result<Shown, Fault>) -> bool
     ensures { result ≡ is_out_of_memory answer.now }
 {
     match answer {

@@ -24,6 +24,8 @@ mod lines;
 mod moves;
 mod program;
 mod run;
+mod shown;
+mod statistics;
 #[cfg(test)]
 mod tests;
 mod whole;
@@ -38,6 +40,7 @@ pub use program::Refusal;
 use program::{configuration_in, default_configuration, finish, path_among};
 use queue_config::Config;
 pub use run::run_lines;
+pub use shown::Shown;
 use std::process::ExitCode;
 use std::{env, fs, io};
 pub use whole::replay;

@@ -7,6 +7,7 @@ mod lines;
 mod messages;
 mod program;
 mod queues;
+mod statistics;
 
 use super::{Device, ReplayFault, replay};
 use journal::Ticks;
@@ -86,6 +87,10 @@ const INPUT: &str = r#"1 CreateQueue {"QueueName":"jobs"}
 5 Foo {}
 6 SendMessageBatch {"QueueUrl":"jobs","Entries":[{"Id":"x","MessageBody":"b","MessageAttributes":{"a":{"DataType":"Binary","BinaryValue":"AA=="}}},{"Id":"y"}]}
 7 ReceiveMessage {"QueueUrl":"jobs","MaxNumberOfMessages":2,"MessageAttributeNames":["a"]}
+60000 Rows {"QueueUrl":"jobs"}
+60000 Statistics {}
+60000 Statistics {"QueueUrl":"jobs"}
+60000 Alarms {"QueueUrl":"jobs"}
 "#;
 
 const ANSWERS: &str = r#"200 {"QueueUrl":"http://localhost:9324/000000000000/jobs"}
@@ -95,6 +100,10 @@ const ANSWERS: &str = r#"200 {"QueueUrl":"http://localhost:9324/000000000000/job
 400 {"__type":"com.amazonaws.sqs#UnsupportedOperation","message":"The action is not supported."}
 200 {"Failed":[{"Code":"InvalidParameterValue","Id":"y","Message":"Parameter value not allowed.","SenderFault":true}],"Successful":[{"Id":"x","MD5OfMessageAttributes":"571c39fbc54bae37495f6de54f270af5","MD5OfMessageBody":"92eb5ffee6ae2fec3ad71c777531578f","MessageId":"00000000-0000-0001-0000-000000000001"}]}
 200 {"Messages":[{"Body":"hello","MD5OfBody":"5d41402abc4b2a76b9719d911017c592","MessageId":"00000000-0000-0001-0000-000000000000","ReceiptHandle":"000000000000000100000000000000000000000000000002"},{"Body":"b","MD5OfBody":"92eb5ffee6ae2fec3ad71c777531578f","MD5OfMessageAttributes":"571c39fbc54bae37495f6de54f270af5","MessageAttributes":{"a":{"BinaryValue":"AA==","DataType":"Binary"}},"MessageId":"00000000-0000-0001-0000-000000000001","ReceiptHandle":"000000000000000100000000000000010000000000000001"}]}
+200 {"rows":[{"age":59,"deadLettersArrived":0,"delayed":0,"deleted":0,"emptyReceives":0,"inFlight":0,"minute":0,"received":3,"refused":0,"sent":2,"sentSize":14,"visible":2}]}
+200 {"queues":[{"age":59,"clock":60000,"current":{"deadLettersArrived":0,"deleted":0,"emptyReceives":0,"received":0,"refused":0,"sent":0,"sentSize":0},"delayed":0,"inFlight":0,"lines":6,"name":"jobs","visible":2}]}
+200 {"age":59,"clock":60000,"current":{"deadLettersArrived":0,"deleted":0,"emptyReceives":0,"received":0,"refused":0,"sent":0,"sentSize":0},"delayed":0,"inFlight":0,"lines":6,"name":"jobs","visible":2}
+200 {"alarms":[]}
 "#;
 
 /// A replay whose allocation is refused has written a part of its text from the front, and never that

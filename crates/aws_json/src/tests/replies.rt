@@ -153,7 +153,15 @@ fn offered(alloc: Global, queue: &str, ticks: &mut Ticks) -> Result<Offers, Faul
     let name = QueueName::read(queue)?;
     let settings = Settings::default();
     let limits = Limits::default();
-    let mut state = QueueState::open(alloc, 1, name, settings, limits, Moment::zero())?;
+    let mut state = QueueState::open(
+        alloc,
+        1,
+        name,
+        settings,
+        limits,
+        Vec::new(alloc),
+        Moment::zero(),
+    )?;
     let sent = moment(1000)?;
     for body in SENT.lines() {
         if body.contains(queue) {

@@ -13,6 +13,18 @@ pub(crate) fn told_request(alloc: Global, action: &str, body: &str) -> Result<St
     Ok(text)
 }
 
+/// Tells which queue a body names, or that it names none, or the fault.
+pub(crate) fn told_queue(alloc: Global, body: &str) -> Result<String, Fault> {
+    let mut text = String::new(alloc);
+    match read_queue(alloc, body.as_bytes()) {
+        Ok(Some(queue)) => tell_queue(&mut text, &queue)?,
+        Ok(None) => text.push_str("none")?,
+        Err(Fault::OutOfMemory) => return Err(Fault::OutOfMemory),
+        Err(fault) => write!(text, "{fault:?}")?,
+    }
+    Ok(text)
+}
+
 /// Tells what a request asks for: the queue, and what is asked of it.
 fn tell_request(text: &mut String, request: &Request) -> Result<(), Fault> {
     match request {
@@ -290,6 +302,27 @@ null
 SerializationException
 "#;
 
+/// The queue that a body names by its URL, for an action that is none of these.
+const NAMED: &str = r#"{"QueueUrl":"http://localhost:9324/000000000000/jobs"}
+jobs
+{"QueueName":5,"QueueUrl":"jobs"}
+jobs
+{}
+none
+{"QueueUrl":null}
+none
+{"QueueUrl":"jobs/"}
+QueueDoesNotExist
+{"QueueUrl":""}
+QueueDoesNotExist
+{"QueueUrl":5}
+SerializationException
+[]
+SerializationException
+{"QueueUrl":"jo
+SerializationException
+"#;
+
 #[test]
 fn queues(rt: HostRuntime) -> Result<(), Fail> {
     let ticks = &mut Ticks::new(&rt);
@@ -304,6 +337,7 @@ fn queues(rt: HostRuntime) -> Result<(), Fail> {
     agrees(&rt, rt.alloc(), ticks, "PurgeQueue <>", PURGES)?;
     agrees(&rt, rt.alloc(), ticks, "DeleteQueue <>", DELETIONS)?;
     agrees(&rt, rt.alloc(), ticks, "GetQueueUrl <>", URLS)?;
+    agrees(&rt, rt.alloc(), ticks, "names <>", NAMED)?;
     agrees(&rt, rt.alloc(), ticks, "ListQueues <>", LISTS)?;
     agrees(
         &rt,

@@ -3,7 +3,8 @@
 
 use super::*;
 
-/// What a text is read as: the fault's number and name, or the limits, and each queue with the settings that are not the default.
+/// What a text is read as: the fault's number and name, or the limits, each queue with the settings
+/// that are not the default, and each alarm with its queue's uid.
 pub(super) fn told(alloc: Global, text: &str) -> Result<String, Fail> {
     let config = match config_from_text(alloc, text) {
         Ok(config) => config,
@@ -15,6 +16,9 @@ pub(super) fn told(alloc: Global, text: &str) -> Result<String, Fail> {
         let changes = told_changes(alloc, Settings::default(), queue.settings)?;
         let more = format!(in alloc; "; {}{changes}", queue.name.as_text())?;
         told.push_str(more.as_str())?;
+    }
+    for alarm in &config.alarms {
+        told.push_str(alarms::told(alloc, *alarm)?.as_str())?;
     }
     Ok(told)
 }
@@ -55,7 +59,7 @@ x = 1
 limits = 1
 zzz = 1
 => 2 UnknownKey
-[[alarm]]
+[[alarms]]
 => 2 UnknownKey
 limits = 1
 => 3 WrongKind
@@ -702,12 +706,13 @@ CSSSSSSSSSSSSSSSSSSSSSSSSSW
 WSSSSSSSSSSSSSSSSSSSSCC";
 
 /// What bytes give, as a letter of [`PREFIXES`].
-fn letter(alloc: Global, bytes: &[u8]) -> u8 {
+pub(super) fn letter(alloc: Global, bytes: &[u8]) -> u8 {
     match config_from_bytes(alloc, bytes) {
         Ok(_) => b'C',
         Err(ConfigFault::Syntax) => b'S',
         Err(ConfigFault::WrongKind) => b'W',
         Err(ConfigFault::OutOfRange) => b'R',
+        Err(ConfigFault::NameTwice) => b'N',
         Err(ConfigFault::NoSuchTarget) => b'T',
         Err(_) => b'-',
     }
@@ -750,6 +755,7 @@ fn limits(rt: HostRuntime) -> Result<(), Fail> {
     let limits = config_from_bytes(rt.alloc(), b"limits.in_flight = 1")?.limits;
     let config = Config::with_limits(rt.alloc(), limits);
     assert_eq!(rt; (config.limits.in_flight, config.queues.len()), (1, 0));
+    assert!(rt; config.alarms.is_empty());
     Ok(())
 }
 

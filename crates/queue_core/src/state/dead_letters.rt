@@ -2,6 +2,7 @@
 
 ghost use Rattle.std.specs.Prelude.{◌≡◌, ◌<◌, ◌^◌, None, Ok, IsTrue, option_map};
 ghost use Rattle.message.specs.Content.{is_content};
+ghost use Rattle.message.specs.Name.{is_queue_name};
 ghost use Rattle.message.specs.Fault.{Meets};
 
 use crate::command::Command;
@@ -17,9 +18,11 @@ use std::alloc::Global;
 /// What every parcel is. Nothing depends on it.
 fn keep_parcel(parcel: &Parcel)
     ensures content { IsTrue (is_content parcel.now.content) }
+    ensures name { IsTrue (is_queue_name parcel.now.origin.name) }
     ensures sent { parcel.now.origin.sent < 2 ^ 62 }
 {
     let _size = parcel.content.size();
+    let _name = parcel.origin.name.as_text();
     let _sent = parcel.origin.sent.milliseconds();
 }
 
@@ -102,9 +105,10 @@ impl QueueState {
     }
 
     /// Takes back every message that waits for the dead-letter queue of a uid, which is gone, and
-    /// clears the policy where it names that queue. The messages are visible at once, and their receives
-    /// count on. The answer is how many came back. This is an entry, also where none did. A full journal
-    /// answers `JournalFull`; with `OutOfMemory` only the clock has moved.
+    /// clears the policy where it names that queue. Those that have not expired are visible at once, and
+    /// their receives count on. The answer is how many came back, the expired ones among them. This is an
+    /// entry, also where none did. A full journal answers `JournalFull`; with `OutOfMemory` only the clock
+    /// has moved.
     pub fn orphan(
         &mut self,
         alloc: Global,
@@ -128,7 +132,7 @@ impl QueueState {
         ensures answer { Meets result (Ok (first_parcel_of self.now)) }
         ensures none { first_parcel_of self.now ≡ None → result ≡ Ok None }
     {
-        match transfers::first_transfer(&self.journal) {
+        match transfers::first_transfer(&self.entries()) {
             Some(transfer) => self.transferred_parcel(transfer),
             None => Ok(None),
         }
@@ -139,9 +143,9 @@ impl QueueState {
     pub fn first_waiting(&self) -> Option<(Origin, u64)>
         ensures { result ≡ option_map (λ p. (p.origin, p.target)) (first_parcel_of self.now) }
     {
-        let transfer = transfers::first_transfer(&self.journal)?;
-        let message = reading::message_numbered(&self.journal, transfer.number)?;
-        let _content = reading::content_of(&self.journal, &message)?;
+        let transfer = transfers::first_transfer(&self.entries())?;
+        let message = reading::message_numbered(&self.entries(), transfer.number)?;
+        let _content = reading::content_of(&self.entries(), &message)?;
         Some((self.origin_of(&message), transfer.target))
     }
 
@@ -150,10 +154,10 @@ impl QueueState {
         ensures answer { Meets result (Ok (transferred_parcel self.now transfer)) }
         ensures none { transferred_parcel self.now transfer ≡ None → result ≡ Ok None }
     {
-        let Some(message) = reading::message_numbered(&self.journal, transfer.number) else {
+        let Some(message) = reading::message_numbered(&self.entries(), transfer.number) else {
             return Ok(None);
         };
-        let Some(content) = reading::content_of(&self.journal, &message) else {
+        let Some(content) = reading::content_of(&self.entries(), &message) else {
             return Ok(None);
         };
         Ok(Some(Parcel {
@@ -180,15 +184,15 @@ impl QueueState {
     pub fn has_accepted(&self, origin: &Origin) -> bool
         ensures { result ≡ has_accepted self.now.lines origin.now.uid origin.now.number }
     {
-        transfers::has_accepted(&self.journal, origin.uid, origin.number)
+        transfers::has_accepted(&self.entries(), origin.uid, origin.number)
     }
 
     /// Whether the message of a number has left, and its transfer is not confirmed.
     fn is_pending(&self, number: u64) -> bool
         ensures { result ≡ is_pending self.now number }
     {
-        match reading::message_numbered(&self.journal, number) {
-            Some(message) => reading::awaits_transfer(&self.journal, &message),
+        match reading::message_numbered(&self.entries(), number) {
+            Some(message) => reading::awaits_transfer(&self.entries(), &message),
             None => false,
         }
     }
@@ -197,6 +201,6 @@ impl QueueState {
     fn waiting_count(&self, target: u64) -> u64
         ensures { result ≡ waiting_count self.now target }
     {
-        transfers::waiting_count(&self.journal, target)
+        transfers::waiting_count(&self.entries(), target)
     }
 }

@@ -21,7 +21,15 @@ fn jobs(alloc: Global, limits: Limits) -> Result<QueueState, Fault> {
     wish.put(alloc, "RedrivePolicy", POLICY)?;
     let settings = Settings::default().with(&wish, 1);
     let name = QueueName::read("jobs")?;
-    QueueState::open(alloc, 2, name, settings, limits, Moment::zero())
+    QueueState::open(
+        alloc,
+        2,
+        name,
+        settings,
+        limits,
+        Vec::new(alloc),
+        Moment::zero(),
+    )
 }
 
 /// The queue `dead` of uid 1, which keeps messages for a minute.
@@ -30,7 +38,15 @@ fn dead(alloc: Global, limits: Limits) -> Result<QueueState, Fault> {
     wish.put(alloc, "MessageRetentionPeriod", "60")?;
     let settings = Settings::default().with(&wish, 0);
     let name = QueueName::read("dead")?;
-    QueueState::open(alloc, 1, name, settings, limits, Moment::zero())
+    QueueState::open(
+        alloc,
+        1,
+        name,
+        settings,
+        limits,
+        Vec::new(alloc),
+        Moment::zero(),
+    )
 }
 
 /// The parcel of the message `a`, the first of `jobs`, that was sent at a moment.
@@ -102,6 +118,22 @@ fn leaves(rt: HostRuntime) -> Result<(), Fail> {
     assert!(rt; matches!(queue.first_parcel(alloc), Ok(None)));
     assert_eq!(rt; queue.orphan(alloc, moment(5500)?, 1, ticks), Ok(0));
     assert_eq!(rt; counts(&mut queue, 9000, ticks)?, (0, 0, 0));
+    Ok(())
+}
+
+/// A dead letter counts as arrived and not as sent, and its age counts from its arrival.
+#[test]
+fn arrivals_are_no_sends(rt: HostRuntime) -> Result<(), Fail> {
+    let ticks = &mut Ticks::new(&rt);
+    let alloc = rt.alloc();
+    let mut queue = dead(alloc, Limits::default())?;
+    queue.arrive(alloc, moment(5000)?, parcel(alloc, 1000)?, ticks)?;
+    queue.receive(alloc, moment(6000)?, 1, None, ticks)?;
+    queue.advance(moment(60_000)?, ticks);
+    let row = queue.row(0).ok_or("a row")?;
+    assert_eq!(rt; (row.flows.dead_letters_arrived, row.flows.sent), (1, 0));
+    assert_eq!(rt; (row.flows.sent_size, row.flows.received), (0, 1));
+    assert_eq!(rt; (row.gauges.visible, row.gauges.age), (1, 54));
     Ok(())
 }
 

@@ -134,19 +134,19 @@ IsOwn lines (Refused fault) = ⊤
 IsOwn lines Closed = ⊥
 
 module _ (P : Event ContentText → Type 0) where
-  unless_refused-event : (r : Option Fault) (o : Outcome) → IfSome o.event P → IfSome (unless_refused r o).event P
+  pub unless_refused-event : (r : Option Fault) (o : Outcome) → IfSome o.event P → IfSome (unless_refused r o).event P
   unless_refused-event None o h = h
   unless_refused-event (Some fault) o h = tt
 
-  refused_or-event : (r : Option Fault) (o : Outcome) → ((fault : Fault) → P (Refused fault)) → IfSome o.event P → IfSome (refused_or r o).event P
+  pub refused_or-event : (r : Option Fault) (o : Outcome) → ((fault : Fault) → P (Refused fault)) → IfSome o.event P → IfSome (refused_or r o).event P
   refused_or-event None o f h = h
   refused_or-event (Some fault) o f h = f fault
 
-  cond-event : (b : Bool) (o p : Outcome) → IfSome o.event P → IfSome p.event P → IfSome (cond b o p).event P
+  pub cond-event : (b : Bool) (o p : Outcome) → IfSome o.event P → IfSome p.event P → IfSome (cond b o p).event P
   cond-event true o p h k = h
   cond-event false o p h k = k
 
-  if_some-at : (o : Option (Event ContentText)) (event : Event ContentText) → IfSome o P → o ≡ Some event → P event
+  pub if_some-at : (o : Option (Event ContentText)) (event : Event ContentText) → IfSome o P → o ≡ Some event → P event
   if_some-at None event h e = absurd (none-some event e)
   if_some-at (Some other) event h e = subst P (same_Some other event e) h
 

@@ -1,7 +1,8 @@
 -- What every step keeps is so after each list of steps, and what every opening keeps is so at the beginning.
 use Rattle.std.proofs.Common.{ℕ, false, List, [], ◌∷◌, refl}
 use Rattle.std.specs.Prelude.{fold}
-use Rattle.queue_config.specs.Config.{Configuration}
+use Rattle.queue_config.specs.Config.{Configuration, rules_of}
+use Rattle.queue_config.specs.declared.config.ConfiguredAlarm.{ConfiguredAlarm}
 use Rattle.queue_config.specs.declared.config.ConfiguredQueue.{ConfiguredQueue}
 use Rattle.redrive.specs.declared.steps.HouseStep.{HouseStep}
 use Rattle.redrive.specs.World.{World, empty_world, with_queue, next_queue, new_world}
@@ -18,22 +19,22 @@ module _ (P : View → Type 0) where
     pub fresh : IsFresh (record { world = w; deleted = [] })
     pub so : P (view_of (record { world = w; deleted = [] }))
 
-  begins-with : ((v v' : View) (u : ℕ) (e : Line) → Grows v v' u e → IsOpened v v' u e → P v → P v') → (at : ℕ) (queues : List ConfiguredQueue) (w : World) → Begins w
-      → Begins (fold (λ w q. with_queue w (next_queue w at q.name q.settings)) w queues)
-  begins-with f at [] w h = h
-  begins-with f at (q ∷ queues) w h =
+  begins-with : ((v v' : View) (u : ℕ) (e : Line) → Grows v v' u e → IsOpened v v' u e → P v → P v') → (at : ℕ) (alarms : List ConfiguredAlarm) (queues : List ConfiguredQueue) (w : World) → Begins w
+      → Begins (fold (λ w q. with_queue w (next_queue w at q.name q.settings (rules_of alarms w.next_uid))) w queues)
+  begins-with f at alarms [] w h = h
+  begins-with f at alarms (q ∷ queues) w h =
       let all : AllQueues = record { world = w; deleted = [] } in
-      begins-with f at queues (with_queue w (next_queue w at q.name q.settings))
+      begins-with f at alarms queues (with_queue w (next_queue w at q.name q.settings (rules_of alarms w.next_uid)))
       (record {
-        fresh = opened-fresh all at q.name q.settings h.fresh;
-        so = f (view_of all) (view_of (record { world = with_queue w (next_queue w at q.name q.settings); deleted = [] })) w.next_uid (opening all at q.name q.settings h.fresh)
-            (opened-grows all at q.name q.settings h.fresh) (opened-is all at q.name q.settings h.fresh) h.so;
+        fresh = opened-fresh all at q.name q.settings (rules_of alarms w.next_uid) h.fresh;
+        so = f (view_of all) (view_of (record { world = with_queue w (next_queue w at q.name q.settings (rules_of alarms w.next_uid)); deleted = [] })) w.next_uid (opening all at q.name q.settings (rules_of alarms w.next_uid) h.fresh)
+            (opened-grows all at q.name q.settings (rules_of alarms w.next_uid) h.fresh) (opened-is all at q.name q.settings (rules_of alarms w.next_uid) h.fresh) h.so;
       })
 
   pub begins : ((v v' : View) (u : ℕ) (e : Line) → Grows v v' u e → IsOpened v v' u e → P v → P v') → P (record { is_open = λ u. false; lines = λ u. [] }) → (config : Configuration) (at : ℕ)
       → Begins (new_world config at)
   begins f h config at =
-      begins-with f at config.queues (empty_world config.limits) (record { fresh = record { none_there = λ u l. refl; none_deleted = λ u l. refl }; so = h })
+      begins-with f at config.alarms config.queues (empty_world config.limits) (record { fresh = record { none_there = λ u l. refl; none_deleted = λ u l. refl }; so = h })
 
   pub through : ((all : AllQueues) (step : HouseStep) (answer : Answer) → Change (IsDeletion step answer) (view_of all) (view_of (all_after all step answer)) → P (view_of all) → P (view_of (all_after all step answer)))
       → (all : AllQueues) (steps : List HouseStep) (answers : List Answer) → AreHouseAnswers all.world steps answers → IsFresh all → P (view_of all) → P (view_of (history_after all steps answers))

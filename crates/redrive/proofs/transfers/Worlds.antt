@@ -10,6 +10,7 @@ use Rattle.message.specs.declared.fault.Fault.{Fault}
 use Rattle.message.specs.declared.fault.Fault.TheVariants.{QueueDoesNotExist, InvalidAttributeValue, UnsupportedOperation}
 use Rattle.message.specs.Content.{ContentText}
 use Rattle.message.specs.Fault.{Meets, is_out_of_memory}
+use Rattle.queue_config.specs.AlarmRules.{Rule}
 use Rattle.queue_config.specs.Settings.{QueueSettings, default_settings, settings_with}
 use Rattle.journal.specs.declared.entry.Event.{Event}
 use Rattle.journal.specs.declared.entry.Event.TheVariants.{Opened, Sent, Arrived, Received, Changed, Deleted, DeletedAgain, Purged, Set, Settled, Orphaned, Refused, Closed}
@@ -322,9 +323,9 @@ option_or-none : (o : Option QueueHistory) → option_or o None ≡ o
 option_or-none None = refl
 option_or-none (Some q) = refl
 
-module _ (all : AllQueues) (at : ℕ) (name : List ℕ) (settings : QueueSettings) (fresh : IsFresh all) where
+module _ (all : AllQueues) (at : ℕ) (name : List ℕ) (settings : QueueSettings) (rules : List Rule) (fresh : IsFresh all) where
   abbrev pub opened : QueueHistory
-  opened = opened_queue all.world.next_uid name settings all.world.limits at
+  opened = opened_queue all.world.next_uid name settings all.world.limits rules at
 
   abbrev pub opening : Line
   opening = record { at = at; event = Opened all.world.next_uid settings }
@@ -517,7 +518,7 @@ step-led all (steps.Create at name wish) answer fresh meets =
     with_same all _ answer (not_deleted answer (as_house_reply replies.Created (create_answer all.world name wish)) all.deleted meets (other_kind replies.Created (create_answer all.world name wish) (λ x q e. cc)))
     (either-led all (is_out_of_memory answer) all.world (cond (opens_queue all.world name wish) (with_queue all.world (new_queue all.world at name wish)) all.world) all.deleted (nothing-led all fresh)
     (either-led all (opens_queue all.world name wish) (with_queue all.world (new_queue all.world at name wish)) all.world all.deleted
-    (opened-led all at name (settings_with default_settings wish (target_uid all.world wish)) fresh) (nothing-led all fresh)))
+    (opened-led all at name (settings_with default_settings wish (target_uid all.world wish)) [] fresh) (nothing-led all fresh)))
 step-led all (steps.Delete at uid) answer fresh meets =
     deletion-led all uid at fresh answer (queue_of_uid all.world uid) refl (deletion-known at uid answer)
     (plain answer (as_house_reply replies.Deleted (take_answer all.world uid at)) meets (not_handed (take_answer all.world uid at)))

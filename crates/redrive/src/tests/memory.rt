@@ -193,12 +193,12 @@ fn run_again(
 ) -> Result<HouseRun, Fault> {
     let before = look(house, alloc, 1, ticks)?;
     let other = look(house, alloc, 2, ticks)?;
-    match house.run(alloc, steps, ticks) {
+    match house.run(alloc, steps, 0, 0, ticks) {
         Err(Fault::OutOfMemory) => {
             assert_eq!(rt; look(house, alloc, 1, ticks)?, before);
             assert_eq!(rt; look(house, alloc, 2, ticks)?, other);
             assert!(rt; house.find(&QueueName::read("more")?).is_none());
-            house.run(alloc, steps, ticks)
+            house.run(alloc, steps, 0, 0, ticks)
         }
         answer => answer,
     }
@@ -218,7 +218,7 @@ fn told_again(
     ticks: &mut Ticks,
 ) -> Result<String, Fault> {
     if is_refused(answer) {
-        let run = house.run(alloc, step, ticks)?;
+        let run = house.run(alloc, step, 0, 0, ticks)?;
         return match run.answers.get(0) {
             Some(answer) => answered(alloc, answer),
             None => Err(Fault::UnsupportedOperation),
@@ -271,12 +271,12 @@ fn counts_what_is_left(
     house: &mut House,
     ticks: &mut Ticks,
 ) -> Result<(), Fail> {
-    let run = match house.run(alloc, &[], ticks) {
-        Err(Fault::OutOfMemory) => house.run(alloc, &[], ticks)?,
+    let run = match house.run(alloc, &[], 0, 0, ticks) {
+        Err(Fault::OutOfMemory) => house.run(alloc, &[], 0, 0, ticks)?,
         answer => answer?,
     };
-    assert_eq!(rt; run.gauges.len(), 2);
-    let (first, last) = (run.gauges[0], run.gauges[1]);
+    assert_eq!(rt; run.metrics.len(), 2);
+    let (first, last) = (run.metrics[0], run.metrics[1]);
     assert_eq!(rt; (first.uid, first.gauges.visible), (1, 4));
     assert_eq!(rt; (last.uid, last.gauges.visible), (3, 0));
     Ok(())

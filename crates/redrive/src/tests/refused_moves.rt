@@ -184,10 +184,10 @@ fn run_again(
     ticks: &mut Ticks,
 ) -> Result<HouseRun, Fault> {
     let before = lines(house, alloc, ticks)?;
-    match house.run(alloc, steps, ticks) {
+    match house.run(alloc, steps, 0, 0, ticks) {
         Err(Fault::OutOfMemory) => {
             assert_eq!(rt; lines(house, alloc, ticks)?, before);
-            house.run(alloc, steps, ticks)
+            house.run(alloc, steps, 0, 0, ticks)
         }
         answer => answer,
     }
@@ -236,7 +236,7 @@ pub(super) fn runs(rt: &impl Abort, alloc: Global, ticks: &mut Ticks) -> Result<
         assert_eq!(rt; confirmed, Ok(false));
         assert_eq!(rt; lines(&mut house, alloc, ticks)?, (4, 4));
     }
-    house.run(alloc, &steps, ticks)?;
+    house.run(alloc, &steps, 0, 0, ticks)?;
     assert_eq!(rt; lines(&mut house, alloc, ticks)?, (5, 5));
     Ok(())
 }

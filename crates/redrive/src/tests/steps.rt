@@ -111,7 +111,7 @@ fn runs(
             steps.push(step(alloc, call)?)?;
         }
     }
-    let run = house.run(alloc, &steps, ticks)?;
+    let run = house.run(alloc, &steps, 0, 0, ticks)?;
     assert_eq!(rt; run.answers.len(), steps.len());
     for (answer, line) in run.answers.iter().zip(text.lines()) {
         if let Some((call, wanted)) = line.split_once(" = ") {
@@ -145,8 +145,8 @@ look 3 = 0 visible
 delete 2 = QueueDoesNotExist";
     let run = runs(&rt, alloc, &mut house, &mut ticks, text)?;
     assert_eq!(rt; run.answers.len(), 15);
-    assert_eq!(rt; run.gauges.len(), 2);
-    let (first, last) = (run.gauges[0], run.gauges[1]);
+    assert_eq!(rt; run.metrics.len(), 2);
+    let (first, last) = (run.metrics[0], run.metrics[1]);
     assert_eq!(rt; (first.uid, first.gauges.visible), (1, 2));
     assert_eq!(rt; (last.uid, last.gauges.visible), (3, 0));
     Ok(())

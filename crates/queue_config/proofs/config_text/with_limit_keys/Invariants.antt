@@ -1,7 +1,8 @@
 use Rattle.std.proofs.Common.{◌≡◌}
 use Rattle.toml.specs.View.{members_view}
 use Rattle.queue_config.specs.Limits.{default_limits}
-use Rattle.queue_config.specs.ConfigText.{with_keys, limit_keys}
+use Rattle.queue_config.specs.ConfigKeys.{with_keys}
+use Rattle.queue_config.specs.ConfigText.{limit_keys}
 use Rattle.queue_config.proofs.config_text.with_limit_keys.Given as goal
 
 abbrev pub invariant-loop-key : goal.invariant-loop-key

@@ -1,6 +1,7 @@
 use Rattle.std.proofs.Common.{◌≡◌}
 use Rattle.toml.specs.View.{members_view}
-use Rattle.queue_config.specs.ConfigText.{with_keys, queue_keys, no_keys}
+use Rattle.queue_config.specs.ConfigKeys.{with_keys}
+use Rattle.queue_config.specs.ConfigText.{queue_keys, no_keys}
 use Rattle.queue_config.proofs.config_text.with_queue_keys.Given as goal
 
 abbrev pub invariant-loop-key : goal.invariant-loop-key

@@ -4,4 +4,4 @@ use Rattle.queue_core.proofs.numbering.first_message.Given as goal
 
 abbrev pub invariant-loop-place : goal.invariant-loop-place
 invariant-loop-place l =
-    messages_from l.place l.number (drop l.place l.journal.lines) ≡ messages_from l.from l.number (drop l.from l.journal.lines)
+    messages_from l.place l.number (drop l.place l.lines) ≡ messages_from l.from l.number (drop l.from l.lines)

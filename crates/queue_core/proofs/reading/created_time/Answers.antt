@@ -4,8 +4,8 @@ use Rattle.queue_core.proofs.reading.created_time.Goals as goal
 
 pub returns-then-opens : goal.returns-then-opens
 returns-then-opens c =
-    sym (created_time-opening c.args.journal.now.lines c.loop-place.place c.line_at-line.result.now c.line_at-line.ensures (sym c.opens.ensures ∙ c.if-opens.true)) ∙ c.loop-place.invariant
+    sym (created_time-opening c.args.lines.now c.loop-place.place c.line_at-line.result.now c.line_at-line.ensures (sym c.opens.ensures ∙ c.if-opens.true)) ∙ c.loop-place.invariant
 
 pub loop-place-preserved : goal.loop-place-preserved
 loop-place-preserved c =
-    sym (created_time-other c.args.journal.now.lines c.loop-place.place c.line_at-line.result.now c.line_at-line.ensures (sym c.opens.ensures ∙ c.if-opens.false)) ∙ c.loop-place.invariant
+    sym (created_time-other c.args.lines.now c.loop-place.place c.line_at-line.result.now c.line_at-line.ensures (sym c.opens.ensures ∙ c.if-opens.false)) ∙ c.loop-place.invariant

@@ -3,4 +3,4 @@ use Rattle.queue_core.specs.Messages.{created_time}
 use Rattle.queue_core.proofs.reading.created_time.Given as goal
 
 abbrev pub invariant-loop-place : goal.invariant-loop-place
-invariant-loop-place l = created_time (drop l.place l.journal.lines) ≡ created_time l.journal.lines
+invariant-loop-place l = created_time (drop l.place l.lines) ≡ created_time l.lines

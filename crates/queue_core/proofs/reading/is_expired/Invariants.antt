@@ -5,4 +5,4 @@ use Rattle.queue_core.proofs.reading.is_expired.Given as goal
 
 abbrev pub invariant-loop-place : goal.invariant-loop-place
 invariant-loop-place l =
-    list_any (λ p. runs_out_in l.message p) (periods_from l.place l.settings l.clock (drop l.place l.journal.lines)) ≡ is_expired l.journal.lines l.clock l.message
+    list_any (λ p. runs_out_in l.message p) (periods_from l.place l.settings l.clock (drop l.place l.lines)) ≡ is_expired l.lines l.clock l.message

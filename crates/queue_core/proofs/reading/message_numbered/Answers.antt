@@ -7,4 +7,4 @@ use Rattle.queue_core.proofs.reading.message_numbered.Goals as goal
 pub returns : goal.returns
 returns c =
     sym (option_map_id c.nth.result)
-    ∙ nth_from_yields_List c.nth.result c.nth.new.self c.args.number c.nth.ensures.ran (YieldsList-from_first (λ m. m) (λ left. left) (messages c.args.journal.now.lines) c.of.ensures.all)
+    ∙ nth_from_yields_List c.nth.result c.nth.new.self c.args.number c.nth.ensures.ran (YieldsList-from_first (λ m. m) (λ left. left) (messages c.args.lines.now) c.of.ensures.all)

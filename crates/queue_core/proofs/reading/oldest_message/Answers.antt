@@ -9,5 +9,5 @@ use Rattle.queue_core.proofs.reading.oldest_message.Goals as goal
 pub returns : goal.returns
 returns c =
     sym (option_map_id c.find.result)
-    ∙ find_from_yields_List (λ m. is_live c.args.journal.now.lines c.args.clock m) _ _ _ c.find.ensures.ran
-    (YieldsList-from_first (λ m. m) (λ left. left) (messages c.args.journal.now.lines) c.of.ensures.all) (λ x b q k. search (rules, tests))
+    ∙ find_from_yields_List (λ m. is_live c.args.lines.now c.args.clock m) _ _ _ c.find.ensures.ran
+    (YieldsList-from_first (λ m. m) (λ left. left) (messages c.args.lines.now) c.of.ensures.all) (λ x b q k. search (rules, tests))

@@ -11,7 +11,7 @@ loop-place-preserved c =
     let offer : Entry ContentText → Bool = λ e. offers_number c.args.number e.event in
     elim c.if-offers_number.branch [
       | then-offers_number w ↦
-          (omega arith, omega (arith, count_by-yes c.args.journal.now.lines c.loop-place.place c.line_at.result.now c.line_at.ensures offer (cc)))
+          (omega arith, omega (arith, count_by-yes c.args.lines.now c.loop-place.place c.line_at.result.now c.line_at.ensures offer (cc)))
       | else-offers_number w ↦
-          (omega arith, omega (arith, count_by-no c.args.journal.now.lines c.loop-place.place c.line_at.result.now c.line_at.ensures offer (cc)))
+          (omega arith, omega (arith, count_by-no c.args.lines.now c.loop-place.place c.line_at.result.now c.line_at.ensures offer (cc)))
     ]

@@ -5,4 +5,4 @@ use Rattle.queue_core.proofs.reading.receive_count.Given as goal
 
 abbrev pub invariant-loop-place : goal.invariant-loop-place
 invariant-loop-place l =
-    (l.count ≤ l.place) × (l.count + count_by (λ e. offers_number l.number e.event) (drop l.place l.journal.lines) ≡ receive_count l.journal.lines l.number)
+    (l.count ≤ l.place) × (l.count + count_by (λ e. offers_number l.number e.event) (drop l.place l.lines) ≡ receive_count l.lines l.number)

@@ -3,4 +3,4 @@ use Rattle.queue_core.specs.Messages.{settings_from, settings_of}
 use Rattle.queue_core.proofs.reading.settings_of.Given as goal
 
 abbrev pub invariant-loop-place : goal.invariant-loop-place
-invariant-loop-place l = settings_from l.settings (drop l.place l.journal.lines) ≡ settings_of l.journal.lines
+invariant-loop-place l = settings_from l.settings (drop l.place l.lines) ≡ settings_of l.lines

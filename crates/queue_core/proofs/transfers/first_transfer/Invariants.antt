@@ -4,4 +4,4 @@ use Rattle.queue_core.specs.Messages.{pending_transfers}
 use Rattle.queue_core.proofs.transfers.first_transfer.Given as goal
 
 abbrev pub invariant-loop-place : goal.invariant-loop-place
-invariant-loop-place l = slice_get (pending_transfers (drop l.place l.journal.lines)) 0 ≡ slice_get (pending_transfers l.journal.lines) 0
+invariant-loop-place l = slice_get (pending_transfers (drop l.place l.lines)) 0 ≡ slice_get (pending_transfers l.lines) 0

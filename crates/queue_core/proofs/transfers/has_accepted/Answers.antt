@@ -5,8 +5,8 @@ use Rattle.queue_core.proofs.transfers.has_accepted.Goals as goal
 
 pub returns-then-accepts : goal.returns-then-accepts
 returns-then-accepts c =
-    sym (any-here c.args.journal.now.lines c.loop-place.place c.line_at.result.now c.line_at.ensures (λ e. accepts c.args.uid c.args.number e.event) (sym c.accepts.ensures ∙ c.if-accepts.true)) ∙ c.loop-place.invariant
+    sym (any-here c.args.lines.now c.loop-place.place c.line_at.result.now c.line_at.ensures (λ e. accepts c.args.uid c.args.number e.event) (sym c.accepts.ensures ∙ c.if-accepts.true)) ∙ c.loop-place.invariant
 
 pub loop-place-preserved : goal.loop-place-preserved
 loop-place-preserved c =
-    sym (any-later c.args.journal.now.lines c.loop-place.place c.line_at.result.now c.line_at.ensures (λ e. accepts c.args.uid c.args.number e.event) (sym c.accepts.ensures ∙ c.if-accepts.false)) ∙ c.loop-place.invariant
+    sym (any-later c.args.lines.now c.loop-place.place c.line_at.result.now c.line_at.ensures (λ e. accepts c.args.uid c.args.number e.event) (sym c.accepts.ensures ∙ c.if-accepts.false)) ∙ c.loop-place.invariant

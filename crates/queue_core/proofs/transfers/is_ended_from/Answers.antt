@@ -5,8 +5,8 @@ use Rattle.queue_core.proofs.transfers.is_ended_from.Goals as goal
 
 pub returns-then-ends_transfer : goal.returns-then-ends_transfer
 returns-then-ends_transfer c =
-    sym (any-here c.args.journal.now.lines c.loop-place.place c.line_at.result.now c.line_at.ensures (λ later. ends_transfer c.args.transfer later.event) (sym c.ends_transfer.ensures ∙ c.if-ends_transfer.true)) ∙ c.loop-place.invariant
+    sym (any-here c.args.lines.now c.loop-place.place c.line_at.result.now c.line_at.ensures (λ later. ends_transfer c.args.transfer later.event) (sym c.ends_transfer.ensures ∙ c.if-ends_transfer.true)) ∙ c.loop-place.invariant
 
 pub loop-place-preserved : goal.loop-place-preserved
 loop-place-preserved c =
-    sym (any-later c.args.journal.now.lines c.loop-place.place c.line_at.result.now c.line_at.ensures (λ later. ends_transfer c.args.transfer later.event) (sym c.ends_transfer.ensures ∙ c.if-ends_transfer.false)) ∙ c.loop-place.invariant
+    sym (any-later c.args.lines.now c.loop-place.place c.line_at.result.now c.line_at.ensures (λ later. ends_transfer c.args.transfer later.event) (sym c.ends_transfer.ensures ∙ c.if-ends_transfer.false)) ∙ c.loop-place.invariant

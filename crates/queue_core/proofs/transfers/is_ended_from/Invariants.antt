@@ -5,4 +5,4 @@ use Rattle.queue_core.proofs.transfers.is_ended_from.Given as goal
 
 abbrev pub invariant-loop-place : goal.invariant-loop-place
 invariant-loop-place l =
-    list_any (λ later. ends_transfer l.transfer later.event) (drop l.place l.journal.lines) ≡ list_any (λ later. ends_transfer l.transfer later.event) (drop l.from l.journal.lines)
+    list_any (λ later. ends_transfer l.transfer later.event) (drop l.place l.lines) ≡ list_any (λ later. ends_transfer l.transfer later.event) (drop l.from l.lines)

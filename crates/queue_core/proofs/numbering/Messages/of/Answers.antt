@@ -3,4 +3,4 @@ use Rattle.queue_core.proofs.Scans.{length-messages_from}
 use Rattle.queue_core.proofs.numbering.Messages.of.Goals as goal
 
 pub returns-clause-few : goal.returns-clause-few
-returns-clause-few c = omega (arith, length-messages_from 0 0 c.args.journal.now.lines)
+returns-clause-few c = omega (arith, length-messages_from 0 0 c.args.lines.now)

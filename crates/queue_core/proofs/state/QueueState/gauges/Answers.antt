@@ -4,4 +4,4 @@ use Rattle.queue_core.specs.States.{gauges_of}
 use Rattle.queue_core.proofs.state.QueueState.gauges.Goals as goal
 
 pub returns-clause-counts : goal.returns-clause-counts
-returns-clause-counts c = c.gauges_of.ensures ∙ ap (λ (q : QueueHistory). gauges_of q.lines q.clock) c.self.view_is
+returns-clause-counts c = c.gauges_of.ensures ∙ ap (λ (lines : _). gauges_of lines c.self.inside.clock) c.entries.ensures ∙ ap (λ (q : QueueHistory). gauges_of c.args.self.now.lines q.clock) c.self.view_is

@@ -7,7 +7,7 @@ use Rattle.queue_core.proofs.state.QueueState.look_of.Goals as goal
 pub returns : goal.returns
 returns c =
     look_of-parts c.args.self.now c.gauges.result c.settings.result c.created_time.result c.modified_time.result c.len.result c.self.inside.clock c.is_closed.result c.gauges.ensures.counts c.settings.ensures
-    (c.created_time.ensures ∙ ap (λ (q : QueueHistory). created_time q.lines) c.self.view_is)
-    (c.modified_time.ensures ∙ ap (λ (q : QueueHistory). modified_time q.lines) c.self.view_is)
+    (c.created_time.ensures ∙ ap created_time c.entries.ensures)
+    (c.modified_time.ensures ∙ ap modified_time c.entries-2.ensures)
     (c.len.ensures ∙ ap (λ (q : QueueHistory). length q.lines) c.self.view_is)
     (ap (λ (q : QueueHistory). q.clock) c.self.view_is) c.is_closed.ensures

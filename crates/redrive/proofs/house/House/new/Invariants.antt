@@ -3,4 +3,4 @@ use Rattle.redrive.specs.World.{new_world}
 use Rattle.redrive.proofs.house.House.new.Given as goal
 
 abbrev pub invariant-loop-queue : goal.invariant-loop-queue
-invariant-loop-queue l = l.house ≡ new_world (record { limits = l.config.limits; queues = take l.queue-index l.config.queues }) l.at
+invariant-loop-queue l = l.house ≡ new_world (record { limits = l.config.limits; queues = take l.queue-index l.config.queues; alarms = l.config.alarms }) l.at

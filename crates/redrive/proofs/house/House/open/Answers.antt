@@ -5,7 +5,7 @@ use Rattle.redrive.proofs.house.House.open.Goals as goal
 
 pub invariant_of-self : goal.invariant_of-self
 invariant_of-self c =
-    IsRegistry-opened c.self.inside.queues c.open.new.self c.args.at c.args.name c.args.settings c.open.result c.self.invariant
+    IsRegistry-opened c.self.inside.queues c.open.new.self c.args.at c.args.name c.args.settings c.args.rules.items c.open.result c.self.invariant
     (ap (λ (w : World). queue_named w c.args.name) c.self.view_is ∙ c.requires.new_name)
     (ap (λ (w : World). has_no_place w) c.self.view_is ∙ c.requires.place)
     c.open.ensures.ok c.open.ensures.err

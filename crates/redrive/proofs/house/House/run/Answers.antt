@@ -45,4 +45,4 @@ returns-clause-history c all is whole =
 pub returns-clause-recomputed : goal.returns-clause-recomputed
 returns-clause-recomputed c =
     let h = Continues-end c.args.self.now c.args.steps.now c.loop-step.answers.items c.loop-step.self c.loop-step.step-index (omega arith) c.loop-step.invariant.continues in
-    record { told = AreTold-run c.args.self.now c.args.steps.now c.loop-step.answers.items h.0; counted = c.measure.ensures }
+    record { told = AreTold-run c.args.self.now c.args.steps.now c.loop-step.answers.items h.0; measured = c.measure.ensures }

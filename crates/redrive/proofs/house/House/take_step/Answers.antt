@@ -17,7 +17,7 @@ returns-in_ok-hand_over-in-HandOver-clause-answer c =
 
 pub returns-in_ok-hand_over-in-HandOver-clause-exact : goal.returns-in_ok-hand_over-in-HandOver-clause-exact
 returns-in_ok-hand_over-in-HandOver-clause-exact c =
-    rw c.in-HandOver.is (handed-same c.args.self.now c.in-HandOver.source c.in-HandOver.at c.in_ok-hand_over-in-HandOver.field-0 c.in_ok-hand_over-in-HandOver.ensures.none)
+    rw c.in-HandOver.is (handed-same c.args.self.now c.in-HandOver.source c.in-HandOver.at c.in_ok-hand_over-in-HandOver.field-0 c.in_ok-hand_over-in-HandOver.ensures.exact)
 
 pub returns-in_err-confirm-in-Confirm-clause-answer : goal.returns-in_err-confirm-in-Confirm-clause-answer
 returns-in_err-confirm-in-Confirm-clause-answer c =
@@ -29,7 +29,7 @@ pub returns-in_err-confirm-in-Confirm-clause-exact : goal.returns-in_err-confirm
 returns-in_err-confirm-in-Confirm-clause-exact c =
     let p = err_from_is_err_and c.from_residual-in_err-confirm-in-Confirm.result c.from_residual-in_err-confirm-in-Confirm.ensures.1 in
     rw (c.in-Confirm.is, p.1, p.2)
-    (confirmed-same c.args.self.now c.in-Confirm.source c.in-Confirm.at (Err c.in_err-confirm-in-Confirm.field-0.0) c.in_err-confirm-in-Confirm.ensures.absent c.in_err-confirm-in-Confirm.ensures.none)
+    (confirmed-same c.args.self.now c.in-Confirm.source c.in-Confirm.at (Err c.in_err-confirm-in-Confirm.field-0.0) c.in_err-confirm-in-Confirm.ensures.absent c.in_err-confirm-in-Confirm.ensures.exact)
 
 pub returns-in_err-confirm-in-Confirm-clause-state : goal.returns-in_err-confirm-in-Confirm-clause-state
 returns-in_err-confirm-in-Confirm-clause-state c =

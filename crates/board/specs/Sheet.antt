@@ -1,0 +1,15 @@
+-- The statistics of a queue, as contracts see them.
+use Rattle.std.specs.Prelude.{ℕ, List}
+use Rattle.alarm.specs.declared.state.AlarmState.{AlarmState}
+use Rattle.metric_window.specs.declared.flows.Flows.{Flows}
+use Rattle.metric_window.specs.declared.gauges.Gauges.{Gauges}
+use Rattle.metric_window.specs.declared.row.Row.{Row}
+
+pub record Statistics : Type 0 where
+  pub name : List ℕ  -- the queue's
+  pub lines : ℕ  -- how many entries its journal has
+  pub clock : ℕ  -- the time in milliseconds that all this speaks of
+  pub gauges : Gauges  -- what stands in the queue at that time
+  pub current : Flows  -- what has happened so far in that time's minute
+  pub rows : List Row  -- oldest first
+  pub alarms : List (List ℕ × AlarmState)  -- each by its name, in the order of the configuration

@@ -1,0 +1,3 @@
+pub mod FlowLemmas
+pub mod MinuteLemmas
+pub mod WindowLemmas

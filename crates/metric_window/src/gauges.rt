@@ -1,0 +1,10 @@
+//! What stands in a queue at a moment.
+
+/// How many messages are in each state, and the age of the oldest live one in whole seconds.
+#[derive(Clone, Copy, Debug, PartialEq, Eq)]
+pub struct Gauges {
+    pub visible: u64,
+    pub delayed: u64,
+    pub in_flight: u64,
+    pub age: u64,
+}

@@ -1,0 +1,295 @@
+-- No queue is its own dead-letter queue.
+use Rattle.std.proofs.Common.{◌≡◌, ℕ, ◌+◌, ◌<◌, arith, Bool, true, false, not, ◌&&◌, cond, List, [], ◌∷◌, ◌++◌, length, get_or, append_assoc, Option, Some, None, unwrap_or, Result, Ok, refl, sym, ap, subst, inl, inr, ◌∙◌, eqb-true}
+use Rattle.std.specs.Prelude.{nat_eq, nat_lt, nat_le, is_some, option_map, IfSome, filter, fold}
+use Rattle.std.specs.List.{find, position, All}
+use Rattle.std.specs.Option.{option_map_or, ForSome}
+use Rattle.std.specs.Str.{bytes_eq}
+use Rattle.std.proofs.lemmas.Bool.{and_parts, false≢true, ne_eqb}
+use Rattle.std.proofs.lemmas.List.{length-append}
+use Rattle.std.proofs.lemmas.List.Elements.{All-nil, All-head, All-tail, All-cons, All-append, All-weaker, All-map}
+use Rattle.std.proofs.lemmas.List.Quantifiers.{position-Some}
+use Rattle.std.proofs.lemmas.Option.{none-some, same_Some}
+use Rattle.message.specs.declared.fault.Fault.{Fault}
+use Rattle.message.specs.declared.fault.Fault.TheVariants.{QueueDoesNotExist, InvalidParameterValue, ReceiptHandleIsInvalid, OverLimit, UnsupportedOperation, InvalidAttributeValue}
+use Rattle.message.specs.Content.{ContentText, content_size}
+use Rattle.message.specs.Fault.{is_out_of_memory}
+use Rattle.queue_config.specs.Config.{Configuration, names_of, HasTarget, AreConfigured, rules_of}
+use Rattle.queue_config.specs.Settings.{QueueSettings, RequestedAttributes, default_settings, policy_without, policy_with, settings_with}
+use Rattle.queue_config.specs.declared.config.ConfiguredAlarm.{ConfiguredAlarm}
+use Rattle.queue_config.specs.declared.config.ConfiguredQueue.{ConfiguredQueue}
+use Rattle.queue_config.specs.declared.policy.RedrivePolicy.{RedrivePolicy}
+use Rattle.queue_config.specs.declared.policy.RequestedPolicy.{RequestedPolicy}
+use Rattle.journal.specs.declared.entry.Event.{Event}
+use Rattle.journal.specs.declared.entry.Event.TheVariants.{Changed, Deleted, DeletedAgain, Purged, Set}
+use Rattle.queue_core.specs.declared.command.Command.{Command}
+use Rattle.queue_core.specs.declared.command.Command.TheVariants as commands
+use Rattle.queue_core.specs.declared.parcel.Parcel.{Parcel}
+use Rattle.queue_core.specs.Messages.{settings_after, settings_from, settings_of, has_accepted, is_closed}
+use Rattle.queue_core.specs.Queue.{QueueHistory, at_moment, refusal, uncounted_refusal, done, first_refusal, send_outcome, receive_outcome, change_outcome, delete_outcome, in_flight_count, change_refusal, is_valid_handle, holds_live, arrive_outcome, is_pending, settle_outcome, orphan_outcome, outcome_of, reached, outcome_at, after_answer}
+use Rattle.redrive.specs.declared.steps.HouseReply.TheVariants as replies
+use Rattle.redrive.specs.declared.steps.HouseStep.{HouseStep}
+use Rattle.redrive.specs.declared.steps.HouseStep.TheVariants as steps
+use Rattle.redrive.specs.World.{World, empty_world, with_queue, next_queue, new_world, queue_named, found_uid, has_queue, new_queue, may_name_target, may_set, opens_queue, is_internal, step_refusal, has_target, with_queue_changed, world_after_command, without_queue, first_parcel_in, Delivery, delivery_of, accepted_number}
+use Rattle.redrive.specs.WorldRun.{Answer, world_after, world_after_all}
+use Rattle.redrive.proofs.transfers.Journals.{Line, Lines, more}
+use Rattle.redrive.proofs.transfers.Commands.{unless_refused-event, refused_or-event, cond-event, if_some-at, reached-lines, after_answer-uid, after_answer-lines}
+
+-- whether the policy names the queue of a uid
+abbrev names_uid : ℕ → Option RedrivePolicy → Bool
+names_uid u policy = option_map_or (λ p. nat_eq p.target u) policy false
+
+abbrev Asked : Type 0
+Asked = Option (Option RequestedPolicy)
+
+abbrev asked_name : Asked → Option (List ℕ)
+asked_name asked = unwrap_or (option_map (λ policy. option_map (λ p. p.name) policy) asked) None
+
+not_true : (b : Bool) → not b ≡ true → b ≡ false
+not_true true h = absurd (false≢true h)
+not_true false h = refl
+
+-- ---- one entry more
+
+settings-more : (s : QueueSettings) (lines : Lines) (e : Line) → settings_from s (more lines e) ≡ settings_after (settings_from s lines) e.event
+settings-more s [] e = refl
+settings-more s (x ∷ xs) e = settings-more (settings_after s x.event) xs e
+
+-- no policy is asked for that names the queue of the uid
+abbrev Sets : ℕ → Command → Type 0
+Sets u command = (policy : Option RedrivePolicy) (wish : RequestedAttributes) (target : ℕ) → command ≡ commands.Set wish target → names_uid u policy ≡ false → names_uid u (policy_with policy wish.redrive_policy target) ≡ false
+
+without-policy : (u lost : ℕ) (policy : Option RedrivePolicy) → names_uid u policy ≡ false → names_uid u (policy_without policy lost) ≡ false
+without-policy u lost None h = refl
+without-policy u lost (Some p) h = by_test (nat_eq p.target lost)
+  where
+    by_test : (b : Bool) → names_uid u (cond b None (Some p)) ≡ false
+    by_test true = refl
+    by_test false = h
+
+module _ (q : QueueHistory) (u : ℕ) (h : names_uid u (settings_of q.lines).redrive_policy ≡ false) where
+  -- an event after which the policy does not name the queue of the uid
+  abbrev Aims : Event ContentText → Type 0
+  Aims event = names_uid u (settings_after (settings_of q.lines) event).redrive_policy ≡ false
+
+  deletion-aims : (b : Bool) (number : ℕ) → IfSome (done (cond b (Deleted number) DeletedAgain)).event Aims
+  deletion-aims true number = h
+  deletion-aims false number = h
+
+  aims : (command : Command) → Sets u command → IfSome (outcome_of q command).event Aims
+  aims (commands.Send content delay) sets =
+      unless_refused-event Aims (first_refusal q) (send_outcome q content delay)
+      (cond-event Aims (nat_lt (settings_of q.lines).maximum_message_size (content_size content)) (refusal InvalidParameterValue) _ h h)
+  aims (commands.Receive maximum timeout) sets =
+      unless_refused-event Aims (first_refusal q) (receive_outcome q maximum timeout) (cond-event Aims (nat_le q.limits.in_flight (in_flight_count q)) (refusal OverLimit) _ h h)
+  aims (commands.Change handle timeout) sets =
+      unless_refused-event Aims (first_refusal q) (change_outcome q handle timeout)
+      (refused_or-event Aims (change_refusal q handle timeout) (done (Changed handle.number timeout)) (λ fault. h) h)
+  aims (commands.Delete handle) sets =
+      unless_refused-event Aims (first_refusal q) (delete_outcome q handle)
+      (cond-event Aims (is_valid_handle q handle) (done (cond (holds_live q handle) (Deleted handle.number) DeletedAgain)) (refusal ReceiptHandleIsInvalid)
+      (deletion-aims (holds_live q handle) handle.number) h)
+  aims commands.Purge sets = unless_refused-event Aims (first_refusal q) (done Purged) h
+  aims (commands.Set wish target) sets =
+      unless_refused-event Aims (first_refusal q) (done (Set (settings_with (settings_of q.lines) wish target))) (sets (settings_of q.lines).redrive_policy wish target refl h)
+  aims (commands.Arrive parcel) sets =
+      unless_refused-event Aims (first_refusal q) (arrive_outcome q parcel) (cond-event Aims (has_accepted q.lines parcel.origin.uid parcel.origin.number) _ _ tt h)
+  aims (commands.Settle number) sets = unless_refused-event Aims (first_refusal q) (settle_outcome q number) (cond-event Aims (is_pending q number) _ _ h tt)
+  aims (commands.Orphan target) sets =
+      unless_refused-event Aims (first_refusal q) (orphan_outcome q target) (without-policy u target (settings_of q.lines).redrive_policy h)
+  aims commands.FirstParcel sets = tt
+  aims commands.Close sets = cond-event Aims (is_closed q.lines) (uncounted_refusal QueueDoesNotExist) _ tt h
+  aims commands.Look sets = tt
+
+aims-at : (q : QueueHistory) (u : ℕ) → names_uid u (settings_of q.lines).redrive_policy ≡ false → (at : ℕ) (command : Command) → Sets u command
+    → IfSome (outcome_at q at command).event (λ event. names_uid u (settings_after (settings_of q.lines) event).redrive_policy ≡ false)
+aims-at q u h at command sets =
+    let r : QueueHistory = reached q at command in
+    subst (λ (ls : Lines). IfSome (outcome_at q at command).event (λ event. names_uid u (settings_after (settings_of ls) event).redrive_policy ≡ false)) (reached-lines q at command)
+    (aims r u (subst (λ (ls : Lines). names_uid u (settings_of ls).redrive_policy ≡ false) (sym (reached-lines q at command)) h) command sets)
+
+left-aims : {T : Type 0} → (q : QueueHistory) (u at : ℕ) (command : Command) (answer : Result T Fault) → Sets u command → has_target u q ≡ false → has_target u (after_answer q at command answer) ≡ false
+left-aims q u at command answer sets h =
+    elim (after_answer-lines q at command answer) [
+      | inl same ↦ subst (λ (ls : Lines). names_uid u (settings_of ls).redrive_policy ≡ false) (sym same) h
+      | inr a ↦ subst (λ (ls : Lines). names_uid u (settings_of ls).redrive_policy ≡ false) (sym a.is)
+          (subst (λ (s : QueueSettings). names_uid u s.redrive_policy ≡ false) (sym (settings-more default_settings q.lines a.line))
+          (if_some-at (λ event. names_uid u (settings_after (settings_of q.lines) event).redrive_policy ≡ false) (outcome_at q at command).event a.line.event (aims-at q u h at command sets) a.added))
+    ]
+
+-- ---- the queues of a registry
+
+-- its uid is below the next one, and its policy does not name it
+abbrev IsAimed : ℕ → QueueHistory → Type 0
+IsAimed n q = (q.uid < n) × (has_target q.uid q ≡ false)
+
+abbrev AreAimed : World → Type 0
+AreAimed w = All (λ q. IsAimed w.next_uid q) w.queues
+
+either-aimed : (b : Bool) (x y : World) → AreAimed x → AreAimed y → AreAimed (cond b x y)
+either-aimed true x y h k = h
+either-aimed false x y h k = k
+
+changed-aimed : (w : World) (uid : ℕ) (change : QueueHistory → QueueHistory) → ((q : QueueHistory) → q.uid ≡ uid → IsAimed w.next_uid q → IsAimed w.next_uid (change q)) → AreAimed w → AreAimed (with_queue_changed w uid change)
+changed-aimed w uid change f h =
+    All-map (λ q. IsAimed w.next_uid q) (λ q. cond (nat_eq q.uid uid) (change q) q) w.queues
+    (All-weaker (λ q. IsAimed w.next_uid q) (λ q. IsAimed w.next_uid (cond (nat_eq q.uid uid) (change q) q)) (λ q k. by_test q k (nat_eq q.uid uid) refl) w.queues h)
+  where
+    by_test : (q : QueueHistory) → IsAimed w.next_uid q → (b : Bool) → nat_eq q.uid uid ≡ b → IsAimed w.next_uid (cond b (change q) q)
+    by_test q k true e = f q (eqb-true q.uid uid e) k
+    by_test q k false e = k
+
+module _ {T : Type 0} (w : World) (at : ℕ) (answer : Result T Fault) (h : AreAimed w) where
+  commanded : (uid : ℕ) (command : Command) → Sets uid command → AreAimed (world_after_command w uid at command answer)
+  commanded uid command sets =
+      changed-aimed w uid (λ q. after_answer q at command answer)
+      (λ q is k.
+      let u : (after_answer q at command answer).uid ≡ q.uid = after_answer-uid q at command answer in (
+        subst (λ (i : ℕ). i < w.next_uid) (sym u) k.0,
+        subst (λ (i : ℕ). has_target i (after_answer q at command answer) ≡ false) (sym u)
+            (left-aims q q.uid at command answer (subst (λ (i : ℕ). Sets i command) (sym is) sets) k.1),
+      )) h
+
+  delivered : (source : ℕ) (p : Parcel) (b : Bool) → let d : Delivery = cond b (record { uid = p.target; command = commands.Arrive p }) (record { uid = source; command = commands.Orphan p.target }) in
+      AreAimed (world_after_command w d.uid at d.command answer)
+  delivered source p true = commanded p.target (commands.Arrive p) (λ policy wish target is k. absurd cc)
+  delivered source p false = commanded source (commands.Orphan p.target) (λ policy wish target is k. absurd cc)
+
+  handed : (source : ℕ) (o : Option Parcel) → AreAimed (option_map_or (λ p. world_after_command w (delivery_of w source p).uid at (delivery_of w source p).command answer) o w)
+  handed source None = h
+  handed source (Some p) = delivered source p (has_queue w p.target)
+
+  confirmed : (source : ℕ) (o : Option ℕ) → AreAimed (option_map_or (λ number. world_after_command w source at (commands.Settle number) answer) o w)
+  confirmed source None = h
+  confirmed source (Some number) = commanded source (commands.Settle number) (λ policy wish target is k. absurd cc)
+
+-- ---- settings that are asked for
+
+asked-other : (u target : ℕ) (policy : Option RedrivePolicy) (asked : Asked) (found : List ℕ → Bool) → names_uid u policy ≡ false
+    → option_map_or (λ name. not (nat_eq target u) && found name) (asked_name asked) true ≡ true → names_uid u (policy_with policy asked target) ≡ false
+asked-other u target policy None found h may = h
+asked-other u target policy (Some None) found h may = refl
+asked-other u target policy (Some (Some asked)) found h may = not_true (nat_eq target u) (and_parts (not (nat_eq target u)) (found asked.name) may).0
+
+may_be_set : (there internal may : Bool) (f g k : Fault) → cond there (cond internal (Some f) (cond may None (Some g))) (Some k) ≡ None → may ≡ true
+may_be_set false internal may f g k e = absurd cc
+may_be_set true true may f g k e = absurd cc
+may_be_set true false true f g k e = refl
+may_be_set true false false f g k e = absurd cc
+
+performed-sets : (w : World) (uid : ℕ) (command : Command) → step_refusal w uid command ≡ None → Sets uid command
+performed-sets w uid command e policy wish target is h =
+    let may : may_set w uid command ≡ true = may_be_set (has_queue w uid) (is_internal command) (may_set w uid command) UnsupportedOperation InvalidAttributeValue QueueDoesNotExist e in
+    asked-other uid target policy wish.redrive_policy (λ name. option_map_or (λ u. nat_eq u target) (found_uid w name) false) h
+    (subst (λ (c : Command). may_set w uid c ≡ true) is may)
+
+performed : {T : Type 0} → (w : World) (uid at : ℕ) (command : Command) (answer : Result T Fault) → AreAimed w → (r : Option Fault) → step_refusal w uid command ≡ r
+    → AreAimed (option_map_or (λ fault. w) r (world_after_command w uid at command answer))
+performed w uid at command answer h (Some fault) e = h
+performed w uid at command answer h None e = commanded w at answer h uid command (performed-sets w uid command e)
+
+-- ---- opening
+
+module _ (w : World) (at : ℕ) (h : AreAimed w) where
+  found-head : (p : QueueHistory → Bool) (b : Bool) (x : QueueHistory) (xs : List QueueHistory) (q : QueueHistory) → All (λ q. IsAimed w.next_uid q) (x ∷ xs)
+      → (find p xs ≡ Some q → q.uid < w.next_uid) → cond b (Some x) (find p xs) ≡ Some q → q.uid < w.next_uid
+  found-head p true x xs q k rest is = subst (λ (q : QueueHistory). q.uid < w.next_uid) (same_Some x q is) (All-head (λ q. IsAimed w.next_uid q) x xs k).0
+  found-head p false x xs q k rest is = rest is
+
+  found-below : (p : QueueHistory → Bool) (xs : List QueueHistory) (q : QueueHistory) → All (λ q. IsAimed w.next_uid q) xs → find p xs ≡ Some q → q.uid < w.next_uid
+  found-below p [] q k is = absurd (none-some q is)
+  found-below p (x ∷ xs) q k is = found-head p (p x) x xs q k (found-below p xs q (All-tail (λ q. IsAimed w.next_uid q) x xs k)) is
+
+  opened : (q : QueueHistory) → q.uid ≡ w.next_uid → has_target w.next_uid q ≡ false → AreAimed (with_queue w q)
+  opened q is other =
+      All-append (λ q. IsAimed (w.next_uid + 1) q) w.queues (q ∷ [])
+      (All-weaker (λ q. IsAimed w.next_uid q) (λ q. IsAimed (w.next_uid + 1) q) (λ q k. (let l : q.uid < w.next_uid = k.0 in omega arith, k.1)) w.queues h)
+      (All-cons (λ q. IsAimed (w.next_uid + 1) q) q [] (omega arith, subst (λ (i : ℕ). has_target i q ≡ false) (sym is) other) (All-nil _))
+
+  found-other : (o : Option QueueHistory) (name : List ℕ) → queue_named w name ≡ o → is_some o ≡ true → nat_eq (unwrap_or (option_map (λ q. q.uid) o) 0) w.next_uid ≡ false
+  found-other None name e there = absurd (false≢true there)
+  found-other (Some q) name e there =
+      let below : q.uid < w.next_uid = found-below (λ q. bytes_eq q.name name) w.queues q h e in
+      ne_eqb q.uid w.next_uid (λ same. absurd (omega arith))
+
+  created-other : (own : List ℕ) (asked : Asked) → option_map_or (λ name. not (bytes_eq name own) && is_some (queue_named w name)) (asked_name asked) true ≡ true
+      → names_uid w.next_uid (policy_with None asked (option_map_or (λ name. unwrap_or (found_uid w name) 0) (asked_name asked) 0)) ≡ false
+  created-other own None may = refl
+  created-other own (Some None) may = refl
+  created-other own (Some (Some asked)) may =
+      found-other (queue_named w asked.name) asked.name refl (and_parts (not (bytes_eq asked.name own)) (is_some (queue_named w asked.name)) may).1
+
+  created : (name : List ℕ) (wish : RequestedAttributes) (may place : Bool) → may_name_target w name wish ≡ may → AreAimed (cond (may && place) (with_queue w (new_queue w at name wish)) w)
+  created name wish false place e = h
+  created name wish true false e = h
+  created name wish true true e = opened (new_queue w at name wish) refl (created-other name wish.redrive_policy e)
+
+-- ---- every step
+
+kept : (b : Bool) (x : QueueHistory) (xs : List QueueHistory) (P : QueueHistory → Type 0) → P x → All P xs → All P (cond b (x ∷ xs) xs)
+kept true x xs P h k = All-cons P x xs h k
+kept false x xs P h k = k
+
+filtered : (p : QueueHistory → Bool) (P : QueueHistory → Type 0) (xs : List QueueHistory) → All P xs → All P (filter p xs)
+filtered p P [] h = h
+filtered p P (x ∷ xs) h = kept (p x) x (filter p xs) P (All-head P x xs h) (filtered p P xs (All-tail P x xs h))
+
+after_step : (w : World) (step : HouseStep) (answer : Answer) → AreAimed w → AreAimed (world_after w step answer)
+after_step w (steps.Create at name wish) answer h =
+    either-aimed (is_out_of_memory answer) w (cond (opens_queue w name wish) (with_queue w (new_queue w at name wish)) w) h
+    (created w at h name wish (may_name_target w name wish) _ refl)
+after_step w (steps.Delete at uid) answer h =
+    either-aimed (is_out_of_memory answer) (with_queue_changed w uid (λ q. at_moment q at)) (without_queue w uid) (changed-aimed w uid (λ q. at_moment q at) (λ q is k. k) h)
+    (filtered (λ q. not (nat_eq q.uid uid)) (λ q. IsAimed w.next_uid q) w.queues h)
+after_step w (steps.Perform at uid command) answer h = performed w uid at command answer h (step_refusal w uid command) refl
+after_step w (steps.HandOver at source) (Ok (replies.HandedOver answer)) h = handed w at answer h source (first_parcel_in w source)
+after_step w (steps.HandOver at source) answer h = h
+after_step w (steps.Confirm at source) answer h = confirmed w at answer h source (accepted_number w source)
+after_step w (steps.Advance at) answer h =
+    All-map (λ q. IsAimed w.next_uid q) (λ q. at_moment q at) w.queues (All-weaker (λ q. IsAimed w.next_uid q) (λ q. IsAimed w.next_uid (at_moment q at)) (λ q k. k) w.queues h)
+
+after_all : (w : World) (steps : List HouseStep) (answers : List Answer) → AreAimed w → AreAimed (world_after_all w steps answers)
+after_all w [] answers h = h
+after_all w (step ∷ steps) [] h = h
+after_all w (step ∷ steps) (answer ∷ answers) h = after_all (world_after w step answer) steps answers (after_step w step answer h)
+
+-- ---- the configured queues
+
+at_end : (xs ys : List (List ℕ)) (x : List ℕ) → get_or (xs ++ x ∷ ys) (length xs) x ≡ x
+at_end [] ys x = refl
+at_end (z ∷ xs) ys x = at_end xs ys x
+
+module _ (names before rest : List (List ℕ)) (own : List ℕ) (is : names ≡ before ++ own ∷ rest) (u : ℕ) (next : u ≡ length before + 1) where
+  placed-other : (name : List ℕ) (target : ℕ) (o : Option ℕ) → position (λ other. bytes_eq name other) names ≡ o → option_map (λ place. place + 1) o ≡ Some target → bytes_eq name own ≡ false → nat_eq target u ≡ false
+  placed-other name target None e told other = absurd (none-some target told)
+  placed-other name target (Some place) e told other =
+      let at : place + 1 ≡ target = same_Some (place + 1) target told in
+      ne_eqb target u (λ same.
+      let here : place ≡ length before = omega arith in
+      let passes : bytes_eq name (get_or names place own) ≡ true = (position-Some (λ other. bytes_eq name other) names place own e).1 in
+      let read : get_or names place own ≡ own = ap (λ (k : ℕ). get_or names k own) here ∙ (ap (λ (ns : List (List ℕ)). get_or ns (length before) own) is ∙ at_end before rest own) in
+      absurd (false≢true (sym other ∙ (ap (λ (n : List ℕ). bytes_eq name n) (sym read) ∙ passes))))
+
+  configured-other : (policy : Option RedrivePolicy) → ForSome policy (λ policy. HasTarget names own policy) → names_uid u policy ≡ false
+  configured-other None h = refl
+  configured-other (Some p) h = let t = h p refl in placed-other p.name p.target (position (λ other. bytes_eq p.name other) names) refl t.target t.other
+
+abbrev AreTargets : List (List ℕ) → List ConfiguredQueue → Type 0
+AreTargets names queues = All (λ queue. ForSome queue.settings.redrive_policy (λ policy. HasTarget names queue.name policy)) queues
+
+begun : (names : List (List ℕ)) (at : ℕ) (alarms : List ConfiguredAlarm) (queues : List ConfiguredQueue) (before : List (List ℕ)) (w : World) → names ≡ before ++ names_of queues → w.next_uid ≡ length before + 1 → AreTargets names queues → AreAimed w
+    → AreAimed (fold (λ w q. with_queue w (next_queue w at q.name q.settings (rules_of alarms w.next_uid))) w queues)
+begun names at alarms [] before w is next targets h = h
+begun names at alarms (q ∷ queues) before w is next targets h =
+    let P : ConfiguredQueue → Type 0 = λ queue. ForSome queue.settings.redrive_policy (λ policy. HasTarget names queue.name policy) in
+    let other : names_uid w.next_uid q.settings.redrive_policy ≡ false =
+    configured-other names before (names_of queues) q.name is w.next_uid next q.settings.redrive_policy (All-head P q queues targets) in
+    begun names at alarms queues (before ++ q.name ∷ []) (with_queue w (next_queue w at q.name q.settings (rules_of alarms w.next_uid))) (is ∙ sym (append_assoc before (q.name ∷ []) (names_of queues)))
+    (rw length-append (omega arith)) (All-tail P q queues targets) (opened w at h (next_queue w at q.name q.settings (rules_of alarms w.next_uid)) refl other)
+
+pub none_its_own : (config : Configuration) (at : ℕ) (steps : List HouseStep) (answers : List Answer) → AreConfigured config.queues
+    → All (λ q. has_target q.uid q ≡ false) (world_after_all (new_world config at) steps answers).queues
+none_its_own config at steps answers configured =
+    let w : World = world_after_all (new_world config at) steps answers in
+    let h : AreAimed w =
+    after_all (new_world config at) steps answers (begun (names_of config.queues) at config.alarms config.queues [] (empty_world config.limits) refl refl configured.targets (All-nil _)) in
+    All-weaker (λ q. IsAimed w.next_uid q) (λ q. has_target q.uid q ≡ false) (λ q k. k.1) w.queues h

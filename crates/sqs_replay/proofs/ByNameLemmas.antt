@@ -1,0 +1,229 @@
+-- The statistics of all queues, by name: the same as those of the names that are listed.
+use Rattle.std.proofs.Common.{◌≡◌, ℕ, suc, zero, ◌+◌, ◌<◌, ◌≤◌, Bool, true, false, cond, List, [], ◌∷◌, ◌++◌, length, get_or, take, map, max, Option, Some, None, Result, Ok, Err, MatchBool, inl, inr, refl, sym, ap, subst, ◌∙◌, arith}
+use Rattle.std.specs.Prelude.{⊤, nat_eq, filter, fold}
+use Rattle.std.specs.Option.{option_map_or}
+use Rattle.std.specs.List.{find, starts_with, IsDistinct, AllByRecursion}
+use Rattle.std.specs.Str.{bytes_eq}
+use Rattle.std.proofs.lemmas.Cmp.{nat_eq_equiv}
+use Rattle.std.proofs.lemmas.List.{length-map, get_or-map, take_more, take_all}
+use Rattle.redrive.proofs.RegistryLemmas.{some_queue}
+use Rattle.std.proofs.lemmas.Slice.Eq.{bytes_eq-Decides}
+use Rattle.message.specs.declared.fault.Fault.{Fault}
+use Rattle.message.specs.declared.fault.Fault.TheVariants.{QueueDoesNotExist, OutOfMemory}
+use Rattle.message.specs.Fault.{is_out_of_memory, Meets}
+use Rattle.board.specs.Sheet.{Statistics}
+use Rattle.statistics_api.specs.Texts.{comes_before, put_by_name, by_name}
+use Rattle.queue_core.specs.Queue.{QueueHistory, at_moment}
+use Rattle.redrive.specs.Listing.{put_name, in_order}
+use Rattle.redrive.specs.World.{World, queue_named, queue_of_uid, names_in_world, with_queue_changed, world_at_moment, IsRegistry}
+use Rattle.sqs_replay.specs.Sheets.{sheet_of, sheets_of}
+use Rattle.sqs_replay.specs.Served.{sheet_in, sheet_served, named_sheet_served}
+use Rattle.sqs_replay.specs.Answers.{IsOneOf}
+use Rattle.sqs_replay.proofs.SheetLemmas.{look-left, look-failed, look-queue}
+use Rattle.sqs_replay.proofs.Stages.{memory_or_other}
+
+-- ---- names
+
+put-if : (b : Bool) (s t : Statistics) (ts more : List Statistics) (names : List (List ℕ)) → map (λ x. x.name) more ≡ names
+    → map (λ x. x.name) (cond b (s ∷ t ∷ ts) (t ∷ more)) ≡ cond b (s.name ∷ t.name ∷ map (λ x. x.name) ts) (t.name ∷ names)
+put-if true s t ts more names h = refl
+put-if false s t ts more names h = ap (λ (n : List (List ℕ)). t.name ∷ n) h
+
+put-names : (order : List Statistics) (s : Statistics) → map (λ x. x.name) (put_by_name order s) ≡ put_name (map (λ x. x.name) order) s.name
+put-names [] s = refl
+put-names (t ∷ ts) s = put-if (comes_before s.name t.name) s t ts (put_by_name ts s) (put_name (map (λ x. x.name) ts) s.name) (put-names ts s)
+
+fold-names : (order sheets : List Statistics) → map (λ x. x.name) (fold put_by_name order sheets) ≡ fold put_name (map (λ x. x.name) order) (map (λ x. x.name) sheets)
+fold-names order [] = refl
+fold-names order (s ∷ sheets) =
+    fold-names (put_by_name order s) sheets
+    ∙ ap (λ (n : List (List ℕ)). fold put_name n (map (λ x. x.name) sheets)) (put-names order s)
+
+no-prefix : (names : List (List ℕ)) → filter (λ n. starts_with nat_eq n []) names ≡ names
+no-prefix [] = refl
+no-prefix (n ∷ names) = ap (λ (l : List (List ℕ)). n ∷ l) (no-prefix names)
+
+names-of-sheets : (queues : List QueueHistory) → map (λ q. q.name) queues ≡ map (λ s. s.name) (map sheet_of queues)
+names-of-sheets [] = refl
+names-of-sheets (q ∷ queues) = ap (λ (l : List (List ℕ)). q.name ∷ l) (names-of-sheets queues)
+
+-- every name is listed, in the order of the sheets
+pub listed-sheets : (w : World) → names_in_world w [] ≡ map (λ s. s.name) (sheets_of w)
+listed-sheets w =
+    ap in_order (no-prefix (map (λ q. q.name) w.queues) ∙ names-of-sheets w.queues)
+    ∙ sym (fold-names [] (map sheet_of w.queues))
+
+-- ---- what is true of each
+
+module _ (P : Statistics → Type 0) where
+  put-if-all : (b : Bool) (s t : Statistics) (ts more : List Statistics) → P s → P t → AllByRecursion P ts → AllByRecursion P more
+      → AllByRecursion P (cond b (s ∷ t ∷ ts) (t ∷ more))
+  put-if-all true s t ts more hs ht hts hmore = (hs, (ht, hts))
+  put-if-all false s t ts more hs ht hts hmore = (ht, hmore)
+
+  put-all : (order : List Statistics) (s : Statistics) → AllByRecursion P order → P s → AllByRecursion P (put_by_name order s)
+  put-all [] s h hs = (hs, tt)
+  put-all (t ∷ ts) s h hs = put-if-all (comes_before s.name t.name) s t ts (put_by_name ts s) hs h.0 h.1 (put-all ts s h.1 hs)
+
+  fold-all : (order sheets : List Statistics) → AllByRecursion P order → AllByRecursion P sheets → AllByRecursion P (fold put_by_name order sheets)
+  fold-all order [] h hs = h
+  fold-all order (s ∷ sheets) h hs = fold-all (put_by_name order s) sheets (put-all order s h hs.0) hs.1
+
+  all-at : (sheets : List Statistics) (i : ℕ) (d : Statistics) → i < length sheets → AllByRecursion P sheets → P (get_or sheets i d)
+  all-at [] i d l h = absurd (omega arith)
+  all-at (s ∷ sheets) zero d l h = h.0
+  all-at (s ∷ sheets) (suc i) d l h = all-at sheets i d (omega arith) h.1
+
+-- ---- found by a key
+
+module _ {X K : Type 0} (e : K → K → Bool) (same : (k : K) → e k k ≡ true) (key : X → K) where
+  -- an element is found by its key
+  IsFound : List X → X → Type 0
+  IsFound xs x = find (λ y. e (key y) (key x)) xs ≡ Some x
+
+  found-behind : (x : X) (xs ys : List X) → AllByRecursion (λ k. e (key x) k ≡ false) (map key ys) → AllByRecursion (IsFound xs) ys → AllByRecursion (IsFound (x ∷ xs)) ys
+  unfolding IsFound
+  found-behind x xs [] differ h = tt
+  found-behind x xs (y ∷ ys) differ h = (rw differ.0 h.0, found-behind x xs ys differ.1 h.1)
+
+  found-all : (xs : List X) → IsDistinct e (map key xs) → AllByRecursion (IsFound xs) xs
+  unfolding IsDistinct IsFound
+  found-all [] h = tt
+  found-all (x ∷ xs) h = (rw (same (key x)) refl, found-behind x xs xs h.0 (found-all xs h.1))
+
+-- ---- a world at a moment
+
+module _ (w : World) (at : ℕ) where
+  map-at : (queues : List QueueHistory) → map (λ q. at_moment q at) (map (λ q. at_moment q at) queues) ≡ map (λ q. at_moment q at) queues
+  map-at [] = refl
+  map-at (q ∷ queues) =
+      let same : max (max q.clock at) at ≡ max q.clock at = omega arith in
+      rw (map-at queues, same) refl
+
+  -- a second time nothing changes
+  pub at-moment-twice : world_at_moment (world_at_moment w at) at ≡ world_at_moment w at
+  at-moment-twice = ap (λ (queues : List QueueHistory). record w { queues = queues }) (map-at w.queues)
+
+cond-still : {X : Type 0} (b : Bool) (x y : X) → y ≡ x → cond b y x ≡ x
+cond-still true x y h = h
+cond-still false x y h = refl
+
+IsAt : ℕ → QueueHistory → Type 0
+IsAt at q = at_moment q at ≡ q
+
+-- each queue is at the moment
+each-still : (at : ℕ) (queues : List QueueHistory) → queues ≡ map (λ q. at_moment q at) queues → AllByRecursion (IsAt at) queues
+unfolding IsAt
+each-still at [] h = tt
+each-still at (q ∷ queues) h =
+    let first : q ≡ at_moment q at = cc in
+    let rest : queues ≡ map (λ x. at_moment x at) queues = cc in
+    (sym first, each-still at queues rest)
+
+changed-still : (at uid : ℕ) (queues : List QueueHistory) → AllByRecursion (IsAt at) queues → map (λ q. cond (nat_eq q.uid uid) (at_moment q at) q) queues ≡ queues
+unfolding IsAt
+changed-still at uid [] h = refl
+changed-still at uid (q ∷ queues) h =
+    ap (λ (x : QueueHistory). x ∷ map (λ y. cond (nat_eq y.uid uid) (at_moment y at) y) queues) (cond-still (nat_eq q.uid uid) q (at_moment q at) h.0)
+    ∙ ap (λ (l : List QueueHistory). q ∷ l) (changed-still at uid queues h.1)
+
+-- ---- each sheet, where every queue is at the moment
+
+module _ (w : World) (at : ℕ) where
+  -- the statistics of its name are these, and nothing changes by looking
+  pub record IsServed (s : Statistics) : Type 0 where
+    pub answer : (named_sheet_served w at s.name).answer ≡ Ok s
+    pub stays : (x : World) → IsOneOf x (w ∷ (named_sheet_served w at s.name).stages) → x ≡ w
+
+  module _ (all : AllByRecursion (IsAt at) w.queues) (q : QueueHistory) (still : at_moment q at ≡ q) (named : queue_named w q.name ≡ Some q) (here : queue_of_uid w q.uid ≡ Some q) where
+    named-served : named_sheet_served w at q.name ≡ sheet_served w q.uid at
+    named-served = rw named refl
+
+    looked-still : with_queue_changed w q.uid (λ x. at_moment x at) ≡ w
+    looked-still = ap (λ (queues : List QueueHistory). record w { queues = queues }) (changed-still at q.uid w.queues all)
+
+    stays-at : (x : World) → IsOneOf x (w ∷ (sheet_served w q.uid at).stages) → x ≡ w
+    stays-at x (inl is) = is
+    stays-at x (inr (inl is)) = is ∙ look-failed w q.uid at q here ∙ looked-still
+    stays-at x (inr (inr (inl is))) = is ∙ look-left w q.uid at q here ∙ looked-still
+    stays-at x (inr (inr (inr none))) = absurd none
+
+    served-sheet : IsServed (sheet_of q)
+    served-sheet = record {
+      answer =
+          ap (λ s. s.answer) named-served
+          ∙ ap (λ (o : Option QueueHistory). option_map_or (λ x. Ok (sheet_of x)) o (Err QueueDoesNotExist)) (look-queue w q.uid at q here)
+          ∙ ap (λ (x : QueueHistory). Ok (sheet_of x)) still;
+      stays = λ x is. stays-at x (subst (λ s. IsOneOf x (w ∷ s.stages)) named-served is);
+    }
+
+  served-each : AllByRecursion (IsAt at) w.queues → (queues : List QueueHistory) → AllByRecursion (IsAt at) queues
+      → AllByRecursion (IsFound bytes_eq (λ k. (bytes_eq-Decides k k).1 refl) (λ (q : QueueHistory). q.name) w.queues) queues
+      → AllByRecursion (IsFound nat_eq (λ k. nat_eq_equiv.refl k) (λ (q : QueueHistory). q.uid) w.queues) queues
+      → AllByRecursion IsServed (map sheet_of queues)
+  unfolding IsAt IsFound
+  served-each all [] still names uids = tt
+  served-each all (q ∷ queues) still names uids = (served-sheet all q still.0 names.0 uids.0, served-each all queues still.1 names.1 uids.1)
+
+  -- so are all of them
+  pub served-at : w ≡ world_at_moment w at → IsRegistry w → (i : ℕ) (d : Statistics) → i < length (sheets_of w) → IsServed (get_or (sheets_of w) i d)
+  served-at same h i d l =
+      let all : AllByRecursion (IsAt at) w.queues = each-still at w.queues (ap (λ (v : World). v.queues) same) in
+      all-at IsServed (sheets_of w) i d l
+      (fold-all IsServed [] (map sheet_of w.queues) tt
+      (served-each all w.queues all
+      (found-all bytes_eq (λ k. (bytes_eq-Decides k k).1 refl) (λ (q : QueueHistory). q.name) w.queues h.names)
+      (found-all nat_eq (λ k. nat_eq_equiv.refl k) (λ (q : QueueHistory). q.uid) w.queues h.uids)))
+
+-- where a value is there, want of memory is the only fault
+pub only-memory : {T : Type 0} (fault : Fault) (wanted : Result T Fault) (x : T) → Meets {T = T} (Err fault) wanted → wanted ≡ Ok x → fault ≡ OutOfMemory
+only-memory {T} fault wanted x meets is =
+    elim (memory_or_other {T = T} (Err fault)) [
+      | inl memory ↦ cc
+      | inr other ↦
+          let same : ◌≡◌ {A = Result T Fault} (Err fault) wanted = subst (λ (b : Bool). MatchBool b ⊤ (◌≡◌ {A = Result T Fault} (Err fault) wanted)) other meets in
+          absurd (let no : ◌≡◌ {A = Result T Fault} (Err fault) (Ok x) = same ∙ is in cc)
+    ]
+
+-- ---- one name further
+
+module _ (w : World) (at : ℕ) (same : w ≡ world_at_moment w at) (h : IsRegistry w) (names : List (List ℕ)) (listed : names ≡ map (λ s. s.name) (sheets_of w)) where
+  as-many : length names ≡ length (sheets_of w)
+  as-many = ap (λ (l : List (List ℕ)). length l) listed ∙ length-map (sheets_of w) (λ (s : Statistics). s.name)
+
+  pub sheets-all : (i : ℕ) (sheets : List Statistics) → length names ≤ i → sheets ≡ take i (sheets_of w) → sheets ≡ sheets_of w
+  sheets-all i sheets past is = is ∙ take_all i (sheets_of w) (omega (arith, as-many))
+
+  module _ (house : World) (now : house ≡ w) (i : ℕ) (l : i < length names) (d name : List ℕ) (is : name ≡ get_or names i d) where
+    one : Statistics
+    one = get_or (sheets_of w) i (sheet_of some_queue)
+
+    one-name : name ≡ one.name
+    unfolding one
+    one-name =
+        is ∙ ap (λ (n : List (List ℕ)). get_or n i d) listed
+        ∙ get_or-map (λ (s : Statistics). s.name) (sheets_of w) i (sheet_of some_queue) d (omega (arith, as-many))
+
+    one-served : IsServed w at one
+    unfolding one
+    one-served = served-at w at same h i (sheet_of some_queue) (omega (arith, as-many))
+
+    one-answer : (named_sheet_served house at name).answer ≡ Ok one
+    one-answer =
+        subst (λ (v : World). (named_sheet_served v at name).answer ≡ Ok one) (sym now)
+        (subst (λ (n : List ℕ). (named_sheet_served w at n).answer ≡ Ok one) (sym one-name) one-served.answer)
+
+    pub next-stays : (x : World) → IsOneOf x (house ∷ (named_sheet_served house at name).stages) → x ≡ w
+    next-stays x on = one-served.stays x (subst (λ (n : List ℕ). IsOneOf x (w ∷ (named_sheet_served w at n).stages)) one-name (subst (λ (v : World). IsOneOf x (v ∷ (named_sheet_served v at name).stages)) now on))
+
+    pub next-fault : (fault : Fault) → Meets {T = Statistics} (Err fault) (named_sheet_served house at name).answer → fault ≡ OutOfMemory
+    next-fault fault meets = only-memory fault (named_sheet_served house at name).answer one meets one-answer
+
+    pub next-sheets : (sheet : Statistics) (sheets new : List Statistics) → ◌≡◌ {A = Result Statistics Fault} (Ok sheet) (named_sheet_served house at name).answer
+        → sheets ≡ take i (sheets_of w) → new ≡ sheets ++ sheet ∷ [] → new ≡ take (i + 1) (sheets_of w)
+    unfolding one
+    next-sheets sheet sheets new told before more =
+        let e : ◌≡◌ {A = Result Statistics Fault} (Ok sheet) (Ok one) = told ∙ one-answer in
+        let it : sheet ≡ one = cc in
+        more ∙ ap (λ (x : List Statistics). x ++ sheet ∷ []) before ∙ ap (λ (x : Statistics). take i (sheets_of w) ++ x ∷ []) it
+        ∙ sym (take_more (sheets_of w) i (sheet_of some_queue) (omega (arith, as-many)))

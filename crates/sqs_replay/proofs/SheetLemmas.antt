@@ -1,0 +1,107 @@
+-- Rows one minute on, and what a look leaves of a queue.
+use Rattle.std.proofs.Common.{◌≡◌, ℕ, ◌+◌, ◌-◌, ◌<◌, ◌≤◌, Bool, true, false, cond, List, [], ◌∷◌, ◌++◌, map, max, Option, Some, None, Result, Ok, Err, refl, sym, ap, ◌∙◌, arith}
+use Rattle.std.specs.Prelude.{nat_le, nat_lt}
+use Rattle.std.specs.List.{range_with_len}
+use Rattle.std.specs.Option.{ForSome}
+use Rattle.std.proofs.lemmas.Bool.Decides.{nat_tests}
+use Rattle.std.proofs.lemmas.Cmp.{nat_eq_equiv}
+use Rattle.std.proofs.lemmas.List.FromFn.{map-range_with_len_more}
+use Rattle.journal.specs.declared.entry.Entry.{Entry}
+use Rattle.metric_window.specs.declared.row.Row.{Row}
+use Rattle.metric_window.specs.Window.{window_start, window_end}
+use Rattle.queue_core.specs.Messages.{created_time}
+use Rattle.queue_core.specs.Metrics.{metric_row, row_of, window_rows}
+use Rattle.message.specs.declared.fault.Fault.{Fault}
+use Rattle.message.specs.declared.fault.Fault.TheVariants.{QueueDoesNotExist, OutOfMemory}
+use Rattle.queue_core.specs.declared.command.Command.TheVariants.{Look}
+use Rattle.queue_core.specs.declared.reply.Reply.{Reply}
+use Rattle.queue_core.specs.declared.reply.Reply.TheVariants.{Looked}
+use Rattle.queue_core.specs.Queue.{QueueHistory, at_moment, look_of}
+use Rattle.redrive.specs.World.{World, queue_of_uid, step_answer, world_after_step, with_queue_changed}
+use Rattle.redrive.proofs.RegistryLemmas.{changed-queue}
+use Rattle.sqs_replay.specs.Served.{command_served}
+
+-- ---- rows
+
+module _ {C : Type 0} (size : C → ℕ) (lines : List (Entry C)) (clock : ℕ) where
+  abbrev pub first_minute : ℕ
+  first_minute = window_start (created_time lines) clock
+
+  -- the rows before a minute
+  abbrev pub rows_until : ℕ → List Row
+  rows_until minute = map (λ m. metric_row size lines m) (range_with_len first_minute (minute - first_minute))
+
+  row-there : (minute : ℕ) → first_minute ≤ minute → minute < window_end clock → row_of size lines clock minute ≡ Some (metric_row size lines minute)
+  row-there minute from until =
+      let a : nat_le first_minute minute ≡ true = grind (arith, nat_tests) in
+      let b : nat_lt minute (window_end clock) ≡ true = grind (arith, nat_tests) in
+      rw (a, b) refl
+
+  rows-more : (minute : ℕ) → first_minute ≤ minute → rows_until (minute + 1) ≡ rows_until minute ++ metric_row size lines minute ∷ []
+  rows-more minute from =
+      let next : (minute + 1) - first_minute ≡ (minute - first_minute) + 1 = omega arith in
+      ap (λ (n : ℕ). map (λ m. metric_row size lines m) (range_with_len first_minute n)) next
+      ∙ map-range_with_len_more (λ m. metric_row size lines m) first_minute (minute - first_minute) minute (omega arith)
+
+  -- the row of one minute more
+  pub rows-next : (minute : ℕ) (row : Row) (rows new : List Row) → first_minute ≤ minute → minute < window_end clock → row_of size lines clock minute ≡ Some row
+      → rows ≡ rows_until minute → new ≡ rows ++ row ∷ [] → new ≡ rows_until (minute + 1)
+  rows-next minute row rows new from until here h is =
+      let same : metric_row size lines minute ≡ row = let there = row-there minute from until in cc in
+      is ∙ ap (λ (l : List Row). l ++ row ∷ []) h ∙ sym (rows-more minute from ∙ ap (λ (r : Row). rows_until minute ++ r ∷ []) same)
+
+  pub row-missing : (minute : ℕ) → first_minute ≤ minute → minute < window_end clock → row_of size lines clock minute ≡ None → ⊥
+  row-missing minute from until none = let there = row-there minute from until in cc
+
+  pub rows-all : (minute : ℕ) (rows : List Row) → window_end clock ≤ minute → minute - first_minute ≤ window_end clock - first_minute → rows ≡ rows_until minute
+      → rows ≡ window_rows size lines clock
+  rows-all minute rows past within h =
+      let same : minute - first_minute ≡ window_end clock - first_minute = omega arith in
+      h ∙ ap (λ (n : ℕ). map (λ m. metric_row size lines m) (range_with_len first_minute n)) same
+
+-- ---- a look
+
+module _ (w : World) (uid at : ℕ) where
+  look-absent : queue_of_uid w uid ≡ None → (reply : Reply) → ◌≡◌ {A = Result Reply Fault} (Ok reply) (step_answer w uid at Look) → ⊥
+  look-absent here reply is =
+      let none : step_answer w uid at Look ≡ Err QueueDoesNotExist = rw here refl in
+      cc
+
+  module _ (q : QueueHistory) (here : queue_of_uid w uid ≡ Some q) where
+    look-answer : step_answer w uid at Look ≡ Ok (Looked (look_of (at_moment q at)))
+    look-answer = rw here refl
+
+    look-world : world_after_step {T = Reply} w uid at Look (Ok (Looked (look_of (at_moment q at)))) ≡ with_queue_changed w uid (λ x. at_moment x at)
+    look-world = rw here refl
+
+    -- also where no memory was left
+    pub look-failed : world_after_step {T = Reply} w uid at Look (Err OutOfMemory) ≡ with_queue_changed w uid (λ x. at_moment x at)
+    look-failed = rw here refl
+
+    -- a look moves the queue's clock
+    pub look-left : (command_served w uid at Look).world ≡ with_queue_changed w uid (λ x. at_moment x at)
+    look-left = ap (λ (a : Result Reply Fault). world_after_step w uid at Look a) look-answer ∙ look-world
+
+    -- and leaves the queue there
+    pub look-queue : queue_of_uid (command_served w uid at Look).world uid ≡ Some (at_moment q at)
+    look-queue =
+        ap (λ (v : World). queue_of_uid v uid) look-left
+        ∙ changed-queue w uid uid (λ x. at_moment x at) true (λ x. refl) (nat_eq_equiv.refl uid)
+        ∙ rw here refl
+
+    looked-there : (reply : Reply) → ◌≡◌ {A = Result Reply Fault} (Ok reply) (step_answer w uid at Look)
+        → ForSome (queue_of_uid (command_served w uid at Look).world uid) (λ x. reply ≡ Looked (look_of x))
+    looked-there reply is x there =
+        let told : ◌≡◌ {A = Result Reply Fault} (Ok reply) (Ok (Looked (look_of (at_moment q at)))) = is ∙ look-answer in
+        let same : ◌≡◌ {A = Option QueueHistory} (Some (at_moment q at)) (Some x) = sym look-queue ∙ there in
+        cc
+
+  looked-at : (o : Option QueueHistory) → queue_of_uid w uid ≡ o → (reply : Reply) → ◌≡◌ {A = Result Reply Fault} (Ok reply) (step_answer w uid at Look)
+      → ForSome (queue_of_uid (command_served w uid at Look).world uid) (λ x. reply ≡ Looked (look_of x))
+  looked-at None here reply is = absurd (look-absent here reply is)
+  looked-at (Some q) here reply is = looked-there q here reply is
+
+  -- what answers a look is told of the queue as the look leaves it
+  pub looked : (reply : Reply) (new : World) → ◌≡◌ {A = Result Reply Fault} (Ok reply) (step_answer w uid at Look) → new ≡ (command_served w uid at Look).world
+      → ForSome (queue_of_uid new uid) (λ x. reply ≡ Looked (look_of x))
+  looked reply new is left = rw left (looked-at (queue_of_uid w uid) refl reply is)

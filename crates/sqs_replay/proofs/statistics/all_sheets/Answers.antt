@@ -1,0 +1,12 @@
+use Rattle.std.proofs.Common.{◌≡◌, List, ℕ, map, sym, ap, subst, ◌∙◌}
+use Rattle.redrive.specs.World.{World, world_at_moment}
+use Rattle.sqs_replay.proofs.ByNameLemmas.{at-moment-twice, listed-sheets}
+use Rattle.sqs_replay.proofs.statistics.all_sheets.Goals as goal
+
+pub sheets_of_names-requires-clause-at : goal.sheets_of_names-requires-clause-at
+sheets_of_names-requires-clause-at c =
+    subst (λ (w : World). w ≡ world_at_moment w c.args.at) (sym c.advance_all.ensures) (sym (at-moment-twice c.args.house.now c.args.at))
+
+pub sheets_of_names-requires-clause-names : goal.sheets_of_names-requires-clause-names
+sheets_of_names-requires-clause-names c =
+    c.as_slice.ensures.value ∙ c.in_ok-names.ensures.ok ∙ listed-sheets c.advance_all.new.self

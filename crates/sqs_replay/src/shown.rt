@@ -1,0 +1,40 @@
+//! What a line is answered, and its JSON text.
+
+ghost use Rattle.std.specs.Prelude.{◌≡◌, Ok, string_bytes};
+ghost use Rattle.message.specs.Fault.{Meets};
+ghost use Rattle.aws_json.specs.Steps.{result_map};
+ghost use Rattle.sqs_replay.specs.Served.{shown_text};
+
+use aws_json::{Listed, ReplyShape, reply_text};
+use board::Sheet;
+use message::Fault;
+use statistics_api::{alarms_text, rows_text, sheet_text, sheets_text};
+use std::alloc::Global;
+
+/// What a line is answered.
+#[derive(Debug, Drop)]
+pub enum Shown {
+    /// What a client is answered.
+    Reply(ReplyShape),
+    /// The statistics of a queue.
+    Queue(Sheet),
+    /// The statistics of queues, by name.
+    Queues(Listed<Sheet>),
+    /// The rows of a queue.
+    Rows(Sheet),
+    /// The alarms of a queue.
+    Alarms(Sheet),
+}
+
+/// The JSON text of an answer. `OutOfMemory` is the only refusal.
+pub(crate) fn shown_text(alloc: Global, shown: &Shown) -> Result<String, Fault>
+    ensures { Meets (result_map (λ s. string_bytes s) result) (Ok (shown_text shown.now)) }
+{
+    match shown {
+        Shown::Reply(shape) => reply_text(alloc, shape),
+        Shown::Queue(sheet) => sheet_text(alloc, sheet),
+        Shown::Queues(sheets) => sheets_text(alloc, sheets.as_slice()),
+        Shown::Rows(sheet) => rows_text(alloc, sheet.rows.as_slice()),
+        Shown::Alarms(sheet) => alarms_text(alloc, sheet.alarms.as_slice()),
+    }
+}

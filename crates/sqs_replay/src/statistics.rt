@@ -1,0 +1,218 @@
+//! The statistics of queues, by their own calls.
+
+ghost use Rattle.std.specs.Prelude.{◌≡◌, ◌<◌, ◌∷◌, map, length, slice_get, Some, IfOk, IfErr, Ok};
+ghost use Rattle.std.specs.Option.{ForSome};
+ghost use Rattle.message.specs.declared.fault.Fault.TheVariants.{OutOfMemory};
+ghost use Rattle.message.specs.Content.{content_size};
+ghost use Rattle.message.specs.Fault.{Meets};
+ghost use Rattle.queue_core.specs.declared.reply.Reply.TheVariants.{Looked};
+ghost use Rattle.queue_core.specs.Metrics.{window_rows};
+ghost use Rattle.queue_core.specs.Queue.{look_of};
+ghost use Rattle.redrive.specs.World.{queue_of_uid, world_at_moment, IsRegistry};
+ghost use Rattle.sqs_replay.specs.Answers.{IsOneOf};
+ghost use Rattle.sqs_replay.specs.Sheets.{alarms_of, sheet_of, sheets_of};
+ghost use Rattle.sqs_replay.specs.Served.{Leaves, sheet_in, sheet_served, named_sheet_served, asked_served};
+ghost use Rattle.sqs_replay.specs.declared.answer.Asked.TheVariants.{Statistics, Rows, Alarms};
+
+use crate::batch::serve_command;
+use crate::shown::Shown;
+use alarm::AlarmState;
+use aws_json::Listed;
+use board::Sheet;
+use journal::{Moment, Ticks};
+use message::{Fault, QueueName};
+use metric_window::Row;
+use queue_core::{Command, Look, QueueState, Reply};
+use redrive::House;
+use std::alloc::Global;
+
+/// The rows of a queue's window, oldest first.
+fn rows_of(alloc: Global, queue: &QueueState) -> Result<Vec<Row>, Fault>
+    ensures rows { IfOk result (λ rows. rows.items ≡ window_rows content_size queue.now.lines queue.now.clock) }
+    ensures fault { IfErr result (λ fault. fault ≡ OutOfMemory) }
+{
+    let (first, end) = queue.span();
+    let mut rows = Vec::new(alloc);
+    for minute in first..end {
+        if let Some(row) = queue.row(minute) {
+            rows.push(row)?;
+        }
+    }
+    Ok(rows)
+}
+
+/// The alarm at a place among those of a queue, counted from 0, with its state.
+fn alarm_at(queue: &QueueState, index: usize) -> (QueueName, AlarmState)
+    requires { index < length queue.now.rules }
+    ensures { slice_get (alarms_of queue.now) index ≡ Some result }
+{
+    let Some(name) = queue.alarm_name(index) else {
+        unreachable!()
+    };
+    let Some(state) = queue.alarm_state(index) else {
+        unreachable!()
+    };
+    (name, state)
+}
+
+/// The alarms of a queue with their states, in the order of their rules.
+fn alarms_of(alloc: Global, queue: &QueueState) -> Result<Vec<(QueueName, AlarmState)>, Fault>
+    ensures alarms { IfOk result (λ alarms. alarms.items ≡ alarms_of queue.now) }
+    ensures fault { IfErr result (λ fault. fault ≡ OutOfMemory) }
+{
+    let mut alarms = Vec::new(alloc);
+    for index in 0..queue.alarm_count() {
+        alarms.push(alarm_at(queue, index))?;
+    }
+    Ok(alarms)
+}
+
+/// The statistics of a queue that was looked at.
+fn sheet_of(alloc: Global, queue: &QueueState, look: &Look) -> Result<Sheet, Fault>
+    requires { look.now ≡ look_of queue.now }
+    ensures { Meets result (Ok (sheet_of queue.now)) }
+{
+    let rows = rows_of(alloc, queue)?;
+    let alarms = alarms_of(alloc, queue)?;
+    Ok(Sheet {
+        name: queue.name(),
+        lines: look.lines,
+        clock: look.clock,
+        gauges: queue.gauges(),
+        current: queue.current(),
+        rows,
+        alarms,
+    })
+}
+
+/// The statistics of the queue of a uid, where a look at it was answered so.
+fn sheet_in(alloc: Global, house: &House, uid: u64, reply: &Reply) -> Result<Sheet, Fault>
+    requires { ForSome (queue_of_uid house.now uid) (λ q. reply.now ≡ Looked (look_of q)) }
+    ensures { Meets result (sheet_in house.now uid) }
+{
+    match (house.state(uid), reply) {
+        (Some(queue), Reply::Looked(look)) => sheet_of(alloc, queue, look),
+        _ => Err(Fault::QueueDoesNotExist),
+    }
+}
+
+/// Looks at the queue of a uid, and gives its statistics.
+fn sheet_of_uid(
+    alloc: Global,
+    house: &mut House,
+    at: Moment,
+    uid: u64,
+    ticks: &mut Ticks,
+) -> Result<Sheet, Fault>
+    ensures answer { Meets result (sheet_served house.old uid at).answer }
+    ensures state { Leaves result house.new (sheet_served house.old uid at).world }
+    ensures stages { IsOneOf house.new (house.old ∷ (sheet_served house.old uid at).stages) }
+{
+    let reply = serve_command(alloc, house, at, uid, Command::Look, ticks)?;
+    sheet_in(alloc, house, uid, &reply)
+}
+
+/// Looks at the queue of a name, and gives its statistics.
+fn named_sheet(
+    alloc: Global,
+    house: &mut House,
+    at: Moment,
+    name: &QueueName,
+    ticks: &mut Ticks,
+) -> Result<Sheet, Fault>
+    ensures answer { Meets result (named_sheet_served house.old at name.now).answer }
+    ensures state { Leaves result house.new (named_sheet_served house.old at name.now).world }
+    ensures stages { IsOneOf house.new (house.old ∷ (named_sheet_served house.old at name.now).stages) }
+{
+    let Some(uid) = house.find(name) else {
+        return Err(Fault::QueueDoesNotExist);
+    };
+    sheet_of_uid(alloc, house, at, uid, ticks)
+}
+
+/// The statistics of each queue of these names.
+fn sheets_of_names(
+    alloc: Global,
+    house: &mut House,
+    at: Moment,
+    names: &[QueueName],
+    ticks: &mut Ticks,
+) -> Result<Vec<Sheet>, Fault>
+    requires at { house.old ≡ world_at_moment house.old at }
+    requires registry { IsRegistry house.old }
+    requires names { names.now ≡ map (λ s. s.name) (sheets_of house.old) }
+    ensures sheets { IfOk result (λ sheets. sheets.items ≡ sheets_of house.old) }
+    ensures fault { IfErr result (λ fault. fault ≡ OutOfMemory) }
+    ensures state { house.new ≡ house.old }
+{
+    let mut sheets = Vec::new(alloc);
+    for name in names {
+        let sheet = named_sheet(alloc, house, at, name, ticks)?;
+        sheets.push(sheet)?;
+    }
+    Ok(sheets)
+}
+
+/// Moves every queue's clock, and gives the statistics of all queues, by name.
+fn all_sheets(
+    alloc: Global,
+    house: &mut House,
+    at: Moment,
+    ticks: &mut Ticks,
+) -> Result<Listed<Sheet>, Fault>
+    ensures answer { Meets result (Ok (sheets_of (world_at_moment house.old at))) }
+    ensures state { house.new ≡ world_at_moment house.old at }
+{
+    house.advance_all(at, ticks);
+    let names = house.list(alloc, "")?;
+    let sheets = sheets_of_names(alloc, house, at, names.as_slice(), ticks)?;
+    Ok(Listed::of(sheets))
+}
+
+/// Answers the statistics of a queue, or of all queues.
+pub(crate) fn show_statistics(
+    alloc: Global,
+    house: &mut House,
+    at: Moment,
+    queue: Option<QueueName>,
+    ticks: &mut Ticks,
+) -> Result<Shown, Fault>
+    ensures answer { Meets result (asked_served house.old at (Statistics queue)).answer }
+    ensures state { Leaves result house.new (asked_served house.old at (Statistics queue)).world }
+    ensures stages { IsOneOf house.new (house.old ∷ (asked_served house.old at (Statistics queue)).stages) }
+{
+    match queue {
+        Some(name) => Ok(Shown::Queue(named_sheet(alloc, house, at, &name, ticks)?)),
+        None => Ok(Shown::Queues(all_sheets(alloc, house, at, ticks)?)),
+    }
+}
+
+/// Answers the rows of a queue.
+pub(crate) fn show_rows(
+    alloc: Global,
+    house: &mut House,
+    at: Moment,
+    queue: &QueueName,
+    ticks: &mut Ticks,
+) -> Result<Shown, Fault>
+    ensures answer { Meets result (asked_served house.old at (Rows queue.now)).answer }
+    ensures state { Leaves result house.new (asked_served house.old at (Rows queue.now)).world }
+    ensures stages { IsOneOf house.new (house.old ∷ (asked_served house.old at (Rows queue.now)).stages) }
+{
+    Ok(Shown::Rows(named_sheet(alloc, house, at, queue, ticks)?))
+}
+
+/// Answers the alarms of a queue.
+pub(crate) fn show_alarms(
+    alloc: Global,
+    house: &mut House,
+    at: Moment,
+    queue: &QueueName,
+    ticks: &mut Ticks,
+) -> Result<Shown, Fault>
+    ensures answer { Meets result (asked_served house.old at (Alarms queue.now)).answer }
+    ensures state { Leaves result house.new (asked_served house.old at (Alarms queue.now)).world }
+    ensures stages { IsOneOf house.new (house.old ∷ (asked_served house.old at (Alarms queue.now)).stages) }
+{
+    Ok(Shown::Alarms(named_sheet(alloc, house, at, queue, ticks)?))
+}

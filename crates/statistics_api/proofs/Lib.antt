@@ -1,0 +1,5 @@
+pub mod ItemLemmas
+pub mod NameLemmas
+pub mod OrderLemmas
+pub mod RouteLemmas
+pub mod TextLemmas

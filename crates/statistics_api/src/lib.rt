@@ -1,0 +1,22 @@
+//! The statistics of queues as a resource: paths, methods and texts (this project's own).
+//!
+//! - [`answer`]: the status and the text that a request is answered.
+//! - [`Text`]: a text that was written, or a constant.
+//! - [`sheet_text`], [`sheets_text`], [`rows_text`], [`alarms_text`]: the texts alone.
+//!
+//! The contracts say each text exactly, and which path, method and queue it is the answer to.
+#![tactic(auto)]
+
+mod order;
+mod put;
+mod replies;
+mod routes;
+#[cfg(test)]
+mod tests;
+mod text;
+mod texts;
+mod values;
+
+pub use replies::answer;
+pub use text::Text;
+pub use texts::{alarms_text, rows_text, sheet_text, sheets_text};
