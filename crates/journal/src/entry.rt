@@ -1,9 +1,14 @@
 //! What a journal's lines say.
 
+ghost use Rattle.std.specs.Prelude.{◌≡◌, IfOk, IfErr};
+ghost use Rattle.message.specs.Content.{content_size};
+ghost use Rattle.message.specs.declared.fault.Fault.TheVariants.{OutOfMemory};
+
 use crate::moment::Moment;
 use crate::numbers::Numbers;
 use message::{Content, Fault, MessageId, QueueName};
 use queue_config::Settings;
+use std::alloc::Global;
 
 /// Where a dead letter comes from: the queue that it left, and what it keeps of its time there. The uid
 /// and the number together name the transfer, which a queue accepts once.
@@ -94,3 +99,66 @@ pub type Line = Entry<Content>;
 
 /// An entry with the size of its message's content, in bytes.
 pub type Mark = Entry<u64>;
+
+impl Event<Content> {
+    ghost use Rattle.journal.specs.Mark.{mark_event};
+
+    /// The same event, with the size of the content in its place. `OutOfMemory` is the only refusal.
+    fn mark(&self, alloc: Global) -> Result<Event<u64>, Fault>
+        ensures ok { IfOk result (λ event. event ≡ mark_event content_size self.now) }
+        ensures errors { IfErr result (λ fault. fault ≡ OutOfMemory) }
+    {
+        Ok(match self {
+            Event::Opened { uid, settings } => Event::Opened {
+                uid: *uid,
+                settings: *settings,
+            },
+            Event::Sent { delay, content } => Event::Sent {
+                delay: *delay,
+                content: content.size(),
+            },
+            Event::Arrived { origin, content } => Event::Arrived {
+                origin: *origin,
+                content: content.size(),
+            },
+            Event::Received {
+                timeout,
+                offered,
+                leaving,
+                target,
+            } => Event::Received {
+                timeout: *timeout,
+                offered: offered.copied(alloc)?,
+                leaving: leaving.copied(alloc)?,
+                target: *target,
+            },
+            Event::Changed { number, timeout } => Event::Changed {
+                number: *number,
+                timeout: *timeout,
+            },
+            Event::Deleted { number } => Event::Deleted { number: *number },
+            Event::DeletedAgain => Event::DeletedAgain,
+            Event::Purged => Event::Purged,
+            Event::Set { settings } => Event::Set {
+                settings: *settings,
+            },
+            Event::Settled { number } => Event::Settled { number: *number },
+            Event::Orphaned { target } => Event::Orphaned { target: *target },
+            Event::Refused { fault } => Event::Refused { fault: *fault },
+            Event::Closed => Event::Closed,
+        })
+    }
+}
+
+impl Entry<Content> {
+    ghost use Rattle.journal.specs.Mark.{mark_of};
+
+    /// The mark of a line. Its lists of numbers take memory: `OutOfMemory` is the only refusal.
+    pub(crate) fn mark(&self, alloc: Global) -> Result<Mark, Fault>
+        ensures ok { IfOk result (λ mark. mark ≡ mark_of content_size self.now) }
+        ensures errors { IfErr result (λ fault. fault ≡ OutOfMemory) }
+    {
+        let event = self.event.mark(alloc)?;
+        Ok(Entry { at: self.at, event })
+    }
+}

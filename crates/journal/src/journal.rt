@@ -1,11 +1,14 @@
 //! The list of lines.
 
-ghost use Rattle.std.specs.Prelude.{◌≡◌, ◌≤◌, ◌↔◌, ◌⊎◌, [], ◌∷◌, ◌++◌, length, slice_get, IfOk, IfErr, OnOk, OnErr, IsErrOf};
+ghost use Rattle.std.specs.Prelude.{◌≡◌, ◌≤◌, ◌↔◌, ◌⊎◌, [], ◌∷◌, ◌++◌, length, drop, map, slice_get, IfOk, IfErr, OnOk, OnErr, IsErrOf};
 ghost use Rattle.std.specs.Option.{option_copied};
+ghost use Rattle.message.specs.Content.{content_size};
 ghost use Rattle.message.specs.declared.fault.Fault.TheVariants.{JournalFull, OutOfMemory};
+ghost use Rattle.journal.specs.Mark.{mark_of};
 ghost use Rattle.journal.specs.Ticks.{after_ticks};
 
 use crate::entry::Line;
+use crate::marks::Marks;
 use crate::ticks::Ticks;
 use message::Fault;
 use std::alloc::Global;
@@ -67,7 +70,7 @@ impl Journal {
         ensures line { option_copied result ≡ slice_get self.now.lines place }
         ensures cost { ticks.new ≡ after_ticks 1 ticks.old }
     {
-        ticks.tick();
+        ticks.add(1);
         self.peek(place)
     }
 
@@ -76,5 +79,20 @@ impl Journal {
         ensures { option_copied result ≡ slice_get self.now.lines place }
     {
         self.lines.get(place)
+    }
+
+    /// The marks of the lines from a place on, in order: none where there is no line from there on.
+    /// Each of these lines costs one operation. `OutOfMemory` is the only refusal, and costs nothing.
+    #[tactic(auto, using(std::proofs::lemmas::List::drop_min))]
+    pub fn marks(&self, alloc: Global, from: usize, ticks: &mut Ticks) -> Result<Marks, Fault>
+        ensures marks { IfOk result (λ marks. marks ≡ map (mark_of content_size) (drop from self.now.lines)) }
+        ensures cost { OnOk result (ticks.new ≡ after_ticks (length (drop from self.now.lines)) ticks.old) }
+        ensures errors { IfErr result (λ fault. fault ≡ OutOfMemory) }
+        ensures err { OnErr result (ticks.new ≡ ticks.old) }
+    {
+        let lines = &self.lines[from.min(self.lines.len())..];
+        let marks = Marks::of(alloc, lines)?;
+        ticks.add(lines.len() as u64);
+        Ok(marks)
     }
 }

@@ -7,13 +7,15 @@
 //! - [`Numbers`]: a list of message numbers.
 //! - [`Journal`]: a list of lines with a limit. [`Journal::push`] adds one at the end or leaves the
 //!   journal as it was; nothing else changes it.
-//! - [`Ticks`]: the operation counter. A line read by [`Journal::line`] costs one.
+//! - [`Marks`]: a list of marks. [`Journal::marks`] gives those of the lines from a place on.
+//! - [`Ticks`]: the operation counter. A line read by [`Journal::line`] or [`Journal::marks`] costs one.
 //!
-//! Contracts see a journal as the list of its lines and its limit.
+//! Contracts see a journal as the list of its lines and its limit, and marks as their list.
 #![tactic(auto)]
 
 mod entry;
 mod journal;
+mod marks;
 mod moment;
 mod numbers;
 #[cfg(test)]
@@ -22,6 +24,7 @@ mod ticks;
 
 pub use entry::{Entry, Event, Line, Mark, Origin};
 pub use journal::Journal;
+pub use marks::Marks;
 pub use moment::Moment;
 pub use numbers::Numbers;
 pub use ticks::Ticks;

@@ -1,6 +1,6 @@
 //! Lists of message numbers.
 
-ghost use Rattle.std.specs.Prelude.{◌≡◌, [], ◌∷◌, ◌++◌, IfErr, OnOk, OnErr};
+ghost use Rattle.std.specs.Prelude.{◌≡◌, [], ◌∷◌, ◌++◌, IfOk, IfErr, OnOk, OnErr};
 ghost use Rattle.message.specs.declared.fault.Fault.TheVariants.{OutOfMemory};
 
 use message::Fault;
@@ -39,6 +39,15 @@ impl Numbers {
     {
         self.numbers.push(number)?;
         Ok(())
+    }
+
+    /// A list of the same numbers. `OutOfMemory` is the only refusal.
+    pub(crate) fn copied(&self, alloc: Global) -> Result<Numbers, Fault>
+        ensures ok { IfOk result (λ copy. copy ≡ self.now) }
+        ensures errors { IfErr result (λ fault. fault ≡ OutOfMemory) }
+    {
+        let numbers = Vec::from_slice(alloc, self.as_slice())?;
+        Ok(Numbers { numbers })
     }
 
     /// The numbers.

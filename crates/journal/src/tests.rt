@@ -1,7 +1,6 @@
 //! Each call once, the borders of times and of a journal's limit, and what a refused allocation
 //! gives: a call that answers `OutOfMemory` is made once more, and then answers. So the tests pass
-//! with ample memory, and also under `rt try --test --fail-alloc N`, N from 1 to 5, which refuses the
-//! Nth allocation.
+//! with ample memory, and also under `rt try --test --fail-alloc N`, which refuses the Nth allocation.
 
 use super::*;
 use message::{Content, Fault};
@@ -171,5 +170,119 @@ fn contents(rt: HostRuntime) -> Result<(), Fail> {
             if offered.as_slice() == [3, 1].as_slice() && leaving.as_slice().is_empty()
     );
     assert!(rt; is_received);
+    Ok(())
+}
+
+/// Four lines: those of `with_contents`, then message 1 left for the queue of uid 7, and the queue
+/// was closed.
+fn with_four_lines(alloc: Global) -> Result<Journal, Fault> {
+    let mut journal = with_contents(alloc)?;
+    let at = Moment::zero();
+    let mut leaving = Numbers::new(alloc);
+    leaving.push(alloc, 1)?;
+    let event = Event::Received {
+        timeout: 0,
+        offered: Numbers::new(alloc),
+        leaving,
+        target: 7,
+    };
+    journal.push(alloc, Entry { at, event })?;
+    let event = Event::Closed;
+    journal.push(alloc, Entry { at, event })?;
+    Ok(journal)
+}
+
+/// The marks of a journal from a place on. Where the call finds no memory it costs nothing, and it is
+/// made again.
+fn marks_from(
+    rt: &impl Abort,
+    alloc: Global,
+    journal: &Journal,
+    from: usize,
+    ticks: &mut Ticks,
+) -> Result<Marks, Fail> {
+    let before = ticks.count();
+    match journal.marks(alloc, from, ticks) {
+        Err(Fault::OutOfMemory) => {
+            assert_eq!(rt; ticks.count(), before);
+            Ok(journal.marks(alloc, from, ticks)?)
+        }
+        answer => Ok(answer?),
+    }
+}
+
+/// Marks have the size of a content in its place, and all else as the lines do, numbers too. They
+/// begin at the place that was asked for, and each line from there on costs one tick.
+#[test]
+fn marks(rt: HostRuntime) -> Result<(), Fail> {
+    let journal = match with_four_lines(rt.alloc()) {
+        Err(Fault::OutOfMemory) => with_four_lines(rt.alloc())?,
+        answer => answer?,
+    };
+    let mut ticks = Ticks::new(&rt);
+    let all = marks_from(&rt, rt.alloc(), &journal, 0, &mut ticks)?;
+    assert_eq!(rt; all.len(), 4);
+    assert_eq!(rt; ticks.count(), 4);
+    let [sent, received, left, closed] = all.as_slice() else {
+        return Err("not four marks".into());
+    };
+    assert!(rt;
+        matches!(
+            sent.event,
+            Event::Sent {
+                delay: 7,
+                content: 4
+            }
+        )
+    );
+    let is_received = matches!(
+        &received.event,
+        Event::Received { timeout: 30, offered, leaving, target: 0 }
+            if offered.as_slice() == [3, 1].as_slice() && leaving.as_slice().is_empty()
+    );
+    assert!(rt; is_received);
+    let has_left = matches!(
+        &left.event,
+        Event::Received { timeout: 0, offered, leaving, target: 7 }
+            if offered.as_slice().is_empty() && leaving.as_slice() == [1].as_slice()
+    );
+    assert!(rt; has_left);
+    assert!(rt; matches!(closed.event, Event::Closed));
+    Ok(())
+}
+
+/// There are as many marks as lines from a place on, and none past the end.
+#[test]
+fn marks_from_a_place(rt: HostRuntime) -> Result<(), Fail> {
+    let journal = full_journal(&rt, rt.alloc(), 3)?;
+    let mut ticks = Ticks::new(&rt);
+    for (from, count, total) in [
+        (0, 3, 3),
+        (2, 1, 4),
+        (3, 0, 4),
+        (4, 0, 4),
+        (usize::MAX, 0, 4),
+    ] {
+        let marks = marks_from(&rt, rt.alloc(), &journal, from, &mut ticks)?;
+        assert_eq!(rt; marks.len(), count, "from {from}");
+        assert_eq!(rt; ticks.count(), total, "from {from}");
+    }
+    Ok(())
+}
+
+/// A journal that may have one line takes no second, and has one mark.
+#[test]
+fn marks_of_a_full_journal(rt: HostRuntime) -> Result<(), Fail> {
+    let mut journal = full_journal(&rt, rt.alloc(), 1)?;
+    let answer = journal.push(rt.alloc(), deleted(20, 99)?);
+    assert_eq!(rt; answer, Err(Fault::JournalFull));
+    let mut ticks = Ticks::new(&rt);
+    let marks = marks_from(&rt, rt.alloc(), &journal, 0, &mut ticks)?;
+    let [mark] = marks.as_slice() else {
+        return Err("not one mark".into());
+    };
+    assert_eq!(rt; mark.at.milliseconds(), 10);
+    assert!(rt; matches!(mark.event, Event::Deleted { number: 0 }));
+    assert!(rt; Marks::new(rt.alloc()).as_slice().is_empty());
     Ok(())
 }

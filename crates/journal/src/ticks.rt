@@ -5,8 +5,8 @@ ghost use Rattle.journal.specs.Ticks.{after_ticks};
 
 use std::marker::Model;
 
-/// Counts operations: each call of [`Journal::line`](crate::Journal::line) is one. The count stops
-/// at 2^64 - 1. Only [`Ticks::new`] makes a counter, and it takes the program's runtime, which `main`
+/// Counts operations: each call of [`Journal::line`](crate::Journal::line) is one, and so is each line
+/// that [`Journal::marks`](crate::Journal::marks) goes over. The count stops at 2^64 - 1. Only [`Ticks::new`] makes a counter, and it takes the program's runtime, which `main`
 /// and each test are handed and nothing makes: code that is handed a counter and no runtime can count
 /// on that counter alone.
 #[derive(Debug, Drop)]
@@ -37,10 +37,10 @@ impl Ticks {
         self.count
     }
 
-    /// Counts one operation.
-    pub(crate) fn tick(&mut self)
-        ensures { self.new ≡ after_ticks 1 self.old }
+    /// Counts so many operations.
+    pub(crate) fn add(&mut self, operations: u64)
+        ensures { self.new ≡ after_ticks operations self.old }
     {
-        self.count = self.count.saturating_add(1);
+        self.count = self.count.saturating_add(operations);
     }
 }

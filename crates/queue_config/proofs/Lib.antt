@@ -5,3 +5,4 @@ pub mod AlarmLemmas
 pub mod EmptyText
 pub mod KeyLemmas
 pub mod Utf8Lemmas
+pub mod NameLemmas

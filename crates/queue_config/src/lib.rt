@@ -17,6 +17,7 @@
 //! - [`Config`]: what a program is started with, the alarms of its queues among it, and [`config_from_text`] and [`config_from_bytes`]:
 //!   its reading from TOML, or the first [`ConfigFault`].
 //! - [`decimal_number`]: the number that a text of decimal digits is.
+//! - The function of [`laws`] is empty: its contract is a law about the definitions in `specs/`.
 //!
 //! Each contract is exact: which texts are taken, with which value, and which refusal comes otherwise.
 #![tactic(auto)]
@@ -27,6 +28,7 @@ mod config;
 mod config_fault;
 mod config_text;
 mod decimal;
+pub mod laws;
 mod limits;
 mod metric;
 mod operator;

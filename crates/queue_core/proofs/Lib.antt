@@ -10,3 +10,6 @@ mod StateLemmas
 mod RefusalLemmas
 mod BeforeLemmas
 pub mod LastingLemmas
+mod CountedLemmas
+mod WindowLemmas
+mod RowLemmas

@@ -17,7 +17,7 @@ use Rattle.queue_core.specs.declared.facts.Status.{Status}
 use Rattle.queue_core.specs.declared.facts.Status.TheVariants.{Present, Removed, Waiting, Transferred}
 use Rattle.queue_core.specs.declared.facts.MessageState.{MessageState}
 use Rattle.queue_core.specs.declared.facts.MessageState.TheVariants.{Visible, Delayed, InFlight}
-use Rattle.queue_core.specs.Messages.{message_of, messages_from, messages, settings_after, settings_from, closes_period, periods_from, offers_number, receive_count, status_after, returns, due_after, course_after, course_from, course_of, due_time, is_returned}
+use Rattle.queue_core.specs.Messages.{message_of, messages_from, messages, settings_after, settings_from, closes_period, periods_from, opens, created_time, offers_number, receive_count, status_after, returns, due_after, course_after, course_from, course_of, due_time, is_returned}
 use Rattle.queue_core.specs.States.{is_live, same_state, is_in_state, count_in_state, oldest_age, gauges_of, candidate_of, in_order, receive_order}
 use Rattle.journal.specs.Mark.{mark_event, mark_of}
 
@@ -34,6 +34,10 @@ settings_after-mark s event = refl
 closes_period-mark : (event : Event ContentText) → closes_period (mark_event content_size event) ≡ closes_period event
 closes_period-mark (Sent delay content) = refl
 closes_period-mark event = refl
+
+opens-mark : (event : Event ContentText) → opens (mark_event content_size event) ≡ opens event
+opens-mark (Sent delay content) = refl
+opens-mark event = refl
 
 offers_number-mark : (number : ℕ) (event : Event ContentText) → offers_number number (mark_event content_size event) ≡ offers_number number event
 offers_number-mark number (Sent delay content) = refl
@@ -71,6 +75,10 @@ pub settings_from-marks : (s : QueueSettings) (lines : List (Entry ContentText))
 settings_from-marks s [] = refl
 settings_from-marks s (e ∷ es) =
     ap (λ (t : QueueSettings). settings_from t (map (mark_of content_size) es)) (settings_after-mark s e.event) ∙ settings_from-marks (settings_after s e.event) es
+
+pub created_time-marks : (lines : List (Entry ContentText)) → created_time (map (mark_of content_size) lines) ≡ created_time lines
+created_time-marks [] = refl
+created_time-marks (e ∷ es) = rw (opens-mark e.event, created_time-marks es) refl
 
 pub periods_from-marks : (place : ℕ) (s : QueueSettings) (clock : ℕ) (lines : List (Entry ContentText)) → periods_from place s clock (map (mark_of content_size) lines) ≡ periods_from place s clock lines
 periods_from-marks place s clock [] = refl
@@ -152,7 +160,7 @@ gauges_of-marks lines clock =
 
 -- ---- the order
 
-map_agree : {X Y : Type 0} (f g : X → Y) → ((x : X) → f x ≡ g x) → (xs : List X) → map f xs ≡ map g xs
+pub map_agree : {X Y : Type 0} (f g : X → Y) → ((x : X) → f x ≡ g x) → (xs : List X) → map f xs ≡ map g xs
 map_agree f g h [] = refl
 map_agree f g h (x ∷ xs) = rw (h x, map_agree f g h xs) refl
 

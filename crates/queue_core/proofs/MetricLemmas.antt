@@ -20,18 +20,18 @@ use Rattle.metric_window.specs.Flows.{no_flows, flows_of, added, total, capped, 
 use Rattle.metric_window.specs.Window.{longest_window, window_start, window_end}
 use Rattle.metric_window.proofs.FlowLemmas.{added-none, added-assoc, added-comm, none-added, capped-added, total-append}
 use Rattle.metric_window.proofs.MinuteLemmas.{minute_flows-push, minute_flows-marks, minutes-total}
-use Rattle.alarm.specs.AlarmState.{satisfies, breaches_in}
+use Rattle.alarm.specs.AlarmState.{satisfies, breaches_in, alarm_state_of}
 use Rattle.queue_core.specs.declared.command.Step.{Step}
 use Rattle.queue_core.specs.declared.reply.Reply.{Reply}
 use Rattle.queue_core.specs.Messages.{opens, created_time}
 use Rattle.queue_core.specs.States.{gauges_of}
-use Rattle.queue_core.specs.Metrics.{minute_end, entries_until, minute_gauges, metric_row, current_flows, window_rows}
+use Rattle.queue_core.specs.Metrics.{minute_end, entries_until, minute_gauges, metric_row, current_flows, window_rows, complete_minutes, last_rows, alarm_state_in}
 use Rattle.queue_core.specs.Queue.{QueueHistory}
 use Rattle.queue_core.specs.Legal.{IsOrdered, IsOpening, IsLegal, BeginsAndFollows}
 use Rattle.queue_core.specs.Run.{after_all}
 use Rattle.queue_core.proofs.BeforeLemmas.{not_before}
 use Rattle.queue_core.proofs.LastingLemmas.{Lasts, lasts_all}
-use Rattle.queue_core.proofs.MarkLemmas.{gauges_of-marks}
+use Rattle.queue_core.proofs.MarkLemmas.{map_agree, created_time-marks, gauges_of-marks}
 
 row-parts : (minute : ℕ) (f g : Flows) (a b : Gauges) → f ≡ g → a ≡ b
     → (let r : Row = record { minute = minute; flows = f; gauges = a } in r) ≡ record { minute = minute; flows = g; gauges = b }
@@ -84,6 +84,22 @@ pub metric_row-marks : (lines : List (Entry ContentText)) (minute : ℕ) → met
 metric_row-marks lines minute =
     row-parts minute _ _ _ _ (minute_flows-marks content_size lines minute)
     (ap (λ (es : List (Entry ℕ)). gauges_of es (minute_end minute - 1)) (until-marks lines minute) ∙ gauges_of-marks (entries_until lines minute) (minute_end minute - 1))
+
+-- so do rows of any minutes
+rows-marks : (lines : List (Entry ContentText)) (minutes : List ℕ)
+    → map (λ m. metric_row (λ n. n) (map (mark_of content_size) lines) m) minutes ≡ map (λ m. metric_row content_size lines m) minutes
+rows-marks lines minutes = map_agree (λ m. metric_row (λ n. n) (map (mark_of content_size) lines) m) (λ m. metric_row content_size lines m) (λ m. metric_row-marks lines m) minutes
+
+pub window_rows-marks : (lines : List (Entry ContentText)) (clock : ℕ) → window_rows (λ n. n) (map (mark_of content_size) lines) clock ≡ window_rows content_size lines clock
+window_rows-marks lines clock =
+    ap (λ (created : ℕ). map (λ m. metric_row (λ n. n) (map (mark_of content_size) lines) m) (range_with_len (window_start created clock) (window_end clock - window_start created clock))) (created_time-marks lines)
+    ∙ rows-marks lines (range_with_len (window_start (created_time lines) clock) (window_end clock - window_start (created_time lines) clock))
+
+pub alarm_state_in-marks : (lines : List (Entry ContentText)) (clock : ℕ) (rule : Rule)
+    → alarm_state_in (λ n. n) (map (mark_of content_size) lines) clock rule ≡ alarm_state_in content_size lines clock rule
+alarm_state_in-marks lines clock rule =
+    ap (λ (created : ℕ). alarm_state_of rule (window_end clock - minute_of created) (last_rows (λ n. n) (map (mark_of content_size) lines) clock rule.minutes)) (created_time-marks lines)
+    ∙ ap (alarm_state_of rule (complete_minutes lines clock)) (rows-marks lines (range_with_len (window_end clock - rule.minutes) rule.minutes))
 
 -- ---- what the rows add up to
 

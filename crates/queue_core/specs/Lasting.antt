@@ -1,7 +1,12 @@
 -- Words for what a call leaves as it was, and for what lasts.
-use Rattle.std.specs.Prelude.{◌≡◌, ℕ, List, Option, option_and_then}
+use Rattle.std.specs.Prelude.{◌≡◌, ℕ, List, Option, Some, None, option_and_then}
+use Rattle.message.specs.declared.fault.Fault.{Fault}
+use Rattle.message.specs.declared.fault.Fault.TheVariants.{QueueDoesNotExist, JournalFull}
+use Rattle.message.specs.Content.{ContentText}
 use Rattle.receipt_handle.specs.declared.handle.Handle.{Handle}
 use Rattle.journal.specs.declared.entry.Entry.{Entry}
+use Rattle.journal.specs.declared.entry.Event.{Event}
+use Rattle.journal.specs.declared.entry.Event.TheVariants.{Refused}
 use Rattle.queue_core.specs.Messages.{messages, content_of, settings_of, created_time, modified_time, is_closed, pending_transfers, has_accepted}
 use Rattle.queue_core.specs.States.{gauges_of, receive_order, message_numbered}
 use Rattle.queue_core.specs.Queue.{QueueHistory, is_valid_handle, holds_in_flight, holds_live}
@@ -24,3 +29,9 @@ pub record StandsAs (q other : QueueHistory) : Type 0 where
 -- the content of the message of a number
 abbrev pub content_numbered : {C : Type 0} → List (Entry C) → ℕ → Option C
 content_numbered lines number = option_and_then (λ m. content_of lines m) (message_numbered lines number)
+
+-- what a refusal adds to the journal: nothing where the queue is not there, or its journal is full
+abbrev pub refusal_event : Fault → Option (Event ContentText)
+refusal_event QueueDoesNotExist = None
+refusal_event JournalFull = None
+refusal_event fault = Some (Refused fault)

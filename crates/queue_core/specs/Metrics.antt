@@ -1,12 +1,12 @@
 -- The metric rows of a queue (Amazon SQS metrics for CloudWatch): what flowed in a minute, and what stood there at its last millisecond.
 -- Nothing here depends on what stands for a content: a function tells its size in bytes.
-use Rattle.std.specs.Prelude.{ℕ, ◌+◌, ◌-◌, ◌*◌, nat_lt, Bool, List, filter, map, Option, Some, None, if◌then◌else◌}
+use Rattle.std.specs.Prelude.{ℕ, ◌+◌, ◌-◌, ◌*◌, min, nat_lt, List, filter, map, Option, Some, None, if◌then◌else◌}
 use Rattle.std.specs.List.{range_with_len}
 use Rattle.journal.specs.declared.entry.Entry.{Entry}
 use Rattle.metric_window.specs.declared.flows.Flows.{Flows}
 use Rattle.metric_window.specs.declared.gauges.Gauges.{Gauges}
 use Rattle.metric_window.specs.declared.row.Row.{Row}
-use Rattle.metric_window.specs.Flows.{minute_of, minute_flows}
+use Rattle.metric_window.specs.Flows.{minute_of, greatest, minute_flows}
 use Rattle.metric_window.specs.Window.{window_start, window_end, is_in_window}
 use Rattle.queue_config.specs.AlarmRules.{Rule}
 use Rattle.alarm.specs.declared.state.AlarmState.{AlarmState}
@@ -32,6 +32,10 @@ metric_row size lines minute = record { minute = minute; flows = minute_flows si
 -- what has happened so far in the clock's minute
 abbrev pub current_flows : {C : Type 0} → (C → ℕ) → List (Entry C) → ℕ → Flows
 current_flows size lines clock = minute_flows size lines (minute_of clock)
+
+-- the same with one refused call more, up to the greatest number that a row can show
+abbrev pub with_one_more_refused : Flows → Flows
+with_one_more_refused f = record f { refused = min (f.refused + 1) greatest }
 
 -- the row of a minute, where that is one of the window
 abbrev pub row_of : {C : Type 0} → (C → ℕ) → List (Entry C) → ℕ → ℕ → Option Row

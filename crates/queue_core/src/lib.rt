@@ -1,13 +1,14 @@
 //! One queue: its journal, its clock, and the commands that it answers.
 //!
 //! [`QueueState`] is the plain form: it keeps the journal and a clock, and finds every number by
-//! going through the journal. Each command's contract says where the clock is, which never falls,
-//! which entry is added and what is answered, by the definitions in `specs/`:
+//! going through the journal, which [`QueueState::journal`] shows. Each command's contract says where
+//! the clock is, which never falls, which entry is added and what is answered, by the definitions in
+//! `specs/`:
 //!
 //! - `Messages`: what each event does (`effect_of`), the messages of a journal, their times, retention
 //!   and expiry;
 //! - `States`: which messages are visible, delayed or in flight, the counts and the age;
-//! - `Metrics`: the row of each minute;
+//! - `Metrics`: the row of each minute, and the states of alarms;
 //! - `Queue`: the outcome of each command;
 //! - `Ranges`, `Legal`: what commands carry, and which journals a queue can have.
 //!
@@ -46,7 +47,10 @@ pub use laws::{
     offers_are_the_first_in_order, refused_calls_change_nothing, replies_offer_what_lines_record,
     what_is_gone_stays_gone,
 };
-pub use metric_laws::{rows_add_up_to_the_journal, rows_need_no_content, rows_never_change};
+pub use metric_laws::{
+    alarms_look_at_rows_of_the_window, refused_calls_count_once, rows_add_up_to_the_journal,
+    rows_need_no_content, rows_never_change,
+};
 pub use metric_window::{Flows, Gauges, Row};
 pub use offers::{Offer, Offers};
 pub use parcel::{Arrival, Parcel};

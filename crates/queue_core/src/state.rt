@@ -1,6 +1,6 @@
 //! A queue, kept as its journal and a clock.
 
-ghost use Rattle.std.specs.Prelude.{◌≡◌, ◌-◌, ◌<◌, ◌≤◌, ◌^◌, ◌≢◌, nat_lt, nat_le, not, filter, false, if◌then◌else◌, unwrap_or, Some, None, IsTrue, IfSome, IfOk, OnOk, OnErr, IfErr};
+ghost use Rattle.std.specs.Prelude.{◌≡◌, ◌+◌, ◌-◌, ◌<◌, ◌≤◌, ◌^◌, ◌≢◌, nat_lt, nat_le, not, filter, false, if◌then◌else◌, unwrap_or, Some, None, IsTrue, IfSome, IfOk, OnOk, OnErr, IfErr};
 ghost use Rattle.std.specs.Option.{ForSome};
 ghost use Rattle.message.specs.declared.fault.Fault.TheVariants.{OutOfMemory};
 ghost use Rattle.message.specs.Fault.{Meets, is_out_of_memory};
@@ -168,6 +168,15 @@ impl QueueState {
         ensures { result ≡ self.now.name }
     {
         self.name
+    }
+
+    /// The queue's journal itself. It may have one line more than the queue, for the entry that closes
+    /// it.
+    pub fn journal(&self) -> &Journal
+        ensures lines { result.now.lines ≡ self.now.lines }
+        ensures limit { result.now.limit ≡ self.now.limits.max_lines + 1 }
+    {
+        &self.journal
     }
 
     /// The settings in force.

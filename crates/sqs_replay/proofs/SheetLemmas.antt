@@ -21,44 +21,6 @@ use Rattle.redrive.specs.World.{World, queue_of_uid, step_answer, world_after_st
 use Rattle.redrive.proofs.RegistryLemmas.{changed-queue}
 use Rattle.sqs_replay.specs.Served.{command_served}
 
--- ---- rows
-
-module _ {C : Type 0} (size : C → ℕ) (lines : List (Entry C)) (clock : ℕ) where
-  abbrev pub first_minute : ℕ
-  first_minute = window_start (created_time lines) clock
-
-  -- the rows before a minute
-  abbrev pub rows_until : ℕ → List Row
-  rows_until minute = map (λ m. metric_row size lines m) (range_with_len first_minute (minute - first_minute))
-
-  row-there : (minute : ℕ) → first_minute ≤ minute → minute < window_end clock → row_of size lines clock minute ≡ Some (metric_row size lines minute)
-  row-there minute from until =
-      let a : nat_le first_minute minute ≡ true = grind (arith, nat_tests) in
-      let b : nat_lt minute (window_end clock) ≡ true = grind (arith, nat_tests) in
-      rw (a, b) refl
-
-  rows-more : (minute : ℕ) → first_minute ≤ minute → rows_until (minute + 1) ≡ rows_until minute ++ metric_row size lines minute ∷ []
-  rows-more minute from =
-      let next : (minute + 1) - first_minute ≡ (minute - first_minute) + 1 = omega arith in
-      ap (λ (n : ℕ). map (λ m. metric_row size lines m) (range_with_len first_minute n)) next
-      ∙ map-range_with_len_more (λ m. metric_row size lines m) first_minute (minute - first_minute) minute (omega arith)
-
-  -- the row of one minute more
-  pub rows-next : (minute : ℕ) (row : Row) (rows new : List Row) → first_minute ≤ minute → minute < window_end clock → row_of size lines clock minute ≡ Some row
-      → rows ≡ rows_until minute → new ≡ rows ++ row ∷ [] → new ≡ rows_until (minute + 1)
-  rows-next minute row rows new from until here h is =
-      let same : metric_row size lines minute ≡ row = let there = row-there minute from until in cc in
-      is ∙ ap (λ (l : List Row). l ++ row ∷ []) h ∙ sym (rows-more minute from ∙ ap (λ (r : Row). rows_until minute ++ r ∷ []) same)
-
-  pub row-missing : (minute : ℕ) → first_minute ≤ minute → minute < window_end clock → row_of size lines clock minute ≡ None → ⊥
-  row-missing minute from until none = let there = row-there minute from until in cc
-
-  pub rows-all : (minute : ℕ) (rows : List Row) → window_end clock ≤ minute → minute - first_minute ≤ window_end clock - first_minute → rows ≡ rows_until minute
-      → rows ≡ window_rows size lines clock
-  rows-all minute rows past within h =
-      let same : minute - first_minute ≡ window_end clock - first_minute = omega arith in
-      h ∙ ap (λ (n : ℕ). map (λ m. metric_row size lines m) (range_with_len first_minute n)) same
-
 -- ---- a look
 
 module _ (w : World) (uid at : ℕ) where

@@ -1,12 +1,10 @@
 //! The statistics of queues, by their own calls.
 
-ghost use Rattle.std.specs.Prelude.{◌≡◌, ◌<◌, ◌∷◌, map, length, slice_get, Some, IfOk, IfErr, Ok};
+ghost use Rattle.std.specs.Prelude.{◌≡◌, ◌∷◌, map, slice_get, IfOk, IfErr, Ok};
 ghost use Rattle.std.specs.Option.{ForSome};
 ghost use Rattle.message.specs.declared.fault.Fault.TheVariants.{OutOfMemory};
-ghost use Rattle.message.specs.Content.{content_size};
 ghost use Rattle.message.specs.Fault.{Meets};
 ghost use Rattle.queue_core.specs.declared.reply.Reply.TheVariants.{Looked};
-ghost use Rattle.queue_core.specs.Metrics.{window_rows};
 ghost use Rattle.queue_core.specs.Queue.{look_of};
 ghost use Rattle.redrive.specs.World.{queue_of_uid, world_at_moment, IsRegistry};
 ghost use Rattle.sqs_replay.specs.Answers.{IsOneOf};
@@ -21,38 +19,17 @@ use aws_json::Listed;
 use board::Sheet;
 use journal::{Moment, Ticks};
 use message::{Fault, QueueName};
-use metric_window::Row;
 use queue_core::{Command, Look, QueueState, Reply};
 use redrive::House;
 use std::alloc::Global;
 
-/// The rows of a queue's window, oldest first.
-fn rows_of(alloc: Global, queue: &QueueState) -> Result<Vec<Row>, Fault>
-    ensures rows { IfOk result (λ rows. rows.items ≡ window_rows content_size queue.now.lines queue.now.clock) }
-    ensures fault { IfErr result (λ fault. fault ≡ OutOfMemory) }
-{
-    let (first, end) = queue.span();
-    let mut rows = Vec::new(alloc);
-    for minute in first..end {
-        if let Some(row) = queue.row(minute) {
-            rows.push(row)?;
-        }
-    }
-    Ok(rows)
-}
-
 /// The alarm at a place among those of a queue, counted from 0, with its state.
-fn alarm_at(queue: &QueueState, index: usize) -> (QueueName, AlarmState)
-    requires { index < length queue.now.rules }
-    ensures { slice_get (alarms_of queue.now) index ≡ Some result }
+fn alarm_at(queue: &QueueState, index: usize) -> Option<(QueueName, AlarmState)>
+    ensures { result ≡ slice_get (alarms_of queue.now) index }
 {
-    let Some(name) = queue.alarm_name(index) else {
-        unreachable!()
-    };
-    let Some(state) = queue.alarm_state(index) else {
-        unreachable!()
-    };
-    (name, state)
+    let name = queue.alarm_name(index)?;
+    let state = queue.alarm_state(index)?;
+    Some((name, state))
 }
 
 /// The alarms of a queue with their states, in the order of their rules.
@@ -61,8 +38,8 @@ fn alarms_of(alloc: Global, queue: &QueueState) -> Result<Vec<(QueueName, AlarmS
     ensures fault { IfErr result (λ fault. fault ≡ OutOfMemory) }
 {
     let mut alarms = Vec::new(alloc);
-    for index in 0..queue.alarm_count() {
-        alarms.push(alarm_at(queue, index))?;
+    while let Some(alarm) = alarm_at(queue, alarms.len()) {
+        alarms.push(alarm)?;
     }
     Ok(alarms)
 }
@@ -72,7 +49,7 @@ fn sheet_of(alloc: Global, queue: &QueueState, look: &Look) -> Result<Sheet, Fau
     requires { look.now ≡ look_of queue.now }
     ensures { Meets result (Ok (sheet_of queue.now)) }
 {
-    let rows = rows_of(alloc, queue)?;
+    let rows = queue.rows(alloc)?;
     let alarms = alarms_of(alloc, queue)?;
     Ok(Sheet {
         name: queue.name(),

@@ -3,3 +3,4 @@ pub mod NameLemmas
 pub mod OrderLemmas
 pub mod RouteLemmas
 pub mod TextLemmas
+pub mod SortLemmas

@@ -3,10 +3,12 @@
 //! - [`answer`]: the status and the text that a request is answered.
 //! - [`Text`]: a text that was written, or a constant.
 //! - [`sheet_text`], [`sheets_text`], [`rows_text`], [`alarms_text`]: the texts alone.
+//! - The function of [`laws`] is empty: its contract is a law about the definitions in `specs/`.
 //!
 //! The contracts say each text exactly, and which path, method and queue it is the answer to.
 #![tactic(auto)]
 
+pub mod laws;
 mod order;
 mod put;
 mod replies;

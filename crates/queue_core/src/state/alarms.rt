@@ -1,6 +1,7 @@
 //! The alarms of a queue: its own rules, judged by its metric rows.
 
-ghost use Rattle.std.specs.Prelude.{◌≡◌, ◌≤◌, length, slice_get, option_map};
+ghost use Rattle.std.specs.Prelude.{◌≡◌, ◌≤◌, map, slice_get, option_map, IfOk, IfErr};
+ghost use Rattle.message.specs.declared.fault.Fault.TheVariants.{OutOfMemory};
 ghost use Rattle.message.specs.Content.{content_size};
 ghost use Rattle.metric_window.specs.Window.{window_end};
 ghost use Rattle.alarm.specs.AlarmState.{breaches_in};
@@ -8,9 +9,10 @@ ghost use Rattle.alarm.specs.AlarmState.{breaches_in};
 use crate::reading;
 use crate::state::QueueState;
 use alarm::{AlarmState, satisfies, state_with};
-use message::QueueName;
+use message::{Fault, QueueName};
 use metric_window::{minute_of, window_end};
 use queue_config::AlarmRule;
+use std::alloc::Global;
 
 impl QueueState {
     ghost use Rattle.queue_core.specs.Metrics.{complete_minutes, last_rows, alarm_state_in};
@@ -26,11 +28,27 @@ impl QueueState {
         }
     }
 
-    /// How many alarms the queue has.
-    pub fn alarm_count(&self) -> usize
-        ensures { result ≡ length self.now.rules }
+    /// The states of all alarms of the queue, in their order. `OutOfMemory` is the only refusal.
+    pub fn alarm_states(&self, alloc: Global) -> Result<Vec<AlarmState>, Fault>
+        ensures states { IfOk result (λ states. states.items
+            ≡ map (λ rule. alarm_state_in content_size self.now.lines self.now.clock rule) self.now.rules) }
+        ensures fault { IfErr result (λ fault. fault ≡ OutOfMemory) }
     {
-        self.rules.len()
+        self.states_of(alloc, self.rules.as_slice())
+    }
+
+    /// The states of the alarms of rules, in their order. `OutOfMemory` is the only refusal.
+    #[tactic(auto, using(std::proofs::lemmas::List::map_more))]
+    fn states_of(&self, alloc: Global, rules: &[AlarmRule]) -> Result<Vec<AlarmState>, Fault>
+        ensures states { IfOk result (λ states. states.items
+            ≡ map (λ rule. alarm_state_in content_size self.now.lines self.now.clock rule) rules.now) }
+        ensures fault { IfErr result (λ fault. fault ≡ OutOfMemory) }
+    {
+        let mut states = Vec::new(alloc);
+        for rule in rules {
+            states.push(self.state_of_alarm(rule))?;
+        }
+        Ok(states)
     }
 
     /// The name of the alarm at a place among those of the queue, counted from 0, in their order.

@@ -1,17 +1,20 @@
 //! Metric rows: what a queue's journal says of each minute.
 
-ghost use Rattle.std.specs.Prelude.{◌≡◌, ◌≤◌, true, IsTrue};
+ghost use Rattle.std.specs.Prelude.{◌≡◌, ◌≤◌, true, IsTrue, IfOk, IfErr};
+ghost use Rattle.message.specs.declared.fault.Fault.TheVariants.{OutOfMemory};
 ghost use Rattle.message.specs.Content.{content_size};
 ghost use Rattle.metric_window.specs.Window.{window_start, window_end, is_in_window};
 
 use crate::entries::Entries;
 use crate::state::QueueState;
 use crate::{metrics, reading};
+use message::Fault;
 use metric_window::{Flows, Gauges, Row, is_in_window, minute_of, window_end, window_start};
+use std::alloc::Global;
 
 impl QueueState {
     ghost use Rattle.queue_core.specs.Messages.{created_time};
-    ghost use Rattle.queue_core.specs.Metrics.{minute_end, entries_until, minute_gauges, metric_row, current_flows, row_of};
+    ghost use Rattle.queue_core.specs.Metrics.{minute_end, entries_until, minute_gauges, metric_row, current_flows, row_of, window_rows};
 
     /// What has happened so far in the minute of the queue's clock.
     pub fn current(&self) -> Flows
@@ -41,6 +44,21 @@ impl QueueState {
         } else {
             None
         }
+    }
+
+    /// The rows of all minutes that have one, oldest first. `OutOfMemory` is the only refusal.
+    pub fn rows(&self, alloc: Global) -> Result<Vec<Row>, Fault>
+        ensures rows { IfOk result (λ rows. rows.items ≡ window_rows content_size self.now.lines self.now.clock) }
+        ensures fault { IfErr result (λ fault. fault ≡ OutOfMemory) }
+    {
+        let (first, end) = self.span();
+        let mut rows = Vec::new(alloc);
+        for minute in first..end {
+            if let Some(row) = self.row(minute) {
+                rows.push(row)?;
+            }
+        }
+        Ok(rows)
     }
 
     /// Whether a minute has a row.

@@ -2,7 +2,7 @@
 
 use super::{content, handle, moment, open, wish};
 use crate::{Gauges, Look};
-use journal::{Moment, Ticks};
+use journal::{Event, Moment, Ticks};
 use message::Fault;
 use queue_config::{Limits, Settings};
 use std::test::Fail;
@@ -49,5 +49,37 @@ fn looks(rt: HostRuntime) -> Result<(), Fail> {
         assert_eq!(rt; look.settings.visibility_timeout, 30);
         assert_eq!(rt; (look.created, look.gauges.age), (Moment::zero(), 4));
     }
+    Ok(())
+}
+
+/// The journal has the queue's entries, oldest first, and their marks.
+#[test]
+fn shows_its_journal(rt: HostRuntime) -> Result<(), Fail> {
+    let ticks = &mut Ticks::new(&rt);
+    let alloc = rt.alloc();
+    let mut queue = open(alloc, "", "", Limits::default())?;
+    queue.send(alloc, moment(1000)?, content(alloc, "text")?, None, ticks)?;
+    let journal = queue.journal();
+    assert_eq!(rt; journal.len(), 2);
+    let line = journal.peek(1).ok_or("a second line")?;
+    assert_eq!(rt; line.at, moment(1000)?);
+    let is_sent =
+        matches!(&line.event, Event::Sent { delay: 0, content } if content.body() == "text");
+    assert!(rt; is_sent);
+    let marks = journal.marks(alloc, 1, ticks)?;
+    let [mark] = marks.as_slice() else {
+        return Err("not one mark".into());
+    };
+    assert_eq!(rt; mark.at, moment(1000)?);
+    assert!(rt;
+        matches!(
+            mark.event,
+            Event::Sent {
+                delay: 0,
+                content: 4
+            }
+        )
+    );
+    assert_eq!(rt; ticks.count(), 1);
     Ok(())
 }

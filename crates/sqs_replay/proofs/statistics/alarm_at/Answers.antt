@@ -8,7 +8,7 @@ use Rattle.sqs_replay.proofs.statistics.alarm_at.Goals as goal
 
 pub returns : goal.returns
 returns c =
-    slice_get-map (λ (rule : Rule). (rule.name, alarm_state_in content_size c.args.queue.now.lines c.args.queue.now.clock rule)) c.args.queue.now.rules c.args.index
+    sym (slice_get-map (λ (rule : Rule). (rule.name, alarm_state_in content_size c.args.queue.now.lines c.args.queue.now.clock rule)) c.args.queue.now.rules c.args.index
     ∙ both-parts (λ (rule : Rule). rule.name) (λ (rule : Rule). alarm_state_in content_size c.args.queue.now.lines c.args.queue.now.clock rule)
-    (slice_get c.args.queue.now.rules c.args.index) c.in-Some.name c.in-Some-alarm_state.state
-    (sym c.alarm_name.ensures ∙ c.in-Some.is) (sym c.alarm_state.ensures ∙ c.in-Some-alarm_state.is)
+    (slice_get c.args.queue.now.rules c.args.index) c.in_ok-name.name c.in_ok-state.state
+    (sym c.alarm_name.ensures ∙ c.in_ok-name.was) (sym c.alarm_state.ensures ∙ c.in_ok-state.was))

@@ -1,6 +1,9 @@
-use Rattle.std.proofs.Common.{◌≡◌, take}
+use Rattle.std.proofs.Common.{◌≡◌, ◌-◌, length, take}
 use Rattle.sqs_replay.specs.Sheets.{alarms_of}
 use Rattle.sqs_replay.proofs.statistics.alarms_of.Given as goal
 
-abbrev pub invariant-loop-index : goal.invariant-loop-index
-invariant-loop-index l = l.alarms.items ≡ take l.index (alarms_of l.queue)
+abbrev pub invariant-loop-alarm : goal.invariant-loop-alarm
+invariant-loop-alarm l = l.alarms.items ≡ take (length l.alarms.items) (alarms_of l.queue)
+
+abbrev pub decreases-loop-alarm : goal.decreases-loop-alarm
+decreases-loop-alarm l = length (alarms_of l.queue) - length l.alarms.items
