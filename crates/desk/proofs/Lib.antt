@@ -1,0 +1,4 @@
+pub mod HistoryLemmas
+pub mod Keeping
+pub mod PassLemmas
+pub mod PrintLemmas

@@ -1,0 +1,12 @@
+use Rattle.std.proofs.Common.{rules, ap, sym, ◌∙◌, ◌≡◌, List, [], ◌∷◌, ◌++◌, Some, Option}
+use Rattle.atomic_table.specs.Table.{opening}
+use Rattle.desk.specs.Held.{Lying}
+use Rattle.desk.specs.Rule.{IsInTurn}
+use Rattle.desk.specs.Views.{first_view}
+use Rattle.desk.proofs.Keeping.{opens}
+use Rattle.desk.proofs.desk.Desk.new.Goals as goal
+
+pub new-requires-2 : goal.new-requires-2
+new-requires-2 g c =
+    let items : c.push_reserved.new.self.items ≡ Some c.new-held.result ∷ [] = search rules in
+    rw items (opens c.of-start.result.value c.new-held.result (ap (λ x. x.queue) c.new-held.ensures ∙ sym c.of-start.ensures))

@@ -1,0 +1,87 @@
+-- What is told of turns: the statistics of the queue at the end of each, and the marks of its journal that were not told before.
+-- What makes a list of turns a record is said of marks alone, which have the sizes of contents in their place.
+use Rattle.std.specs.Prelude.{◌≡◌, ℕ, List, [], ◌∷◌, ◌++◌, map, take, drop, length, ◌≤◌}
+use Rattle.message.specs.Content.{ContentText, content_size}
+use Rattle.queue_config.specs.AlarmRules.{Rule}
+use Rattle.journal.specs.declared.entry.Entry.{Entry}
+use Rattle.journal.specs.Mark.{mark_of}
+use Rattle.metric_window.specs.declared.flows.Flows.{Flows}
+use Rattle.metric_window.specs.declared.gauges.Gauges.{Gauges}
+use Rattle.metric_window.specs.declared.row.Row.{Row}
+use Rattle.alarm.specs.declared.state.AlarmState.{AlarmState}
+use Rattle.queue_core.specs.States.{gauges_of}
+use Rattle.queue_core.specs.Metrics.{current_flows, window_rows, alarm_state_in}
+use Rattle.queue_core.specs.Queue.{QueueHistory}
+use Rattle.queue_core.specs.Legal.{IsLegal}
+
+-- what is told of a turn: the marks that were not told before, the clock, and the numbers at that time
+pub record TurnReport : Type 0 where
+  pub marks : List (Entry ℕ)
+  pub clock : ℕ
+  pub lines : ℕ
+  pub gauges : Gauges
+  pub current : Flows
+  pub rows : List Row
+  pub alarms : List AlarmState
+
+-- the marks of entries
+abbrev pub marks_of : List (Entry ContentText) → List (Entry ℕ)
+marks_of lines = map (mark_of content_size) lines
+
+-- what is told of a queue, whose first so many marks were told before
+abbrev pub report_of : QueueHistory → ℕ → TurnReport
+report_of q told = record {
+  marks = marks_of (drop told q.lines);
+  clock = q.clock;
+  lines = length q.lines;
+  gauges = gauges_of q.lines q.clock;
+  current = current_flows content_size q.lines q.clock;
+  rows = window_rows content_size q.lines q.clock;
+  alarms = map (λ rule. alarm_state_in content_size q.lines q.clock rule) q.rules;
+}
+
+abbrev pub itself : ℕ → ℕ
+itself size = size
+
+-- the numbers are those of these marks at the clock: these are the marks of a queue's legal journal
+pub record IsSnapshot (rules : List Rule) (marks : List (Entry ℕ)) (t : TurnReport) : Type 0 where
+  pub queue : QueueHistory
+  pub legal : IsLegal queue
+  pub same_rules : queue.rules ≡ rules
+  pub same_clock : queue.clock ≡ t.clock
+  pub same_marks : marks_of queue.lines ≡ marks
+  pub lines : t.lines ≡ length marks
+  pub gauges : t.gauges ≡ gauges_of marks t.clock
+  pub current : t.current ≡ current_flows itself marks t.clock
+  pub rows : t.rows ≡ window_rows itself marks t.clock
+  pub alarms : t.alarms ≡ map (λ rule. alarm_state_in itself marks t.clock rule) rules
+
+-- behind these marks, each turn's numbers are those of all the marks that were told until then
+abbrev pub GoOn : List Rule → List (Entry ℕ) → List TurnReport → Type 0
+GoOn rules before [] = Unit {0}
+GoOn rules before (t ∷ ts) = IsSnapshot rules (before ++ t.marks) t × GoOn rules (before ++ t.marks) ts
+
+-- a record of printed turns: with one list of rules, each turn's numbers are those of all marks up to it
+abbrev pub IsPublicationRecord : List TurnReport → Type 0
+IsPublicationRecord turns = (rules : List Rule) × GoOn rules [] turns
+
+-- a turn that may be printed next, where a press stands for some lists of turns
+abbrev pub IsNextIn : (List TurnReport → Type 0) → TurnReport → Type 0
+IsNextIn stands turn = (turns : List TurnReport) × stands turns × IsPublicationRecord (turns ++ turn ∷ [])
+
+-- the marks that turns have told, joined
+abbrev pub joined : List TurnReport → List (Entry ℕ)
+joined [] = []
+joined (t ∷ ts) = t.marks ++ joined ts
+
+-- what a press stands for is a record of the queue's first so many marks
+pub record IsPrinted (stands : List TurnReport → Type 0) (q : QueueHistory) (told : ℕ) : Type 0 where
+  pub turns : List TurnReport
+  pub stood : stands turns
+  pub record_of : GoOn q.rules [] turns
+  pub marks : joined turns ≡ marks_of (take told q.lines)
+  pub within : told ≤ length q.lines
+
+-- an answer tells of the queue, as it is told behind some of its marks
+abbrev pub IsToldOf : {Told : Type 0} → (TurnReport → Told → Type 0) → QueueHistory → Told → Type 0
+IsToldOf tells q answer = (told : ℕ) × tells (report_of q told) answer

@@ -1,0 +1,94 @@
+-- What a pass knows, as contracts see it, and what one call adds to it.
+use Rattle.std.specs.Prelude.{◌≡◌, ◌≢◌, ℕ, List, [], ◌∷◌, ◌++◌, Result}
+use Rattle.message.specs.declared.fault.Fault.{Fault}
+use Rattle.atomic_table.specs.Seated.{TableId}
+use Rattle.queue_config.specs.Limits.{default_limits}
+use Rattle.queue_core.specs.declared.command.Command.{Command}
+use Rattle.queue_core.specs.declared.reply.Reply.{Reply}
+use Rattle.queue_core.specs.Queue.{QueueHistory}
+use Rattle.desk.specs.declared.view.Call.{Call}
+use Rattle.desk.specs.declared.view.View.{View}
+use Rattle.desk.specs.declared.view.Stage.TheVariants.{Fresh, Idle, Ended}
+use Rattle.desk.specs.History.{IsLegalHistory, calls_by, call, GoesOnFrom, state_of}
+
+-- the desk that a pass is of, the queue that the desk was made with, the pass's number, the history that the pass has seen, and its own calls in it
+pub record Knowledge : Type 0 where
+  pub desk : TableId
+  pub start : QueueHistory
+  pub number : ℕ
+  pub seen : List Call
+  pub mine : List Call
+
+-- what has been seen is a legal history, and the calls of the pass's number in it are its own
+pub record IsKnown (k : Knowledge) : Type 0 where
+  pub legal : IsLegalHistory k.start k.seen
+  pub own : calls_by k.number k.seen ≡ k.mine
+
+-- the pass of a new desk
+abbrev pub first_knowledge : TableId → QueueHistory → Knowledge
+first_knowledge desk start = record { desk = desk; start = start; number = 0; seen = []; mine = [] }
+
+abbrev pub knowledge_of : TableId → View → Knowledge
+knowledge_of desk v = record { desk = desk; start = v.start; number = v.number; seen = v.seen; mine = v.mine }
+
+-- A call was made: behind all that the pass had seen, and behind what others had done meanwhile, the history ends with it, under the pass's number, and it is the last of the pass's own calls
+pub record HasCalled (before : Knowledge) (at : ℕ) (command : Command) (reply : Result Reply Fault) (after : Knowledge) : Type 0 where
+  pub same_desk : after.desk ≡ before.desk
+  pub same_start : after.start ≡ before.start
+  pub same_number : after.number ≡ before.number
+  pub between : List Call
+  pub history : after.seen ≡ (before.seen ++ between) ++ call before.number at command reply ∷ []
+  pub own : after.mine ≡ before.mine ++ call before.number at command reply ∷ []
+
+-- no queue
+abbrev no_queue : QueueHistory
+no_queue = record { uid = 0; name = []; limits = default_limits; rules = []; clock = 0; lines = [] }
+
+-- the view of the desk's first pass
+abbrev pub first_view : QueueHistory → View
+first_view start = record { start = start; number = 0; parent = 0; seen = []; heard = []; mine = []; stage = Idle }
+
+-- the view of a pass that was joined with another
+abbrev pub ended_view : View
+ended_view = record { start = no_queue; number = 0; parent = 0; seen = []; heard = []; mine = []; stage = Ended }
+
+-- a pass that is cut off from another has seen as much, and has made no calls
+abbrev pub cut_off : View → View
+cut_off v = record v { parent = v.number; heard = []; mine = []; stage = Fresh }
+
+-- a pass is told what another has seen
+abbrev pub hearing : View → View → View
+hearing v other = record v { heard = other.seen }
+
+-- the desk that a note is of, the queue that the desk was made with, and the history that was seen
+pub record Remark : Type 0 where
+  pub desk : TableId
+  pub start : QueueHistory
+  pub seen : List Call
+
+abbrev pub remark_of : TableId → View → Remark
+remark_of desk v = record { desk = desk; start = v.start; seen = v.seen }
+
+-- what was seen goes on, and nothing else changes
+pub record SeesMore (before after : Knowledge) : Type 0 where
+  pub same_desk : after.desk ≡ before.desk
+  pub same_start : after.start ≡ before.start
+  pub same_number : after.number ≡ before.number
+  pub same_calls : after.mine ≡ before.mine
+  pub goes_on : GoesOnFrom before.seen after.seen
+
+-- a pass of the same desk with another number, which has made no calls, and has seen at least as much
+pub record IsNewPass (parent new : Knowledge) : Type 0 where
+  pub same_desk : new.desk ≡ parent.desk
+  pub same_start : new.start ≡ parent.start
+  pub other_number : new.number ≢ parent.number
+  pub no_calls : new.mine ≡ []
+  pub goes_on : GoesOnFrom parent.seen new.seen
+
+-- a queue that is what a legal history leaves, which goes on from all that the pass had seen, and has the pass's calls and no others of its number
+pub record IsLastState (pass : Knowledge) (queue : QueueHistory) : Type 0 where
+  pub history : List Call
+  pub legal : IsLegalHistory pass.start history
+  pub goes_on : GoesOnFrom pass.seen history
+  pub own : calls_by pass.number history ≡ pass.mine
+  pub state : queue ≡ state_of pass.start history

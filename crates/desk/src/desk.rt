@@ -1,0 +1,275 @@
+//! A desk: one queue, which threads take turns at.
+
+ghost use Rattle.std.specs.Prelude.{ℕ, ◌≡◌, ◌⊎◌, [], ◌∷◌, length, Err, None, Some, IfOk, IfErr, IfSome, IfNone};
+ghost use Rattle.message.specs.declared.fault.Fault.TheVariants.{OutOfMemory, Spent};
+
+use crate::asked::Asked;
+use crate::gate::Gate;
+use crate::held::Held;
+use crate::pass::{Note, Pass};
+use crate::printing::Press;
+use crate::rule::{Await, CutOff, Draw, End, Enter, Hear, InTurn, Look};
+use crate::view::View;
+use atomic_table::{Seat, Table};
+use journal::{Moment, Ticks};
+use message::Fault;
+use queue_core::{Command, QueueState};
+use std::alloc::Global;
+use std::marker::Model;
+use std::snapshot::Snapshot;
+use std::sync::Wait;
+
+/// The word that counts the turns that have ended.
+const ENDED: usize = 0;
+
+/// The word that counts the tickets that were drawn.
+const TICKETS: usize = 1;
+
+/// How many calls may be begun at one desk. This project's own choice.
+const MOST_TICKETS: u64 = 1 << 62;
+
+/// A queue that threads share. Contracts see which desk it is.
+#[derive(Drop)]
+pub struct Desk<P: Press> {
+    table: Table<Option<Held<P>>, View, Snapshot<QueueState>, InTurn, Global>,
+}
+
+impl<P: Press> Model for Desk<P> {
+    ghost use Rattle.std.specs.Prelude.{◌≡◌};
+    ghost use Rattle.atomic_table.specs.Seated.{TableId};
+
+    ghost Value = { TableId };
+
+    ghost view = { λ d. d.table.shared.table_id };
+
+    ghost invariant = { λ d. (d.table.shared.table_id.words ≡ 2) × (d.table.shared.table_id.slots ≡ 1) };
+}
+
+impl<P: Press> Desk<P> {
+    ghost use Rattle.desk.specs.declared.view.Stage.TheVariants.{Idle, Drawn, Turn};
+    ghost use Rattle.desk.specs.Views.{first_knowledge, HasCalled, IsKnown, SeesMore, IsNewPass, IsLastState};
+    ghost use Rattle.desk.specs.History.{state_of, calls_by, GoesOnFrom};
+    ghost use Rattle.desk.specs.Printed.{IsToldOf};
+    ghost use Rattle.desk.specs.Steps.{at_stage, HasSeen, HasTurn, HasPerformed, with_call};
+
+    /// A desk with a queue on it, and its first pass, which has seen and called nothing. `OutOfMemory`
+    /// is the only refusal; the queue and the press are then dropped.
+    pub fn new(
+        rt: &HostRuntime,
+        alloc: Global,
+        state: QueueState,
+        press: P,
+    ) -> Result<(Desk<P>, Pass<P>), Fault>
+        requires { P.stands press [] }
+        ensures ok { IfOk result (λ r. r.1 ≡ first_knowledge r.0 state) }
+        ensures errors { IfErr result (λ fault. fault ≡ OutOfMemory) }
+    {
+        let start = Snapshot::of(&state);
+        let held = Held::new(state, press, Ticks::new(rt));
+        let mut slots = Vec::with_capacity(alloc, 1)?;
+        slots.push_reserved(Some(held));
+        let Ok((table, seat)) = Table::new(alloc, &[0, 0], slots, &start) else {
+            return Err(Fault::OutOfMemory);
+        };
+        Ok((Desk { table }, Pass { seat }))
+    }
+
+    /// Draws a ticket, where one is left.
+    fn draw<R: Wait>(&self, rt: &R, seat: &mut Seat<Option<Held<P>>, View>) -> Option<u64>
+        requires desk { seat.old.table_id ≡ self.now }
+        requires idle { seat.old.me.0.stage ≡ Idle }
+        ensures desk { seat.new.table_id ≡ seat.old.table_id }
+        ensures some { IfSome result (λ ticket. seat.new.me ≡ (at_stage seat.old.me.0 (Drawn ticket), seat.old.me.1)) }
+        ensures none { IfNone result (seat.new.me ≡ seat.old.me) }
+    {
+        let mut next = self.table.shared.peek(TICKETS);
+        for _ in rt.forever() {
+            if next >= MOST_TICKETS {
+                return None;
+            }
+            let found = self
+                .table
+                .shared
+                .compare_exchange::<Draw>(seat, TICKETS, next, next + 1);
+            if found == next {
+                return Some(next);
+            }
+            next = found;
+        }
+        unreachable!()
+    }
+
+    /// Waits until all tickets before this one were served, and has the turn then.
+    fn wait<R: Wait>(&self, rt: &R, seat: &mut Seat<Option<Held<P>>, View>, ticket: u64)
+        requires desk { seat.old.table_id ≡ self.now }
+        requires drawn { seat.old.me.0.stage ≡ Drawn ticket }
+        requires empty { seat.old.me.1 ≡ [] }
+        ensures desk { seat.new.table_id ≡ seat.old.table_id }
+        ensures seen { HasSeen seat.old.me.0 seat.new.me.0 }
+        ensures turn { HasTurn seat.new.me ticket }
+    {
+        for _ in rt.forever() {
+            let ended = self.table.shared.load::<Await>(seat, ENDED);
+            if ended == ticket {
+                return;
+            }
+            self.table
+                .shared
+                .park(rt, ENDED, (ended % (1 << 32)) as u32);
+        }
+        unreachable!()
+    }
+
+    /// Takes the queue from the desk, at the turn.
+    fn take(&self, seat: &mut Seat<Option<Held<P>>, View>) -> Held<P>
+        requires desk { seat.old.table_id ≡ self.now }
+        requires turn { (ticket : ℕ) × HasTurn seat.old.me ticket }
+        ensures desk { seat.new.table_id ≡ seat.old.table_id }
+        ensures out { seat.new.me ≡ (seat.old.me.0, (0, None) ∷ []) }
+        ensures queue { result.queue ≡ state_of seat.old.me.0.start seat.old.me.0.seen }
+    {
+        let Some(held) = self.table.shared.exchange(seat, 0, None) else {
+            unreachable!()
+        };
+        held
+    }
+
+    /// Puts the queue back behind a call, and ends the turn, which is when the call takes place.
+    fn end(&self, seat: &mut Seat<Option<Held<P>>, View>, held: Held<P>)
+        requires desk { seat.old.table_id ≡ self.now }
+        requires turn { (ticket : ℕ) × (seat.old.me.0.stage ≡ Turn ticket) }
+        requires out { seat.old.me.1 ≡ (0, None) ∷ [] }
+        requires call { HasPerformed seat.old.me.0 held }
+        ensures desk { seat.new.table_id ≡ seat.old.table_id }
+        ensures ended { seat.new.me ≡ (with_call seat.old.me.0 held.made, []) }
+    {
+        let _none = self.table.shared.exchange(seat, 0, Some(held));
+        self.table.shared.fetch_add::<End>(seat, ENDED, 1);
+        self.table.shared.wake_all(ENDED);
+    }
+
+    /// Calls the queue at a moment, in a turn of its own, and waits for it. `Spent` is the answer where
+    /// all 2^62 tickets are drawn, and nothing is called then. Every other answer, `OutOfMemory` among
+    /// them, is a call in the history, and what is told is of the queue behind it.
+    pub fn ask<R: Wait>(
+        &self,
+        rt: &R,
+        alloc: Global,
+        pass: &mut Pass<P>,
+        at: Moment,
+        command: &Command,
+        gate: &impl Gate,
+    ) -> Asked<P::Told>
+        requires { pass.old.desk ≡ self.now }
+        ensures call { HasCalled pass.old at command.now result.reply pass.new ⊎ ((result.reply ≡ Err Spent) × (result.told ≡ None) × (pass.new ≡ pass.old)) }
+        ensures desk { pass.new.desk ≡ pass.old.desk }
+        ensures known { IsKnown pass.new }
+        ensures told { IfSome result.told (λ told. IsToldOf P.tells (state_of pass.new.start pass.new.seen) told) }
+    {
+        let Some(ticket) = self.draw(rt, &mut pass.seat) else {
+            return Asked {
+                reply: Err(Fault::Spent),
+                told: None,
+            };
+        };
+        self.wait(rt, &mut pass.seat, ticket);
+        let mut held = self.take(&mut pass.seat);
+        gate.in_turn(rt, ticket);
+        let reply = held.perform(alloc, at, command);
+        let told = held.tell(rt, alloc);
+        self.end(&mut pass.seat, held);
+        Asked { reply, told }
+    }
+
+    /// Looks at the history without a turn, and answers how many turns have ended, which are its calls.
+    fn look(&self, seat: &mut Seat<Option<Held<P>>, View>) -> u64
+        requires desk { seat.old.table_id ≡ self.now }
+        requires idle { seat.old.me.0.stage ≡ Idle }
+        ensures desk { seat.new.table_id ≡ seat.old.table_id }
+        ensures seen { HasSeen seat.old.me.0 seat.new.me.0 }
+        ensures count { result ≡ length seat.new.me.0.seen }
+        ensures idle { (seat.new.me.0.stage ≡ Idle) × (seat.new.me.1 ≡ seat.old.me.1) }
+    {
+        self.table.shared.load::<Look>(seat, ENDED)
+    }
+
+    /// How many turns have ended: at least as many as the pass has seen. It takes no turn.
+    pub fn glance(&self, pass: &mut Pass<P>) -> u64
+        requires { pass.old.desk ≡ self.now }
+        ensures count { result ≡ length pass.new.seen }
+        ensures seen { SeesMore pass.old pass.new }
+        ensures known { IsKnown pass.new }
+    {
+        self.look(&mut pass.seat)
+    }
+
+    /// A pass more: its number is another than the first one's, it has called nothing, and has seen at
+    /// least as much.
+    pub fn pass(&self, pass: &mut Pass<P>) -> Pass<P>
+        requires { pass.old.desk ≡ self.now }
+        ensures same { pass.new ≡ pass.old }
+        ensures new { IsNewPass pass.old result }
+        ensures known { IsKnown result }
+    {
+        let mut seat = self.table.shared.split_seat::<CutOff>(&mut pass.seat);
+        self.table.shared.load::<Enter>(&mut seat, ENDED);
+        Pass { seat }
+    }
+
+    /// What the pass has seen, for another pass to meet.
+    pub fn note(&self, pass: &mut Pass<P>) -> Note<P>
+        requires { pass.old.desk ≡ self.now }
+        ensures same { pass.new ≡ pass.old }
+        ensures seen { (result.desk ≡ self.now) × (result.start ≡ pass.old.start) × (result.seen ≡ pass.old.seen) }
+    {
+        Note {
+            seat: self.table.shared.split_seat::<CutOff>(&mut pass.seat),
+        }
+    }
+
+    /// The pass sees what a note says, beside all that it had seen: of the two histories one begins
+    /// with the other.
+    pub fn meet(&self, pass: &mut Pass<P>, note: Note<P>)
+        requires { (pass.old.desk ≡ self.now) × (note.desk ≡ self.now) }
+        ensures seen { SeesMore pass.old pass.new }
+        ensures theirs { GoesOnFrom note.seen pass.new.seen }
+        ensures one { GoesOnFrom note.seen pass.old.seen ⊎ GoesOnFrom pass.old.seen note.seen }
+        ensures known { IsKnown pass.new }
+    {
+        let Note { seat } = note;
+        self.table.shared.join_seat::<Hear>(&mut pass.seat, seat);
+        self.look(&mut pass.seat);
+    }
+
+    /// Ends another pass: what it has seen, the first pass sees too. Its calls stay in the history, under
+    /// its number.
+    pub fn end_pass(&self, pass: &mut Pass<P>, ended: Pass<P>)
+        requires { (pass.old.desk ≡ self.now) × (ended.desk ≡ self.now) }
+        ensures seen { SeesMore pass.old pass.new }
+        ensures theirs { GoesOnFrom ended.seen pass.new.seen }
+        ensures one { GoesOnFrom ended.seen pass.old.seen ⊎ GoesOnFrom pass.old.seen ended.seen }
+        ensures calls { GoesOnFrom ended.mine (calls_by ended.number pass.new.seen) }
+        ensures known { IsKnown pass.new }
+    {
+        let Pass { seat } = ended;
+        self.table.shared.join_seat::<Hear>(&mut pass.seat, seat);
+        self.look(&mut pass.seat);
+    }
+
+    /// Closes the desk after a last turn, in which nothing is called and no gate stands, and gives the
+    /// queue back as a history leaves it that goes on from all that the pass had seen. A desk whose 2^62
+    /// tickets are drawn answers `Spent`, and the queue is dropped.
+    pub fn close<R: Wait>(self, rt: &R, pass: Pass<P>) -> Result<QueueState, Fault>
+        requires { pass.desk ≡ self }
+        ensures ok { IfOk result (λ queue. IsLastState pass queue) }
+        ensures errors { IfErr result (λ fault. fault ≡ Spent) }
+    {
+        let Pass { mut seat } = pass;
+        let Some(ticket) = self.draw(rt, &mut seat) else {
+            return Err(Fault::Spent);
+        };
+        self.wait(rt, &mut seat, ticket);
+        let held = self.take(&mut seat);
+        Ok(held.into_state())
+    }
+}

@@ -1,0 +1,107 @@
+//! What lies on a desk.
+
+ghost use Rattle.std.specs.Prelude.{◌≡◌, [], IfSome};
+
+use crate::made::Made;
+use crate::printing::Press;
+use crate::turn::Turn;
+use journal::{Moment, Ticks};
+use message::Fault;
+use queue_core::{Command, QueueState, Reply};
+use std::alloc::Global;
+use std::marker::Model;
+use std::snapshot::Snapshot;
+use std::sync::Wait;
+
+/// The queue with its press, how many marks of its journal were printed, and the call that was made
+/// last. Contracts see the queue and that call.
+#[derive(Drop)]
+pub(crate) struct Held<P: Press> {
+    pub(crate) state: QueueState,
+    press: P,
+    /// How many marks of the queue's journal were printed.
+    told: usize,
+    ticks: Ticks,
+    made: Option<Made>,
+}
+
+impl<P: Press> Model for Held<P> {
+    ghost use Rattle.desk.specs.Held.{Lying};
+    ghost use Rattle.desk.specs.Printed.{IsPrinted};
+
+    ghost Value = { Lying };
+
+    ghost view = { λ h. record { queue = h.state; made = h.made } };
+
+    ghost invariant = { λ h. IsPrinted (P.stands h.press) h.state h.told };
+}
+
+impl<P: Press> Held<P> {
+    ghost use Rattle.desk.specs.History.{IsAnswered};
+    ghost use Rattle.desk.specs.Held.{untouched, IsBehind};
+    ghost use Rattle.desk.specs.Printed.{IsToldOf};
+
+    /// A queue to which no call was made yet.
+    pub(crate) fn new(state: QueueState, press: P, ticks: Ticks) -> Held<P>
+        requires { P.stands press [] }
+        ensures { result ≡ untouched state }
+    {
+        Held {
+            state,
+            press,
+            told: 0,
+            ticks,
+            made: None,
+        }
+    }
+
+    /// Performs a command, and keeps the call.
+    pub(crate) fn perform(
+        &mut self,
+        alloc: Global,
+        at: Moment,
+        command: &Command,
+    ) -> Result<Reply, Fault>
+        ensures answer { IsAnswered self.old.queue at command.now result }
+        ensures state { IsBehind self.old.queue at command.now result self.new }
+    {
+        let reply = self.state.perform(alloc, at, command, &mut self.ticks);
+        self.made = Some(Made {
+            at,
+            command: Snapshot::of(command),
+            reply: Snapshot::of(&reply),
+        });
+        reply
+    }
+
+    /// Tells the press of the queue as it is now. `None` is want of memory, for the turn or for the press.
+    pub(crate) fn tell<R: Wait>(&mut self, rt: &R, alloc: Global) -> Option<P::Told>
+        ensures told { IfSome result (λ told. IsToldOf P.tells self.old.queue told) }
+        ensures same { self.new ≡ self.old }
+    {
+        match self.press.blank() {
+            Some(told) => Some(told),
+            None => self.print(rt, alloc),
+        }
+    }
+
+    /// Prints the turn. `None` is want of memory, for the turn or for the press.
+    fn print<R: Wait>(&mut self, rt: &R, alloc: Global) -> Option<P::Told>
+        ensures told { IfSome result (λ told. IsToldOf P.tells self.old.queue told) }
+        ensures same { self.new ≡ self.old }
+    {
+        let Ok(turn) = Turn::of(alloc, &mut self.state, self.told, &mut self.ticks) else {
+            return None;
+        };
+        let told = self.press.print(rt, alloc, &turn)?;
+        self.told = turn.lines as usize;
+        Some(told)
+    }
+
+    /// The queue alone.
+    pub(crate) fn into_state(self) -> QueueState
+        ensures { result ≡ self.queue }
+    {
+        self.state
+    }
+}

@@ -1,0 +1,58 @@
+//! What is told of each turn, and to whom.
+
+ghost use Rattle.std.specs.Prelude.{◌≡◌, List, [], ◌∷◌, ◌++◌, IfSome, IfNone, IsSome};
+ghost use Rattle.desk.specs.Printed.{TurnReport, IsNextIn, IsPublicationRecord};
+
+use crate::turn::Turn;
+use std::alloc::Global;
+use std::sync::Wait;
+
+/// A sink for what each turn leaves of the queue. It stands for lists of turns: those that it may have
+/// printed.
+pub trait Press: Drop {
+    /// What it answers to a turn that was printed.
+    type Told;
+
+    // The lists of printed turns that a press stands for.
+    ghost stands: { Self → List TurnReport → Type 0 };
+
+    // What an answer tells of a turn.
+    ghost tells: { TurnReport → Self.Told → Type 0 };
+
+    /// What a press answers to every turn without looking at it, where it stands for every list of
+    /// turns: no turn is made for it then, and `print` is not called.
+    fn blank(&self) -> Option<Self::Told>
+        ensures told { IfSome result (λ told. (turn : TurnReport) → tells turn told) }
+        ensures every { IfSome result (λ told. (turns : List TurnReport) → stands self.now turns) };
+
+    /// Prints a turn, before it ends. `None` is want of memory: the press stands for what it stood for.
+    fn print<R: Wait>(&mut self, rt: &R, alloc: Global, turn: &Turn) -> Option<Self::Told>
+        requires { IsNextIn (stands self.old) turn.now }
+        ensures some { IfSome result (λ told. (turns : List TurnReport) → stands self.old turns → IsPublicationRecord (turns ++ turn.now ∷ []) → stands self.new (turns ++ turn.now ∷ [])) }
+        ensures told { IfSome result (λ told. tells turn.now told) }
+        ensures none { IfNone result ((turns : List TurnReport) → stands self.old turns → stands self.new turns) };
+}
+
+/// A press for which no turn is printed: it stands for every list of turns, and answers `Some` always.
+#[derive(Clone, Copy, Debug, Drop)]
+pub struct NoPress;
+
+impl Press for NoPress {
+    type Told = ();
+
+    ghost stands = { λ _ _. Unit {0} };
+
+    ghost tells = { λ _ _. Unit {0} };
+
+    fn blank(&self) -> Option<()>
+        ensures { IsSome result }
+    {
+        Some(())
+    }
+
+    fn print<R: Wait>(&mut self, _rt: &R, _alloc: Global, _turn: &Turn) -> Option<()>
+        ensures { IsSome result }
+    {
+        Some(())
+    }
+}

@@ -1,0 +1,79 @@
+//! The rule of a desk, and what each step tells. These types are for the proofs alone.
+
+ghost use Rattle.desk.specs.Steps.{has_drawn, has_waited, has_ended, has_looked, has_entered};
+
+use crate::held::Held;
+use crate::printing::Press;
+use crate::view::View;
+use atomic_table::{Join, Play, Split, TableRule};
+use queue_core::QueueState;
+use std::snapshot::Snapshot;
+
+/// Turns are taken in the order of the tickets. The table is told the queue that the desk is made with.
+pub struct InTurn;
+
+impl<P: Press> TableRule<Option<Held<P>>, View, Snapshot<QueueState>> for InTurn {
+    ghost use Rattle.desk.specs.Views.{first_view};
+    ghost use Rattle.desk.specs.Rule.{IsInTurn};
+
+    ghost holds = { λ key. IsInTurn key.value };
+
+    ghost first = { λ key. first_view key.value };
+}
+
+/// A ticket is drawn.
+pub struct Draw;
+
+impl<P: Press> Play<Option<Held<P>>, View> for Draw {
+    ghost then = { has_drawn };
+}
+
+/// The turns that have ended are counted.
+pub struct Await;
+
+impl<P: Press> Play<Option<Held<P>>, View> for Await {
+    ghost then = { has_waited };
+}
+
+/// A turn ends.
+pub struct End;
+
+impl<P: Press> Play<Option<Held<P>>, View> for End {
+    ghost then = { has_ended };
+}
+
+/// The turns that have ended are counted, for a pass that holds no ticket.
+pub struct Look;
+
+impl<P: Press> Play<Option<Held<P>>, View> for Look {
+    ghost then = { has_looked };
+}
+
+/// A pass that was cut off gets its number.
+pub struct Enter;
+
+impl<P: Press> Play<Option<Held<P>>, View> for Enter {
+    ghost then = { has_entered };
+}
+
+/// A pass is cut off from another.
+pub struct CutOff;
+
+impl Split<View> for CutOff {
+    ghost use Rattle.desk.specs.Views.{cut_off};
+
+    ghost left = { λ v. v };
+
+    ghost right = { cut_off };
+}
+
+/// A pass hears what another has seen, which ends.
+pub struct Hear;
+
+impl Join<View> for Hear {
+    ghost use Rattle.desk.specs.Views.{hearing, ended_view};
+
+    ghost both = { hearing };
+
+    ghost spent = { ended_view };
+}

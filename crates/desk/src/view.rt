@@ -1,0 +1,44 @@
+//! What a pass knows of the history. These types are for the proofs alone: no value of them is made.
+
+use journal::Moment;
+use message::Fault;
+use queue_core::{Command, QueueState, Reply};
+use std::collections::LinkedList;
+
+/// A call that was made at a desk: by which pass, by its number, and what it was answered.
+pub struct Call {
+    pub by: u64,
+    pub at: Moment,
+    pub command: Command,
+    pub reply: Result<Reply, Fault>,
+}
+
+/// Where a pass is.
+pub enum Stage {
+    /// It was cut off from another and has no number yet.
+    Fresh,
+    /// It waits for nothing.
+    Idle,
+    /// It has drawn a ticket, and waits for its turn.
+    Drawn(u64),
+    /// It has the turn of its ticket, and the queue.
+    Turn(u64),
+    /// It was joined with another, which goes on for both.
+    Ended,
+}
+
+/// What a pass knows.
+pub struct View {
+    /// The queue that the desk was made with.
+    pub start: QueueState,
+    pub number: u64,
+    /// The number of the pass that it was cut off from.
+    pub parent: u64,
+    /// The history, as far as it was seen.
+    pub seen: LinkedList<Call>,
+    /// A history that another pass had seen.
+    pub heard: LinkedList<Call>,
+    /// The calls that were made with this pass.
+    pub mine: LinkedList<Call>,
+    pub stage: Stage,
+}
