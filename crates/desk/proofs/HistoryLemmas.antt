@@ -1,5 +1,5 @@
 -- Histories that grow by a call.
-use Rattle.std.proofs.Common.{◌≡◌, ℕ, ◌+◌, ◌==◌, eqb, ◌≢◌, cond, false, true, Bool, List, [], ◌∷◌, ◌++◌, filter, sym, refl, ap, ap₂, ◌∙◌, ◌⊎◌, inl, inr, ⊎_elim, append_assoc, append-nil, ne_eqb, eq-eqb}
+use Rattle.std.proofs.Common.{◌≡◌, ℕ, eqb, ◌≢◌, cond, false, true, Bool, List, [], ◌∷◌, ◌++◌, sym, refl, ap, ap₂, ◌∙◌, ◌⊎◌, inl, inr, ⊎_elim, append_assoc, append-nil, ne_eqb, eq-eqb}
 use Rattle.std.proofs.lemmas.List.Elements.{filter-append}
 use Rattle.queue_core.specs.Queue.{QueueHistory}
 use Rattle.desk.specs.declared.view.Call.{Call}

@@ -1,12 +1,12 @@
 -- The steps at a desk keep its rule.
-use Rattle.std.proofs.Common.{◌≡◌, ℕ, zero, suc, ◌+◌, ◌%◌, ◌^◌, ◌<◌, ◌≤◌, ◌==◌, eqb, ◌≢◌, ◌⊎◌, inl, inr, ⊎_elim, List, [], ◌∷◌, ◌++◌, length, set, slice_set, slice_index, Option, Some, None, sym, refl, ap, ◌∙◌, subst, arith, length-set, length-append, append-nil, suc-ne-zero, le_refl, le_trans, lt_of_lt_of_le, zero-le, MatchBool, unwrap_or, ap₂, eq-eqb, ne_eqb}
+use Rattle.std.proofs.Common.{◌≡◌, ℕ, zero, suc, ◌+◌, ◌%◌, ◌^◌, ◌<◌, ◌≤◌, eqb, ◌≢◌, ◌⊎◌, inl, inr, ⊎_elim, List, [], ◌∷◌, ◌++◌, length, set, slice_index, Option, Some, None, sym, refl, ap, ◌∙◌, subst, arith, length-set, length-append, append-nil, suc-ne-zero, le_refl, le_trans, lt_of_lt_of_le, zero-le, MatchBool, unwrap_or, ap₂, eq-eqb, ne_eqb}
 use mathlib.Core.Option.{some, none, some-injective, some-ne-none}
 use mathlib.Core.Option as maybe
 use mathlib.Core.Logic.{dite}
 use native.Mathlib.Decide.{ℕ_discrete}
 use lib.ListN.{get_elem?}
 use prog.Atomic.{either}
-use Rattle.atomic_table.specs.Table.{State, Me, Step, Act, step, keeps, takes, gives, Allows, Valid, Splits, Joins, stepped, carried_after, put_back, rest, opening}
+use Rattle.atomic_table.specs.Table.{State, Act, step, keeps, takes, gives, Allows, Valid, Splits, Joins, stepped, carried_after, put_back, rest, opening}
 use Rattle.atomic_table.proofs.Lists.{at_set, at_snoc, at_longer, set_again, set_here, set_else, exchanged}
 use Rattle.queue_core.specs.Queue.{QueueHistory}
 use Rattle.desk.specs.declared.view.Call.{Call}
@@ -14,11 +14,11 @@ use Rattle.desk.specs.declared.view.View.{View}
 use Rattle.desk.specs.declared.view.Stage.{Stage}
 use Rattle.desk.specs.declared.view.Stage.TheVariants.{Fresh, Idle, Drawn, Turn, Ended}
 use Rattle.desk.specs.declared.made.Made.{Made}
-use Rattle.desk.specs.History.{IsAnswered, after_call, state_of, IsLegalHistory, calls_by, GoesOnFrom}
+use Rattle.desk.specs.History.{IsAnswered, after_call, state_of, IsLegalHistory, calls_by}
 use Rattle.desk.specs.Held.{Lying}
-use Rattle.desk.specs.Views.{first_view, ended_view, cut_off, hearing}
-use Rattle.desk.specs.Rule.{ticket_of, Follows, IsOwn, FitsStage, Fits, EachFits, AreApart, HaveNoCalls, IsHome, IsOut, most_tickets, IsInTurn}
-use Rattle.desk.specs.Steps.{Holder, at_stage, has_drawn, HasSeen, HasTurn, drawn_ticket, has_waited, has_looked, HasEntered, has_entered, made_in, call_of, with_call, has_ended}
+use Rattle.desk.specs.Views.{most_tickets, first_view, ended_view, cut_off, hearing, absorbing}
+use Rattle.desk.specs.Rule.{ticket_of, tickets_of, held_tickets, Follows, IsOwn, FitsStage, Fits, AreApart, IsHome, IsOut, IsInTurn}
+use Rattle.desk.specs.Steps.{Holder, at_stage, counting, has_counted, has_drawn, HasSeen, HasTurn, drawn_ticket, has_waited, has_looked, has_entered, made_in, call_of, with_call, has_ended}
 use Rattle.desk.proofs.HistoryLemmas.{state_snoc, legal_snoc, own_call, other_call, goes_on, goes_whole}
 
 abbrev Desk : Type 0
@@ -60,7 +60,7 @@ follows_after : (start : QueueHistory) (log : List Call) (v : View) (c : Call) �
 follows_after start log v c f = record { opened = f.opened; seen = goes_on v.seen log c f.seen; heard = goes_on v.heard log c f.heard }
 
 own_after : (log : List Call) (n : ℕ) (v : View) (c : Call) → c.by ≢ n → IsOwn log n v → IsOwn (log ++ c ∷ []) n v
-own_after log n v c other o = (o.0, other_call n log v.mine c other o.1)
+own_after log n v c other o = (o.0, other_call n log v.mine c other o.1, o.2)
 
 -- one call more, of another pass
 stage_after : (start : QueueHistory) (log : List Call) (t n : ℕ) (v : View) (c : Call) (stage : Stage) → c.by ≢ n → ticket_of stage ≢ Some (length log) → FitsStage start log t n v stage
@@ -72,6 +72,26 @@ stage_after start log t n v c (Drawn k) other held f =
     (follows_after start log v c f.0, own_after log n v c other f.1, (let g : length (log ++ c ∷ []) ≤ k = omega (arith, length-append log (c ∷ [])) in g), f.3)
 stage_after start log t n v c (Turn k) other held f = absurd (held (ap Some f.2))
 stage_after start log t n v c Ended other held f = tt
+
+-- ---- how many tickets are held
+
+held_set : (views : List View) (id : ℕ) (v w : View) → get_elem? views id ≡ some v → held_tickets (set views id w) + tickets_of v.stage ≡ held_tickets views + tickets_of w.stage
+held_set [] id v w at = absurd (some-ne-none v (sym at))
+held_set (x ∷ xs) zero v w at = let is : tickets_of x.stage ≡ tickets_of v.stage = ap (λ (z : View). tickets_of z.stage) (some-injective x v at) in omega (arith, is)
+held_set (x ∷ xs) (suc id) v w at = let others = held_set xs id v w at in omega (arith, others)
+
+held_snoc : (views : List View) (w : View) → held_tickets (views ++ w ∷ []) ≡ held_tickets views + tickets_of w.stage
+held_snoc [] w = omega arith
+held_snoc (x ∷ xs) w = let others = held_snoc xs w in omega (arith, others)
+
+served : (start : QueueHistory) (s : Desk) (r : IsInTurn start s) → length r.log ≤ r.tickets
+served start s r = let all : length r.log + held_tickets s.views ≡ r.tickets = r.all in omega (arith, all)
+
+-- a pass holds as many tickets as before
+still_held : (start : QueueHistory) (s : Desk) (r : IsInTurn start s) (id : ℕ) (v w : View) → get_elem? s.views id ≡ some v → tickets_of v.stage ≡ tickets_of w.stage
+    → length r.log + held_tickets (set s.views id w) ≡ r.tickets
+still_held start s r id v w at same =
+    let views = held_set s.views id v w at in let all : length r.log + held_tickets s.views ≡ r.tickets = r.all in omega (arith, views, same, all)
 
 -- ---- one view changes, and the history stays
 
@@ -91,19 +111,21 @@ apart_set views id w apart alone j k t a b at bt h g =
 
 stands : (start : QueueHistory) (s : Desk) (r : IsInTurn start s) (id tickets : ℕ) (w : View) (words : List ℕ) (homes : Homes)
     → words ≡ length r.log ∷ tickets ∷ [] → r.tickets ≤ tickets → tickets ≤ most_tickets
-    → Fits start r.log tickets id w → HoldsAlone s.views id w.stage → IsHome (state_of start r.log) homes ⊎ IsOut homes (set s.views id w)
+    → Fits start r.log tickets id w → w.begun ≤ tickets → HoldsAlone s.views id w.stage → IsHome (state_of start r.log) homes ⊎ IsOut homes (set s.views id w)
+    → length r.log + held_tickets (set s.views id w) ≡ tickets
     → IsInTurn start (record { words = words; homes = homes; views = set s.views id w })
-stands start s r id tickets w words homes is more within fits alone home = record {
+stands start s r id tickets w words homes is more within fits begun alone home held = record {
   log = r.log;
   tickets = tickets;
   words = is;
-  served = le_trans r.served more;
+  all = held;
   within = within;
   legal = r.legal;
   home = home;
   fits = λ k u at.
       ⊎_elim (λ (x : (k ≡ id) × (w ≡ u)). subst (λ (z : View). Fits start r.log tickets k z) x.1 (subst (λ (z : ℕ). Fits start r.log tickets z w) (sym x.0) fits))
       (λ (x : (k ≢ id) × (get_elem? s.views k ≡ some u)). stage_more start r.log r.tickets tickets k u u.stage more (r.fits k u x.1)) (at_set s.views id k w u at);
+  counted = λ k u at. ⊎_elim (λ (x : (k ≡ id) × (w ≡ u)). subst (λ (z : View). z.begun ≤ tickets) x.1 begun) (λ (x : (k ≢ id) × (get_elem? s.views k ≡ some u)). le_trans (r.counted k u x.1) more) (at_set s.views id k w u at);
   apart = apart_set s.views id w r.apart alone;
   unborn = λ k le. r.unborn k (subst (λ (z : ℕ). z ≤ k) (length-set s.views id w) le);
 }
@@ -141,6 +163,19 @@ of_idle start log t n v stage is f = let g : FitsStage start log t n v Idle = su
 follows_at : (start : QueueHistory) (log : List Call) (v : View) (stage : Stage) → Follows start log v → Follows start log (at_stage v stage)
 follows_at start log v stage f = record { opened = f.opened; seen = f.seen; heard = f.heard }
 
+follows_counting : (start : QueueHistory) (log : List Call) (v : View) (tickets : ℕ) → Follows start log v → Follows start log (counting v tickets)
+follows_counting start log v tickets f = record { opened = f.opened; seen = f.seen; heard = f.heard }
+
+-- a pass that holds no ticket counts those that were drawn
+stays_counted : (start : QueueHistory) (s : Desk) (r : IsInTurn start s) (id : ℕ) (v : View) → get_elem? s.views id ≡ some v → v.stage ≡ Idle
+    → IsInTurn start (record { words = set s.words 1 (slice_index s.words 1); homes = s.homes; views = set s.views id (counting v (slice_index s.words 1)) })
+stays_counted start s r id v at idle =
+    let y : ℕ = slice_index s.words 1 in let found : y ≡ r.tickets = ap (λ (ws : List ℕ). slice_index ws 1) r.words in
+    let fit = of_idle start r.log r.tickets id v v.stage idle (r.fits id v at) in let w : View = counting v y in
+    stands start s r id r.tickets w (set s.words 1 y) s.homes (ap (λ (ws : List ℕ). set ws 1 y) r.words ∙ ap (λ (z : ℕ). length r.log ∷ z ∷ []) found) (le_refl r.tickets) r.within
+    (subst (FitsStage start r.log r.tickets id w) (sym idle) (follows_counting start r.log v y fit.0, fit.1)) (omega (arith, found)) (λ ticket is. absurd (idle_holds_none v.stage ticket idle is))
+    (home_stays (state_of start r.log) s.homes s.views id v w at (idle_is_not_turn v idle) r.home) (still_held start s r id v w at refl)
+
 pub draws : (start : QueueHistory) (slots id old : ℕ) (me : Holder) → me.0.stage ≡ Idle → old < most_tickets
     → Allows (IsInTurn start) slots id me 1 (λ n. either (eqb n old) (old + 1) n) (has_drawn (step slots 1 old (old + 1) none) me)
 draws start slots id old me idle room s r wide at _ =
@@ -153,20 +188,33 @@ draws start slots id old me idle room s r wide at _ =
       keeps,
       tt,
       stands start s r id (old + 1) w (set s.words 1 (old + 1)) s.homes (ap (λ (ws : List ℕ). set ws 1 (old + 1)) r.words) (omega (arith, found, hit)) (omega (arith, room))
-          (follows_at start r.log v (Drawn y) fit.0, fit.1, (let g : length r.log ≤ y = omega (arith, r.served, found) in g), (let g : y < old + 1 = omega (arith, hit) in g))
+          (follows_at start r.log v (Drawn y) fit.0, fit.1, (let g : length r.log ≤ y = omega (arith, served start s r, found) in g), (let g : y < old + 1 = omega (arith, hit) in g))
+          (let b : v.begun ≤ r.tickets = r.counted id v at in omega (arith, found, hit))
           (λ ticket is j u other there holds.
           let same : y ≡ ticket = ap ticket_or_zero is in let drawn : ticket < r.tickets = ticket_drawn start r.log r.tickets j ticket u u.stage holds (r.fits j u there) in absurd (omega (arith, found)))
-          (home_stays (state_of start r.log) s.homes s.views id v w at (idle_is_not_turn v idle) r.home),
-      subst (λ b. MatchBool b (◌≡◌ {A = Holder} (w, me.1) (at_stage v (Drawn y), me.1)) (◌≡◌ {A = Holder} (w, me.1) me)) (sym (eq-eqb y old hit)) refl,
+          (home_stays (state_of start r.log) s.homes s.views id v w at (idle_is_not_turn v idle) r.home)
+          (let views : held_tickets (set s.views id w) + tickets_of v.stage ≡ held_tickets s.views + 1 = held_set s.views id v w at in let empty : tickets_of v.stage ≡ 0 = ap tickets_of idle in
+          let all : length r.log + held_tickets s.views ≡ r.tickets = r.all in omega (arith, views, empty, all, found, hit)),
+      subst (λ b. MatchBool b (◌≡◌ {A = Holder} (w, me.1) (at_stage v (Drawn y), me.1)) ((y ≤ most_tickets) × ◌≡◌ {A = Holder} (w, me.1) (counting v y, me.1))) (sym (eq-eqb y old hit)) refl,
     ))
     (λ miss. (
-      v,
+      counting v y,
       keeps,
       tt,
-      stands start s r id r.tickets v (set s.words 1 y) s.homes (ap (λ (ws : List ℕ). set ws 1 y) r.words ∙ ap (λ (z : ℕ). length r.log ∷ z ∷ []) found) (le_refl r.tickets) r.within (r.fits id v at)
-          (λ ticket is. absurd (idle_holds_none v.stage ticket idle is)) (home_stays (state_of start r.log) s.homes s.views id v v at (idle_is_not_turn v idle) r.home),
-      subst (λ b. MatchBool b (◌≡◌ {A = Holder} (v, me.1) (at_stage v (Drawn y), me.1)) (◌≡◌ {A = Holder} (v, me.1) me)) (sym (ne_eqb y old miss)) refl,
+      stays_counted start s r id v at idle,
+      subst (λ b. MatchBool b (◌≡◌ {A = Holder} (counting v y, me.1) (at_stage v (Drawn y), me.1)) ((y ≤ most_tickets) × ◌≡◌ {A = Holder} (counting v y, me.1) (counting v y, me.1))) (sym (ne_eqb y old miss))
+          ((let w : r.tickets ≤ most_tickets = r.within in omega (arith, found)), refl),
     ))
+
+pub counts : (start : QueueHistory) (slots id : ℕ) (me : Holder) → me.0.stage ≡ Idle → Allows (IsInTurn start) slots id me 1 (λ n. n) (has_counted (step slots 1 0 0 none) me)
+counts start slots id me idle s r wide at _ =
+    let y : ℕ = slice_index s.words 1 in let found : y ≡ r.tickets = ap (λ (ws : List ℕ). slice_index ws 1) r.words in (
+      counting me.0 y,
+      keeps,
+      tt,
+      stays_counted start s r id me.0 at idle,
+      ((let w : r.tickets ≤ most_tickets = r.within in omega (arith, found)), refl),
+    )
 
 -- ---- a turn is waited for
 
@@ -190,12 +238,15 @@ has_seen : (start : QueueHistory) (log : List Call) (id : ℕ) (v : View) (stage
 has_seen start log id v stage fit own legal = record {
   start = refl;
   number = refl;
+  begun = refl;
   mine = refl;
   told = refl;
   seen = fit.seen;
   heard = fit.heard;
   legal = subst (λ q. IsLegalHistory q log) (sym fit.opened) legal;
   own = ap (λ (n : ℕ). calls_by n log) own.0 ∙ own.1;
+  foreign = λ e. own.2 (e ∙ own.0);
+  other = refl;
 }
 
 follows_whole : (start : QueueHistory) (log : List Call) (v : View) (stage : Stage) → Follows start log v → Follows start log (seeing v log stage)
@@ -218,8 +269,8 @@ waits start slots id t me drawn empty s r wide at _ =
       w,
       takes 0 (Some x),
       ap (λ (hs : Homes). get_elem? hs 0) h.1,
-      stands start s r id r.tickets w (set s.words 0 y) (set s.homes 0 none) words (le_refl r.tickets) r.within fits only
-          (inr (ap (λ (hs : Homes). set hs 0 none) h.1, (id, y, w, set_here s.views id w (within s.views id v at), refl))),
+      stands start s r id r.tickets w (set s.words 0 y) (set s.homes 0 none) words (le_refl r.tickets) r.within fits (r.counted id v at) only
+          (inr (ap (λ (hs : Homes). set hs 0 none) h.1, (id, y, w, set_here s.views id w (within s.views id v at), refl))) (still_held start s r id v w at (ap tickets_of drawn)),
       (
         has_seen start r.log id v (Turn y) fit calls r.legal,
         subst (λ b. MatchBool b (HasTurn (w, (0, Some x) ∷ me.1) y) ((w.stage ≡ v.stage) × ((0, Some x) ∷ me.1 ≡ []))) (sym (eq-eqb y (drawn_ticket me) (hit ∙ sym mine)))
@@ -238,8 +289,8 @@ waits start slots id t me drawn empty s r wide at _ =
       keeps,
       tt,
       stands start s r id r.tickets w (set s.words 0 y) s.homes words (le_refl r.tickets) r.within
-          (subst (FitsStage start r.log r.tickets id w) (sym drawn) (follows_whole start r.log v v.stage fit, calls, own.2, own.3))
-          (alone s.views id t v v.stage r.apart at holds holds) (home_stays queue s.homes s.views id v w at (λ u. not_turn v.stage t u drawn) r.home),
+          (subst (FitsStage start r.log r.tickets id w) (sym drawn) (follows_whole start r.log v v.stage fit, calls, own.2, own.3)) (r.counted id v at)
+          (alone s.views id t v v.stage r.apart at holds holds) (home_stays queue s.homes s.views id v w at (λ u. not_turn v.stage t u drawn) r.home) (still_held start s r id v w at refl),
       (
         has_seen start r.log id v v.stage fit calls r.legal,
         subst (λ b. MatchBool b (HasTurn (w, me.1) y) ((w.stage ≡ v.stage) × (me.1 ≡ []))) (sym (ne_eqb y (drawn_ticket me) (λ e. miss (e ∙ mine)))) (refl, empty),
@@ -270,7 +321,8 @@ ends start slots id t me x made one turn carried last after answered s r wide at
         log = log;
         tickets = r.tickets;
         words = ap (λ (ws : List ℕ). set ws 0 ((y + 1) % 2 ^ 64)) r.words ∙ ap (λ (z : ℕ). z ∷ r.tickets ∷ []) next;
-        served = omega (arith, longer, drawn);
+        all = (let views : held_tickets (set s.views id w) + tickets_of v.stage ≡ held_tickets s.views + 0 = held_set s.views id v w at in let one : tickets_of v.stage ≡ 1 = ap tickets_of turn in
+            let all : length r.log + held_tickets s.views ≡ r.tickets = r.all in omega (arith, views, one, all, longer));
         within = r.within;
         legal = legal_snoc start r.log c r.legal (subst (λ q. IsAnswered q made.at made.command.value made.reply.value) queue answered);
         home = inl (x, ap (λ (carry : List (ℕ × Option Lying)). put_back s.homes carry) carried ∙ one_slot s.homes (some (Some x)) (wide ∙ one), after ∙ ap (λ (q : QueueHistory). after_call q c) queue ∙ sym (state_snoc start r.log c));
@@ -282,10 +334,11 @@ ends start slots id t me x made one turn carried last after answered s r wide at
                 seen = ([], ap (λ (l : List Call). l ++ c ∷ []) (sym whole) ∙ sym (append-nil (v.seen ++ c ∷ [])));
                 heard = goes_on v.heard r.log c fit.heard;
               },
-              (number, own_call id r.log v.mine c number calls),
+              (number, own_call id r.log v.mine c number calls, own.1.2),
             )))
             (λ (z : (k ≢ id) × (get_elem? s.views k ≡ some u)). stage_after start r.log r.tickets k u c u.stage (λ e. z.0 (sym e ∙ number))
             (λ e. z.0 (sym (r.apart id k t v u at z.1 holds (e ∙ ap Some (sym own.2))))) (r.fits k u z.1)) (at_set s.views id k w u there);
+        counted = λ k u there. ⊎_elim (λ (z : (k ≡ id) × (w ≡ u)). subst (λ (x : View). x.begun ≤ r.tickets) z.1 (r.counted id v at)) (λ (z : (k ≢ id) × (get_elem? s.views k ≡ some u)). r.counted k u z.1) (at_set s.views id k w u there);
         apart = apart_set s.views id w r.apart (λ ticket is. absurd cc);
         unborn = λ k le. other_call k r.log [] c (λ e. let le' : length s.views ≤ k = subst (λ (z : ℕ). z ≤ k) (length-set s.views id w) le in absurd (omega (arith, e, number, here)))
             (r.unborn k (subst (λ (z : ℕ). z ≤ k) (length-set s.views id w) le));
@@ -304,12 +357,13 @@ opens start x is = record {
   log = [];
   tickets = 0;
   words = refl;
-  served = zero-le;
+  all = refl;
   within = zero-le;
   legal = tt;
   home = inl (x, refl, is);
   fits = λ n v at. let f = only_first start n v at in subst (λ (z : View). Fits start [] 0 n z) f.1
-      (record { opened = refl; seen = ([], refl); heard = ([], refl) }, (sym f.0, refl));
+      (record { opened = refl; seen = ([], refl); heard = ([], refl) }, (sym f.0, refl, (λ e. suc-ne-zero 0 (e ∙ f.0))));
+  counted = λ n v at. subst (λ (z : View). z.begun ≤ 0) (only_first start n v at).1 zero-le;
   apart = λ j k t v w a b. (λ _ _. (only_first start j v a).0 ∙ sym (only_first start k w b).0);
   unborn = λ k le. refl;
 }
@@ -326,12 +380,12 @@ looks start slots id me idle s r wide at _ =
       keeps,
       tt,
       stands start s r id r.tickets w (set s.words 0 y) s.homes words (le_refl r.tickets) r.within
-          (subst (FitsStage start r.log r.tickets id w) (sym idle) (follows_whole start r.log v v.stage own.0, own.1)) (λ ticket is. absurd (idle_holds_none v.stage ticket idle is))
-          (home_stays (state_of start r.log) s.homes s.views id v w at (idle_is_not_turn v idle) r.home),
+          (subst (FitsStage start r.log r.tickets id w) (sym idle) (follows_whole start r.log v v.stage own.0, own.1)) (r.counted id v at) (λ ticket is. absurd (idle_holds_none v.stage ticket idle is))
+          (home_stays (state_of start r.log) s.homes s.views id v w at (idle_is_not_turn v idle) r.home) (still_held start s r id v w at refl),
       (has_seen start r.log id v v.stage own.0 own.1 r.legal, found, refl, refl),
     )
 
-of_fresh : (start : QueueHistory) (log : List Call) (t n : ℕ) (v : View) (stage : Stage) → stage ≡ Fresh → FitsStage start log t n v stage → Follows start log v × (calls_by n log ≡ []) × (v.mine ≡ []) × (v.parent < n)
+of_fresh : (start : QueueHistory) (log : List Call) (t n : ℕ) (v : View) (stage : Stage) → stage ≡ Fresh → FitsStage start log t n v stage → Follows start log v × (calls_by n log ≡ []) × (v.mine ≡ []) × (v.other < n)
 of_fresh start log t n v stage is f = let g : FitsStage start log t n v Fresh = subst (FitsStage start log t n v) is f in g
 
 fresh_is_not_turn : (v : View) → v.stage ≡ Fresh → (t : ℕ) → v.stage ≢ Turn t
@@ -348,8 +402,8 @@ enters start slots id me fresh s r wide at _ =
       keeps,
       tt,
       stands start s r id r.tickets w (set s.words 0 y) s.homes words (le_refl r.tickets) r.within
-          (record { opened = fit.opened; seen = goes_whole r.log; heard = fit.heard }, (refl, own.1 ∙ sym own.2)) (λ ticket is. absurd cc)
-          (home_stays (state_of start r.log) s.homes s.views id v w at (fresh_is_not_turn v fresh) r.home),
+          (record { opened = fit.opened; seen = goes_whole r.log; heard = fit.heard }, (refl, own.1 ∙ sym own.2, (λ e. let below : v.other < id = own.3 in absurd (omega (arith, e))))) (r.counted id v at) (λ ticket is. absurd cc)
+          (home_stays (state_of start r.log) s.homes s.views id v w at (fresh_is_not_turn v fresh) r.home) (still_held start s r id v w at (ap tickets_of fresh)),
       (
         record {
           start = refl;
@@ -357,7 +411,7 @@ enters start slots id me fresh s r wide at _ =
           seen = fit.seen;
           legal = subst (λ q. IsLegalHistory q r.log) (sym fit.opened) r.legal;
           own = own.1;
-          other = λ e. let below : v.parent < id = own.3 in absurd (omega (arith, e));
+          other = λ e. let below : v.other < id = own.3 in absurd (omega (arith, e));
           stage = refl;
         },
         refl,
@@ -393,7 +447,7 @@ splits start id v idle s r at =
       log = r.log;
       tickets = r.tickets;
       words = r.words;
-      served = r.served;
+      all = (let views : held_tickets (s.views ++ w ∷ []) ≡ held_tickets s.views + 0 = held_snoc s.views w in let all : length r.log + held_tickets s.views ≡ r.tickets = r.all in omega (arith, views, all));
       within = r.within;
       legal = r.legal;
       home = out_more (state_of start r.log) s.homes s.views w r.home;
@@ -401,6 +455,7 @@ splits start id v idle s r at =
           (λ (e : (k ≡ length s.views) × (w ≡ u)). subst (λ (z : View). Fits start r.log r.tickets k z) e.1
           (let last : k ≡ length s.views = e.0 in
           (record { opened = fit.opened; seen = fit.seen; heard = (r.log, refl) }, r.unborn k (omega (arith, last)), refl, (let g : v.number < k = omega (arith, last, number, here) in g)))) (at_end s.views w u k there);
+      counted = λ k u there. ⊎_elim (λ (e : get_elem? s.views k ≡ some u). r.counted k u e) (λ (e : (k ≡ length s.views) × (w ≡ u)). subst (λ (x : View). x.begun ≤ r.tickets) e.1 (r.counted id v at)) (at_end s.views w u k there);
       apart = apart_more s.views w r.apart (λ t is. absurd cc);
       unborn = λ k le. r.unborn k (let longer : length (s.views ++ w ∷ []) ≡ length s.views + 1 = length-append s.views (w ∷ []) in let le' : length (s.views ++ w ∷ []) ≤ k = le in omega arith);
     })
@@ -408,22 +463,35 @@ splits start id v idle s r at =
 -- ---- two passes become one
 
 -- a seat is given up
-gives_up : (start : QueueHistory) (s : Desk) (r : IsInTurn start s) (id : ℕ) (v : View) → get_elem? s.views id ≡ some v → ((t : ℕ) → v.stage ≢ Turn t)
+gives_up : (start : QueueHistory) (s : Desk) (r : IsInTurn start s) (id : ℕ) (v : View) → get_elem? s.views id ≡ some v → ((t : ℕ) → v.stage ≢ Turn t) → tickets_of v.stage ≡ 0
     → IsInTurn start (record { words = s.words; homes = s.homes; views = set s.views id ended_view })
-gives_up start s r id v at idle =
-    stands start s r id r.tickets ended_view s.words s.homes r.words (le_refl r.tickets) r.within tt (λ ticket is. absurd cc)
-    (home_stays (state_of start r.log) s.homes s.views id v ended_view at idle r.home)
+gives_up start s r id v at idle empty =
+    stands start s r id r.tickets ended_view s.words s.homes r.words (le_refl r.tickets) r.within tt zero-le (λ ticket is. absurd cc)
+    (home_stays (state_of start r.log) s.homes s.views id v ended_view at idle r.home) (still_held start s r id v ended_view at empty)
 
--- what another pass has seen is heard
-pub joins : (start : QueueHistory) (id other : ℕ) (v w : View) → v.stage ≡ Idle → (w.stage ≡ Idle) ⊎ (w.stage ≡ Fresh) → Joins (IsInTurn start) id v other w (hearing v w) ended_view
-joins start id other v w idle rests s r at apart there =
+-- what another pass has seen is heard, and a number kept that is not the pass's own
+abbrev joined : View → View → ℕ → View
+joined v w n = record v { heard = w.seen; other = n }
+
+joins_with : (start : QueueHistory) (id other n : ℕ) (v w : View) → v.stage ≡ Idle → (w.stage ≡ Idle) ⊎ (w.stage ≡ Fresh)
+    → ((log : List Call) → id ≢ other → IsOwn log id v → ((w.stage ≡ Idle) → IsOwn log other w) → n ≢ id) → Joins (IsInTurn start) id v other w (joined v w n) ended_view
+joins_with start id other n v w idle rests foreign s r at apart there =
     let own = of_idle start r.log r.tickets id v v.stage idle (r.fits id v at) in let fit : Follows start r.log v = own.0 in
-    let both : View = hearing v w in
+    let both : View = joined v w n in
     let from : get_elem? s.views other ≡ some w = ⊎_elim (λ (e : (other ≡ id) × (both ≡ w)). absurd (apart e.0)) (λ (e : (other ≢ id) × (get_elem? s.views other ≡ some w)). e.1) (at_set s.views id other both w there) in
     let theirs : Follows start r.log w = ⊎_elim (λ (e : w.stage ≡ Idle). (of_idle start r.log r.tickets other w w.stage e (r.fits other w from)).0)
     (λ (e : w.stage ≡ Fresh). (of_fresh start r.log r.tickets other w w.stage e (r.fits other w from)).0) rests in
+    let number : n ≢ id = foreign r.log (λ e. apart (sym e)) own.1 (λ e. (of_idle start r.log r.tickets other w w.stage e (r.fits other w from)).1) in
     let first = stands start s r id r.tickets both s.words s.homes r.words (le_refl r.tickets) r.within
-    (subst (FitsStage start r.log r.tickets id both) (sym idle) (record { opened = fit.opened; seen = fit.seen; heard = theirs.seen }, own.1))
-    (λ ticket is. absurd (idle_holds_none v.stage ticket idle is)) (home_stays (state_of start r.log) s.homes s.views id v both at (idle_is_not_turn v idle) r.home) in
+    (subst (FitsStage start r.log r.tickets id both) (sym idle) (record { opened = fit.opened; seen = fit.seen; heard = theirs.seen }, (own.1.0, own.1.1, number))) (r.counted id v at)
+    (λ ticket is. absurd (idle_holds_none v.stage ticket idle is)) (home_stays (state_of start r.log) s.homes s.views id v both at (idle_is_not_turn v idle) r.home) (still_held start s r id v both at refl) in
     gives_up start (record { words = s.words; homes = s.homes; views = set s.views id both }) first other w there
-    (⊎_elim (λ (e : w.stage ≡ Idle). idle_is_not_turn w e) (λ (e : w.stage ≡ Fresh). fresh_is_not_turn w e) rests)
+    (⊎_elim (λ (e : w.stage ≡ Idle). idle_is_not_turn w e) (λ (e : w.stage ≡ Fresh). fresh_is_not_turn w e) rests) (⊎_elim (λ (e : w.stage ≡ Idle). ap tickets_of e) (λ (e : w.stage ≡ Fresh). ap tickets_of e) rests)
+
+-- a note is met
+pub hears : (start : QueueHistory) (id other : ℕ) (v w : View) → v.stage ≡ Idle → w.stage ≡ Fresh → Joins (IsInTurn start) id v other w (hearing v w) ended_view
+hears start id other v w idle fresh = joins_with start id other v.other v w idle (inr fresh) (λ log apart own theirs. own.2)
+
+-- another pass ends
+pub absorbs : (start : QueueHistory) (id other : ℕ) (v w : View) → v.stage ≡ Idle → w.stage ≡ Idle → Joins (IsInTurn start) id v other w (absorbing v w) ended_view
+absorbs start id other v w idle rests = joins_with start id other w.number v w idle (inl rests) (λ log apart own theirs. (λ e. apart (sym e ∙ (theirs rests).0)))

@@ -2,3 +2,4 @@ pub mod HistoryLemmas
 pub mod Keeping
 pub mod PassLemmas
 pub mod PrintLemmas
+pub mod Sending

@@ -1,5 +1,5 @@
 -- What a pass knows after a call, and what a last turn gives.
-use Rattle.std.proofs.Common.{◌≡◌, ℕ, List, [], ◌∷◌, ◌++◌, Some, Result, refl, sym, ap, ◌∙◌, subst}
+use Rattle.std.proofs.Common.{◌≡◌, ℕ, Result, refl, sym, ap, ◌∙◌, subst}
 use Rattle.message.specs.declared.fault.Fault.{Fault}
 use Rattle.atomic_table.specs.Seated.{TableId}
 use Rattle.queue_core.specs.declared.command.Command.{Command}
@@ -12,11 +12,11 @@ use Rattle.desk.specs.declared.made.Made.{Made}
 use Rattle.desk.specs.History.{IsAnswered, state_of, IsLegalHistory, calls_by}
 use Rattle.desk.specs.Held.{Lying, IsBehind}
 use Rattle.desk.specs.Views.{IsKnown, knowledge_of, IsLastState}
-use Rattle.desk.specs.Steps.{at_stage, HasSeen, call_of, with_call}
+use Rattle.desk.specs.Steps.{at_stage, counting, HasSeen, call_of, with_call}
 use Rattle.desk.proofs.HistoryLemmas.{state_snoc, legal_snoc, own_call}
 
 -- the queue that a pass takes in its last turn
-pub last_state : (desk : TableId) (v u w : View) (ticket : ℕ) (queue : QueueHistory) → u ≡ at_stage v (Drawn ticket) → HasSeen u w → queue ≡ state_of w.start w.seen → IsLastState (knowledge_of desk v) queue
+pub last_state : (desk : TableId) (v u w : View) (ticket : ℕ) (queue : QueueHistory) → u ≡ at_stage (counting v ticket) (Drawn ticket) → HasSeen u w → queue ≡ state_of w.start w.seen → IsLastState (knowledge_of desk v) queue
 last_state desk v u w ticket queue drawn seen left =
     let s = subst (λ (z : View). HasSeen z w) drawn seen in
     record { history = w.seen; legal = s.legal; goes_on = s.seen; own = s.own; state = left ∙ ap (λ (q : QueueHistory). state_of q w.seen) s.start }

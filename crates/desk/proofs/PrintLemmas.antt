@@ -1,5 +1,5 @@
 -- Turns that are told, one after another.
-use Rattle.std.proofs.Common.{◌≡◌, ℕ, zero, suc, ◌+◌, ◌-◌, ◌≤◌, max, Bool, true, false, List, [], ◌∷◌, ◌++◌, map, length, take, drop, Option, Some, None, Result, refl, sym, ap, ◌∙◌, subst, arith, append_assoc, append-nil, zero-le, if◌then◌else◌}
+use Rattle.std.proofs.Common.{◌≡◌, ℕ, ◌+◌, ◌≤◌, max, Bool, true, false, List, [], ◌∷◌, ◌++◌, length, take, drop, Option, Some, None, Result, refl, sym, ap, ◌∙◌, subst, arith, append_assoc, append-nil, zero-le, if◌then◌else◌}
 use Rattle.std.proofs.lemmas.List.{map-append, length-map, length-append, take-append-drop, take-append-le, take_all}
 use Rattle.message.specs.declared.fault.Fault.{Fault}
 use Rattle.message.specs.Content.{ContentText, content_size}
@@ -10,7 +10,6 @@ use Rattle.journal.specs.declared.entry.Event.{Event}
 use Rattle.journal.specs.Mark.{mark_of}
 use Rattle.metric_window.specs.Flows.{minute_of}
 use Rattle.metric_window.proofs.MinuteLemmas.{minute_flows-marks}
-use Rattle.alarm.specs.declared.state.AlarmState.{AlarmState}
 use Rattle.queue_core.specs.declared.command.Command.{Command}
 use Rattle.queue_core.specs.Metrics.{alarm_state_in}
 use Rattle.queue_core.specs.Queue.{QueueHistory, at_moment, leaves_clock, reached, outcome_at, with_optional_event, after_answer}

@@ -1,13 +1,14 @@
 -- What each step at a desk tells the pass that makes it.
-use Rattle.std.specs.Prelude.{◌≡◌, ℕ, ◌==◌, ◌<◌, ◌≢◌, List, [], ◌∷◌, ◌++◌, length, Option, Some, None, MatchBool, option_and_then, unwrap_or}
+use Rattle.std.specs.Prelude.{◌≡◌, ℕ, ◌==◌, ◌≤◌, ◌≢◌, List, [], ◌∷◌, ◌++◌, length, Option, Some, None, MatchBool, option_and_then, unwrap_or}
 use Rattle.atomic_table.specs.Table.{Step, Me}
 use Rattle.desk.specs.declared.view.Call.{Call}
 use Rattle.desk.specs.declared.view.View.{View}
 use Rattle.desk.specs.declared.view.Stage.{Stage}
-use Rattle.desk.specs.declared.view.Stage.TheVariants.{Idle, Drawn, Turn, Ended}
+use Rattle.desk.specs.declared.view.Stage.TheVariants.{Idle, Drawn, Turn}
 use Rattle.desk.specs.declared.made.Made.{Made}
 use Rattle.desk.specs.History.{IsAnswered, after_call, state_of, IsLegalHistory, calls_by, GoesOnFrom, call}
 use Rattle.desk.specs.Held.{Lying}
+use Rattle.desk.specs.Views.{most_tickets}
 use Rattle.desk.specs.Rule.{ticket_of}
 
 abbrev pub Holder : Type 0
@@ -16,26 +17,39 @@ Holder = Me (Option Lying) View
 abbrev pub at_stage : View → Stage → View
 at_stage v stage = record v { stage = stage }
 
--- where the word was the one expected, a ticket was drawn, and else nothing
+-- a view that knows how many tickets were drawn
+abbrev pub counting : View → ℕ → View
+counting v tickets = record v { begun = tickets }
+
+-- the tickets that were drawn were counted: they are not more than there may be
+abbrev pub has_counted : Step (Option Lying) → Holder → ℕ → Holder → Type 0
+has_counted s before found after = (found ≤ most_tickets) × (after ≡ (counting before.0 found, before.1))
+
+-- where the word was the one expected, a ticket was drawn, and else they were counted
 abbrev pub has_drawn : Step (Option Lying) → Holder → ℕ → Holder → Type 0
 has_drawn s before found after =
-    MatchBool (found == s.first) (after ≡ (at_stage before.0 (Drawn found), before.1)) (after ≡ before)
+    MatchBool (found == s.first) (after ≡ (at_stage before.0 (Drawn found), before.1)) ((found ≤ most_tickets) × (after ≡ (counting before.0 found, before.1)))
 
 -- the history so far was seen: it is legal, it goes on from what was seen before, and its calls of the pass's number are its own
 pub record HasSeen (before after : View) : Type 0 where
   pub start : after.start ≡ before.start
   pub number : after.number ≡ before.number
+  pub begun : after.begun ≡ before.begun
   pub mine : after.mine ≡ before.mine
   pub told : after.heard ≡ before.heard
   pub seen : GoesOnFrom before.seen after.seen
   pub heard : GoesOnFrom before.heard after.seen
   pub legal : IsLegalHistory before.start after.seen
   pub own : calls_by before.number after.seen ≡ before.mine
+  pub foreign : before.other ≢ before.number
+  pub other : after.other ≡ before.other
 
 -- while a pass waits for its turn it sees more and more of the history, and nothing else changes
 pub record StillWaits (before after : Holder) (ticket : ℕ) : Type 0 where
   pub start : after.0.start ≡ before.0.start
   pub number : after.0.number ≡ before.0.number
+  pub other : after.0.other ≡ before.0.other
+  pub begun : after.0.begun ≡ before.0.begun
   pub mine : after.0.mine ≡ before.0.mine
   pub told : after.0.heard ≡ before.0.heard
   pub seen : GoesOnFrom before.0.seen after.0.seen
@@ -92,7 +106,7 @@ pub record HasEntered (before after : View) : Type 0 where
   pub seen : GoesOnFrom before.seen after.seen
   pub legal : IsLegalHistory before.start after.seen
   pub own : calls_by after.number after.seen ≡ []
-  pub other : after.number ≢ before.parent
+  pub other : after.number ≢ before.other
   pub stage : after.stage ≡ Idle
 
 abbrev pub has_entered : Step (Option Lying) → Holder → ℕ → Holder → Type 0

@@ -1,5 +1,5 @@
 -- What a pass knows, as contracts see it, and what one call adds to it.
-use Rattle.std.specs.Prelude.{◌≡◌, ◌≢◌, ℕ, List, [], ◌∷◌, ◌++◌, Result}
+use Rattle.std.specs.Prelude.{◌≡◌, ◌≢◌, ℕ, List, [], ◌∷◌, ◌++◌, ◌^◌, Result}
 use Rattle.message.specs.declared.fault.Fault.{Fault}
 use Rattle.atomic_table.specs.Seated.{TableId}
 use Rattle.queue_config.specs.Limits.{default_limits}
@@ -11,11 +11,16 @@ use Rattle.desk.specs.declared.view.View.{View}
 use Rattle.desk.specs.declared.view.Stage.TheVariants.{Fresh, Idle, Ended}
 use Rattle.desk.specs.History.{IsLegalHistory, calls_by, call, GoesOnFrom, state_of}
 
--- the desk that a pass is of, the queue that the desk was made with, the pass's number, the history that the pass has seen, and its own calls in it
+-- how many calls may be begun at one desk (this project's own)
+abbrev pub most_tickets : ℕ
+most_tickets = 2 ^ 62
+
+-- the desk that a pass is of, the queue that the desk was made with, the pass's number, how many tickets it knows to be drawn there, the history that the pass has seen, and its own calls in it
 pub record Knowledge : Type 0 where
   pub desk : TableId
   pub start : QueueHistory
   pub number : ℕ
+  pub begun : ℕ
   pub seen : List Call
   pub mine : List Call
 
@@ -26,10 +31,10 @@ pub record IsKnown (k : Knowledge) : Type 0 where
 
 -- the pass of a new desk
 abbrev pub first_knowledge : TableId → QueueHistory → Knowledge
-first_knowledge desk start = record { desk = desk; start = start; number = 0; seen = []; mine = [] }
+first_knowledge desk start = record { desk = desk; start = start; number = 0; begun = 0; seen = []; mine = [] }
 
 abbrev pub knowledge_of : TableId → View → Knowledge
-knowledge_of desk v = record { desk = desk; start = v.start; number = v.number; seen = v.seen; mine = v.mine }
+knowledge_of desk v = record { desk = desk; start = v.start; number = v.number; begun = v.begun; seen = v.seen; mine = v.mine }
 
 -- A call was made: behind all that the pass had seen, and behind what others had done meanwhile, the history ends with it, under the pass's number, and it is the last of the pass's own calls
 pub record HasCalled (before : Knowledge) (at : ℕ) (command : Command) (reply : Result Reply Fault) (after : Knowledge) : Type 0 where
@@ -46,19 +51,23 @@ no_queue = record { uid = 0; name = []; limits = default_limits; rules = []; clo
 
 -- the view of the desk's first pass
 abbrev pub first_view : QueueHistory → View
-first_view start = record { start = start; number = 0; parent = 0; seen = []; heard = []; mine = []; stage = Idle }
+first_view start = record { start = start; number = 0; other = 1; begun = 0; seen = []; heard = []; mine = []; stage = Idle }
 
 -- the view of a pass that was joined with another
 abbrev pub ended_view : View
-ended_view = record { start = no_queue; number = 0; parent = 0; seen = []; heard = []; mine = []; stage = Ended }
+ended_view = record { start = no_queue; number = 0; other = 0; begun = 0; seen = []; heard = []; mine = []; stage = Ended }
 
 -- a pass that is cut off from another has seen as much, and has made no calls
 abbrev pub cut_off : View → View
-cut_off v = record v { parent = v.number; heard = []; mine = []; stage = Fresh }
+cut_off v = record v { other = v.number; heard = []; mine = []; stage = Fresh }
 
--- a pass is told what another has seen
+-- a pass is told what a note says
 abbrev pub hearing : View → View → View
-hearing v other = record v { heard = other.seen }
+hearing v note = record v { heard = note.seen }
+
+-- a pass is told what another has seen, and that its number is another
+abbrev pub absorbing : View → View → View
+absorbing v ended = record v { heard = ended.seen; other = ended.number }
 
 -- the desk that a note is of, the queue that the desk was made with, and the history that was seen
 pub record Remark : Type 0 where
@@ -92,3 +101,7 @@ pub record IsLastState (pass : Knowledge) (queue : QueueHistory) : Type 0 where
   pub goes_on : GoesOnFrom pass.seen history
   pub own : calls_by pass.number history ≡ pass.mine
   pub state : queue ≡ state_of pass.start history
+
+-- all tickets are drawn: nothing else is known that was not known before
+abbrev pub IsSpent : Knowledge → Knowledge → Type 0
+IsSpent before after = after ≡ record before { begun = most_tickets }

@@ -1,6 +1,6 @@
 //! A desk: one queue, which threads take turns at.
 
-ghost use Rattle.std.specs.Prelude.{ℕ, ◌≡◌, ◌⊎◌, [], ◌∷◌, length, Err, None, Some, IfOk, IfErr, IfSome, IfNone};
+ghost use Rattle.std.specs.Prelude.{ℕ, ◌≡◌, ◌≢◌, ◌⊎◌, [], ◌∷◌, length, Err, None, Some, IfOk, IfErr, IfSome, IfNone};
 ghost use Rattle.message.specs.declared.fault.Fault.TheVariants.{OutOfMemory, Spent};
 
 use crate::asked::Asked;
@@ -8,7 +8,7 @@ use crate::gate::Gate;
 use crate::held::Held;
 use crate::pass::{Note, Pass};
 use crate::printing::Press;
-use crate::rule::{Await, CutOff, Draw, End, Enter, Hear, InTurn, Look};
+use crate::rule::{Absorb, Await, Count, CutOff, Draw, End, Enter, Hear, InTurn, Look};
 use crate::view::View;
 use atomic_table::{Seat, Table};
 use journal::{Moment, Ticks};
@@ -47,10 +47,10 @@ impl<P: Press> Model for Desk<P> {
 
 impl<P: Press> Desk<P> {
     ghost use Rattle.desk.specs.declared.view.Stage.TheVariants.{Idle, Drawn, Turn};
-    ghost use Rattle.desk.specs.Views.{first_knowledge, HasCalled, IsKnown, SeesMore, IsNewPass, IsLastState};
+    ghost use Rattle.desk.specs.Views.{most_tickets, first_knowledge, HasCalled, IsKnown, IsSpent, SeesMore, IsNewPass, IsLastState};
     ghost use Rattle.desk.specs.History.{state_of, calls_by, GoesOnFrom};
     ghost use Rattle.desk.specs.Printed.{IsToldOf};
-    ghost use Rattle.desk.specs.Steps.{at_stage, HasSeen, HasTurn, HasPerformed, with_call};
+    ghost use Rattle.desk.specs.Steps.{at_stage, counting, HasSeen, HasTurn, HasPerformed, with_call};
 
     /// A desk with a queue on it, and its first pass, which has seen and called nothing. `OutOfMemory`
     /// is the only refusal; the queue and the press are then dropped.
@@ -79,10 +79,10 @@ impl<P: Press> Desk<P> {
         requires desk { seat.old.table_id ≡ self.now }
         requires idle { seat.old.me.0.stage ≡ Idle }
         ensures desk { seat.new.table_id ≡ seat.old.table_id }
-        ensures some { IfSome result (λ ticket. seat.new.me ≡ (at_stage seat.old.me.0 (Drawn ticket), seat.old.me.1)) }
-        ensures none { IfNone result (seat.new.me ≡ seat.old.me) }
+        ensures some { IfSome result (λ ticket. seat.new.me ≡ (at_stage (counting seat.old.me.0 ticket) (Drawn ticket), seat.old.me.1)) }
+        ensures none { IfNone result (seat.new.me ≡ (counting seat.old.me.0 most_tickets, seat.old.me.1)) }
     {
-        let mut next = self.table.shared.peek(TICKETS);
+        let mut next = self.table.shared.load::<Count>(seat, TICKETS);
         for _ in rt.forever() {
             if next >= MOST_TICKETS {
                 return None;
@@ -161,7 +161,7 @@ impl<P: Press> Desk<P> {
         gate: &impl Gate,
     ) -> Asked<P::Told>
         requires { pass.old.desk ≡ self.now }
-        ensures call { HasCalled pass.old at command.now result.reply pass.new ⊎ ((result.reply ≡ Err Spent) × (result.told ≡ None) × (pass.new ≡ pass.old)) }
+        ensures call { HasCalled pass.old at command.now result.reply pass.new ⊎ ((result.reply ≡ Err Spent) × (result.told ≡ None) × IsSpent pass.old pass.new) }
         ensures desk { pass.new.desk ≡ pass.old.desk }
         ensures known { IsKnown pass.new }
         ensures told { IfSome result.told (λ told. IsToldOf P.tells (state_of pass.new.start pass.new.seen) told) }
@@ -242,17 +242,18 @@ impl<P: Press> Desk<P> {
     }
 
     /// Ends another pass: what it has seen, the first pass sees too. Its calls stay in the history, under
-    /// its number.
+    /// its number, which is not the first pass's.
     pub fn end_pass(&self, pass: &mut Pass<P>, ended: Pass<P>)
         requires { (pass.old.desk ≡ self.now) × (ended.desk ≡ self.now) }
         ensures seen { SeesMore pass.old pass.new }
         ensures theirs { GoesOnFrom ended.seen pass.new.seen }
         ensures one { GoesOnFrom ended.seen pass.old.seen ⊎ GoesOnFrom pass.old.seen ended.seen }
+        ensures apart { ended.number ≢ pass.old.number }
         ensures calls { GoesOnFrom ended.mine (calls_by ended.number pass.new.seen) }
         ensures known { IsKnown pass.new }
     {
         let Pass { seat } = ended;
-        self.table.shared.join_seat::<Hear>(&mut pass.seat, seat);
+        self.table.shared.join_seat::<Absorb>(&mut pass.seat, seat);
         self.look(&mut pass.seat);
     }
 

@@ -53,6 +53,6 @@ impl Press for NoPress {
     fn print<R: Wait>(&mut self, _rt: &R, _alloc: Global, _turn: &Turn) -> Option<()>
         ensures { IsSome result }
     {
-        Some(())
+        self.blank()
     }
 }

@@ -1,6 +1,6 @@
 //! The rule of a desk, and what each step tells. These types are for the proofs alone.
 
-ghost use Rattle.desk.specs.Steps.{has_drawn, has_waited, has_ended, has_looked, has_entered};
+ghost use Rattle.desk.specs.Steps.{has_counted, has_drawn, has_waited, has_ended, has_looked, has_entered};
 
 use crate::held::Held;
 use crate::printing::Press;
@@ -19,6 +19,13 @@ impl<P: Press> TableRule<Option<Held<P>>, View, Snapshot<QueueState>> for InTurn
     ghost holds = { λ key. IsInTurn key.value };
 
     ghost first = { λ key. first_view key.value };
+}
+
+/// The tickets that were drawn are counted.
+pub struct Count;
+
+impl<P: Press> Play<Option<Held<P>>, View> for Count {
+    ghost then = { has_counted };
 }
 
 /// A ticket is drawn.
@@ -67,13 +74,24 @@ impl Split<View> for CutOff {
     ghost right = { cut_off };
 }
 
-/// A pass hears what another has seen, which ends.
+/// A pass hears what a note says, which is used up.
 pub struct Hear;
 
 impl Join<View> for Hear {
     ghost use Rattle.desk.specs.Views.{hearing, ended_view};
 
     ghost both = { hearing };
+
+    ghost spent = { ended_view };
+}
+
+/// A pass hears what another has seen, which ends.
+pub struct Absorb;
+
+impl Join<View> for Absorb {
+    ghost use Rattle.desk.specs.Views.{absorbing, ended_view};
+
+    ghost both = { absorbing };
 
     ghost spent = { ended_view };
 }

@@ -3,14 +3,19 @@
 
 ghost use Rattle.std.specs.Prelude.{◌≡◌, IfOk};
 
+mod callers;
+mod gates;
 mod memory;
+mod presses;
+mod threads;
 mod turns;
 
 use super::*;
 use journal::{Moment, Ticks};
 use message::{Content, Fault, QueueName};
 use queue_config::{Limits, Settings};
-use queue_core::{Command, Look, Maximum, Offer, QueueState, Reply};
+use queue_core::{Command, Look, Maximum, Offer, Offers, QueueState, Reply, Timeout};
+use receipt_handle::Handle;
 use std::alloc::Global;
 use std::process::Abort;
 use std::sync::Wait;

@@ -32,8 +32,11 @@ pub struct View {
     /// The queue that the desk was made with.
     pub start: QueueState,
     pub number: u64,
-    /// The number of the pass that it was cut off from.
-    pub parent: u64,
+    /// Another number than its own: that of the pass that it was cut off from, or of the last that it
+    /// ended. For the first pass it is 1, until it ends another.
+    pub other: u64,
+    /// How many tickets it knows to be drawn at the desk.
+    pub begun: u64,
     /// The history, as far as it was seen.
     pub seen: LinkedList<Call>,
     /// A history that another pass had seen.

@@ -8,7 +8,9 @@ use super::*;
 fn one_history(rt: HostRuntime) -> Result<(), Fail> {
     let alloc = rt.alloc();
     let (desk, mut p) = Desk::new(&rt, alloc, open(alloc)?, NoPress)?;
+    assert_eq!(rt; desk.glance(&mut p), 0);
     run(&rt, alloc, &desk, &mut p, "1000 send a => sent 0")?;
+    assert_eq!(rt; desk.glance(&mut p), 1);
     let mut q = desk.pass(&mut p);
     run(&rt, alloc, &desk, &mut q, "900 send b => sent 1")?;
     assert_eq!(rt; desk.glance(&mut q), 2);
@@ -20,7 +22,8 @@ fn one_history(rt: HostRuntime) -> Result<(), Fail> {
     assert_eq!(rt; desk.glance(&mut p), 3);
     let mut state = desk.close(&rt, p)?;
     let ticks = &mut Ticks::new(&rt);
-    assert_eq!(rt; state.look(Moment::zero(), ticks).lines, 3);
+    let look = state.look(Moment::zero(), ticks);
+    assert_eq!(rt; (look.lines, look.clock), (3, moment(1000)?));
     let answer = state.perform(alloc, moment(1000)?, &receive(10)?, ticks);
     let told = told(alloc, &answer)?;
     assert_eq!(rt; told.as_str(), "offered 0.1 a of 1000 1.1 b of 1000");
@@ -65,5 +68,37 @@ fn clocks_and_closing(rt: HostRuntime) -> Result<(), Fail> {
         (look.lines, look.clock, look.closed),
         (5, moment(8000)?, true)
     );
+    Ok(())
+}
+
+/// Two passes that were cut off from one pass are two, and their calls are two calls. The one sees both
+/// after it has met the other.
+#[test]
+fn siblings(rt: HostRuntime) -> Result<(), Fail> {
+    let alloc = rt.alloc();
+    let (desk, mut p) = Desk::new(&rt, alloc, open(alloc)?, NoPress)?;
+    let mut q = desk.pass(&mut p);
+    let mut r = desk.pass(&mut p);
+    run(&rt, alloc, &desk, &mut q, "1000 send a => sent 0")?;
+    run(&rt, alloc, &desk, &mut r, "1000 send a => sent 1")?;
+    let note = desk.note(&mut q);
+    desk.meet(&mut r, note);
+    let look = "1000 look => 2 visible, 3 entries at 1000";
+    run(&rt, alloc, &desk, &mut r, look)?;
+    desk.end_pass(&mut r, q);
+    assert_eq!(rt; desk.glance(&mut r), 3);
+    Ok(())
+}
+
+/// A pass that has met nobody closes the desk, and gets what others have done.
+#[test]
+fn closed_by_a_stranger(rt: HostRuntime) -> Result<(), Fail> {
+    let alloc = rt.alloc();
+    let (desk, mut p) = Desk::new(&rt, alloc, open(alloc)?, NoPress)?;
+    let mut q = desk.pass(&mut p);
+    run(&rt, alloc, &desk, &mut q, "1000 send a => sent 0")?;
+    let mut state = desk.close(&rt, p)?;
+    let look = state.look(Moment::zero(), &mut Ticks::new(&rt));
+    assert_eq!(rt; (look.lines, look.clock), (2, moment(1000)?));
     Ok(())
 }

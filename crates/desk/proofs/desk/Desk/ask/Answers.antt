@@ -1,6 +1,5 @@
-use Rattle.std.proofs.Common.{rules, ap, ◌∙◌, ◌≡◌, refl, [], subst, IfSome}
+use Rattle.std.proofs.Common.{ap, ◌∙◌, ◌≡◌, refl, [], subst, IfSome}
 use Rattle.queue_core.specs.Queue.{QueueHistory}
-use Rattle.desk.specs.Held.{IsBehind}
 use Rattle.desk.specs.Printed.{IsToldOf}
 use Rattle.desk.specs.Steps.{with_call}
 use Rattle.desk.proofs.PassLemmas.{known_behind, left_behind}

@@ -1,8 +1,4 @@
-use Rattle.std.proofs.Common.{rules, ap, sym, ◌∙◌, ◌≡◌, List, [], ◌∷◌, ◌++◌, Some, Option}
-use Rattle.atomic_table.specs.Table.{opening}
-use Rattle.desk.specs.Held.{Lying}
-use Rattle.desk.specs.Rule.{IsInTurn}
-use Rattle.desk.specs.Views.{first_view}
+use Rattle.std.proofs.Common.{rules, ap, sym, ◌∙◌, ◌≡◌, [], ◌∷◌, Some}
 use Rattle.desk.proofs.Keeping.{opens}
 use Rattle.desk.proofs.desk.Desk.new.Goals as goal
 

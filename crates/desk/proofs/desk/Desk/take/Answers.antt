@@ -1,4 +1,4 @@
-use Rattle.std.proofs.Common.{rules, sym, ◌∙◌, Some}
+use Rattle.std.proofs.Common.{rules, Some}
 use Rattle.desk.proofs.desk.Desk.take.Goals as goal
 
 pub exchange-requires : goal.exchange-requires

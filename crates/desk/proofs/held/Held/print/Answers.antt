@@ -1,6 +1,5 @@
-use Rattle.std.proofs.Common.{◌≡◌, ℕ, List, [], ◌∷◌, ◌++◌, length, subst, sym, ap, ◌∙◌}
+use Rattle.std.proofs.Common.{◌≡◌, ℕ, [], ◌∷◌, ◌++◌, length, subst, sym, ap, ◌∙◌}
 use Rattle.queue_core.specs.Queue.{QueueHistory}
-use Rattle.queue_core.specs.Legal.{IsLegal}
 use Rattle.desk.specs.Printed.{TurnReport, report_of, IsNextIn, IsPublicationRecord, IsPrinted}
 use Rattle.desk.proofs.PrintLemmas.{next_in, printed_more}
 use Rattle.desk.proofs.held.Held.print.Goals as goal

@@ -1,10 +1,10 @@
-use Rattle.std.proofs.Common.{◌≡◌, ap, sym, ◌∙◌, subst, length, map, drop}
+use Rattle.std.proofs.Common.{◌≡◌, ap, ◌∙◌, subst, length, map, drop}
 use Rattle.message.specs.Content.{content_size}
 use Rattle.queue_core.specs.States.{gauges_of}
 use Rattle.queue_core.specs.Metrics.{current_flows, window_rows, alarm_state_in}
 use Rattle.queue_core.specs.Queue.{QueueHistory, at_moment}
 use Rattle.queue_core.specs.Legal.{IsLegal}
-use Rattle.desk.specs.Printed.{marks_of, report_of}
+use Rattle.desk.specs.Printed.{marks_of}
 use Rattle.desk.proofs.PrintLemmas.{unmoved}
 use Rattle.desk.proofs.turn.Turn.of.Goals as goal
 

@@ -1,0 +1,61 @@
+-- A desk may be shared by threads or go to another, and so may a pass. Each type by the types of its fields, so that no search goes through all of them.
+use denote.Param.Send.{IsSend, IsSync, sendable}
+use denote.Struct.Field.{unit-field}
+use Rattle.std.proofs.Crossing.{crosses}
+use Rattle.std.proofs.MapsCrossing as maps
+use Rattle.atomic_table.proofs.shared.Seat.TheSendSync as seat
+use Rattle.atomic_table.proofs.shared.Shared.TheSendSync as shared
+use Rattle.atomic_table.proofs.send_lease.SendLease.TheSendSync as lease
+use Rattle.message.specs.contracts.content.Content as content
+use Rattle.queue_config.specs.contracts.settings.Settings as settings
+use Rattle.journal.specs.contracts.numbers.Numbers as numbers
+use Rattle.journal.specs.contracts.entry.Event as event
+use Rattle.journal.specs.contracts.entry.Entry as entry
+use Rattle.journal.specs.contracts.journal.Journal as journal
+use Rattle.journal.specs.contracts.ticks.Ticks as ticks
+use Rattle.queue_core.specs.contracts.state.QueueState as queue
+use Rattle.desk.specs.contracts.made.Made as made
+use Rattle.desk.specs.contracts.held.Held as held
+use Rattle.desk.specs.contracts.desk.Desk as desk
+use Rattle.desk.specs.contracts.pass.Pass as pass
+use Rattle.desk.specs.contracts.printing.NoPress as nopress
+use Rattle.desk.specs.contracts.printing.NoPressPress.TheImpl as impl
+
+pub content_send : IsSend content.the_row
+content_send = search (sendable, crosses, maps.crosses) depth 40 fits 100000
+
+numbers_send : IsSend numbers.the_row
+numbers_send = search (sendable, crosses) depth 40 fits 100000
+
+pub settings_send : IsSend settings.the_row
+settings_send = search (sendable, crosses) depth 40 fits 100000
+
+event_send : IsSend (event.the_row content.the_row)
+event_send = search (content_send, numbers_send, settings_send, sendable, crosses) depth 40 fits 100000
+
+entry_send : IsSend (entry.the_row content.the_row)
+entry_send = search (content_send, numbers_send, settings_send, sendable, crosses) depth 40 fits 100000
+
+journal_send : IsSend journal.the_row
+journal_send = search (entry_send, sendable, crosses) depth 40 fits 100000
+
+ticks_send : IsSend ticks.the_row
+ticks_send = search (sendable, crosses) depth 40 fits 100000
+
+made_send : IsSend made.the_row
+made_send = search (sendable, crosses) depth 40 fits 100000
+
+queue_send : IsSend queue.the_row
+queue_send = search (journal_send, sendable, crosses) depth 40 fits 100000
+
+held_send : IsSend (held.the_row nopress.the_row (unit-field).row impl.ghosts)
+held_send = search (queue_send, ticks_send, made_send, sendable, crosses) depth 40 fits 100000
+
+pub pass_send : IsSend (pass.the_row nopress.the_row (unit-field).row impl.ghosts)
+pass_send = search (held_send, seat.the_send, sendable, crosses) depth 40 fits 100000
+
+pub desk_sync : IsSync (desk.the_row nopress.the_row (unit-field).row impl.ghosts)
+desk_sync = search (held_send, shared.the_sync, lease.the_sync, sendable, crosses) depth 40 fits 100000
+
+pub desk_send : IsSend (desk.the_row nopress.the_row (unit-field).row impl.ghosts)
+desk_send = search (held_send, shared.the_send, lease.the_send, sendable, crosses) depth 40 fits 100000
