@@ -1,0 +1,5 @@
+pub mod AnswerLemmas
+pub mod Sending
+pub mod ServingLemmas
+pub mod MovingLemmas
+pub mod ActorSending

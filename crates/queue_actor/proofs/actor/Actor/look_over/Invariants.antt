@@ -1,0 +1,7 @@
+use Rattle.std.proofs.Common.{◌-◌}
+use Rattle.queue_actor.proofs.ServingLemmas.{Looking}
+use Rattle.queue_actor.proofs.actor.Actor.look_over.Given as goal
+
+abbrev pub invariant-loop : goal.invariant-loop
+invariant-loop g l =
+    Looking g.C.Replies.gave l.limit l.at l.fn.self.pass l.fn.parked.items l.fn.replies l.quiet l.self.pass l.parked.items l.replies (l.end - l.counter)

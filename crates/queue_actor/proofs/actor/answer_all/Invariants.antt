@@ -1,0 +1,9 @@
+use Rattle.std.specs.VecDeque.{deque_len}
+use Rattle.queue_actor.proofs.ServingLemmas.{Answering}
+use Rattle.queue_actor.proofs.actor.answer_all.Given as goal
+
+abbrev pub decreases-loop-poll : goal.decreases-loop-poll
+decreases-loop-poll g l = deque_len l.parked
+
+abbrev pub invariant-loop-poll : goal.invariant-loop-poll
+invariant-loop-poll g l = Answering g.C.Replies.gave l.at l.fn.parked.items l.fn.replies l.parked.items l.replies

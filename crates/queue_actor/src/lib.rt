@@ -1,0 +1,42 @@
+//! An actor for each queue, and the futures of those who ask it.
+//!
+//! - [`Mail`], [`Ask`]: what an actor finds in its mailbox: a command with a pass of a desk, a tick of the
+//!   clock, or its end.
+//! - [`AskFuture`]: sends an ask, and is the future of its answer. [`AskFault`] is why there is none.
+//! - [`Answer`]: the pass, behind the call that was made with it, beside the command and the reply.
+//! - [`Outbox`]: a mailbox, as those who send see it.
+//! - [`Actor`]: serves the mails of one queue, keeps polls that wait, and moves the queue's dead letters.
+//! - [`Inbox`], [`Replies`]: where its mail comes from, and where its answers go.
+//! - [`Directory`]: which queues there are, and where each is served; [`Served`] is one of them.
+//! - [`deadline_loop`]: tells all actors the time.
+//!
+//! `Answered` in `specs/` has the words for answers. An answer's pass is of its desk, and its last call has
+//! the answer's command and reply, by the type: so it holds after the answer has crossed threads too. A
+//! future that waits has registered with a slot, or asked to be polled again. `Serving` relates the mails
+//! that an actor was brought to the answers that it gave: none is swapped, lost, doubled, early or of another
+//! moment, as far as the inbox tells what it brought and the replies what they gave. Channels tell their
+//! types alone.
+#![tactic(auto)]
+
+mod actor;
+mod answer;
+mod deadline;
+mod directory;
+mod fault;
+mod future;
+mod inbox;
+mod mail;
+mod outbox;
+mod parcels;
+#[cfg(test)]
+mod tests;
+
+pub use actor::Actor;
+pub use answer::Answer;
+pub use deadline::{Beat, TICK_MILLISECONDS, deadline_loop};
+pub use directory::{Directory, Served};
+pub use fault::AskFault;
+pub use future::AskFuture;
+pub use inbox::{Channels, Inbox, Replies};
+pub use mail::{Ask, Mail};
+pub use outbox::Outbox;

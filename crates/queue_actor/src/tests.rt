@@ -1,0 +1,96 @@
+//! Asks and their answers, at desks of fresh queues. What is wanted was worked out by hand from what each
+//! command does, and never taken from the program.
+
+ghost use Rattle.std.specs.Prelude.{◌≡◌, IfOk};
+ghost use Rattle.std.specs.Arc.{arc_value};
+
+mod asks;
+mod fakes;
+mod listing;
+mod memory;
+mod parcels;
+mod polls;
+mod threads;
+
+use super::*;
+use crossbeam_channel::{Receiver, Sender, unbounded};
+use desk::{Desk, NoGate, NoPress, Pass};
+use futures::channel::oneshot;
+use journal::Moment;
+use message::{Content, Fault, QueueName};
+use queue_config::{Limits, Settings};
+use queue_core::{Command, QueueState, Reply};
+use std::alloc::Global;
+use std::sync::{Arc, Wait};
+use std::test::Fail;
+use std::time::{Clock, Duration};
+
+/// A mail to an actor in these tests.
+type Letter = Mail<NoPress, oneshot::Sender<Answer<NoPress>>>;
+
+/// A queue that was opened at 0 under the uid 1, with the default settings.
+fn open(alloc: Global) -> Result<QueueState, Fault> {
+    QueueState::open(
+        alloc,
+        1,
+        QueueName::read("jobs")?,
+        Settings::default(),
+        Limits::default(),
+        Vec::new(alloc),
+        Moment::zero(),
+    )
+}
+
+/// A desk of a fresh queue, to be shared, and its first pass.
+fn desk(rt: &HostRuntime, alloc: Global) -> Result<(Arc<Desk<NoPress>>, Pass<NoPress>), Fault>
+    ensures { IfOk result (λ r. r.1.desk ≡ arc_value r.0) }
+{
+    let (desk, pass) = Desk::new(rt, alloc, open(alloc)?, NoPress)?;
+    Ok((Arc::new(alloc, desk)?, pass))
+}
+
+/// The time of so many milliseconds.
+fn moment(milliseconds: u64) -> Result<Moment, Fault> {
+    Moment::new(milliseconds).ok_or(Fault::InvalidParameterValue)
+}
+
+/// A send of a body without attributes.
+fn send(alloc: Global, body: &str) -> Result<Command, Fault> {
+    let content = Content::new(alloc, String::from_str(alloc, body)?, Vec::new(alloc))?;
+    Ok(Command::Send {
+        content,
+        delay: None,
+    })
+}
+
+/// Asks a mail's desk what it says, at its moment, and gives the answer to its slot.
+fn serve<R: Wait>(rt: &R, alloc: Global, letter: Letter) {
+    let Mail::Ask(ask) = letter else {
+        return;
+    };
+    let Ask {
+        desk,
+        mut pass,
+        moment,
+        command,
+        reply,
+        ..
+    } = ask;
+    let asked = desk.ask(rt, alloc, &mut pass, moment, &command, &NoGate);
+    let _gone = reply.send(Answer::new(desk, pass, command, asked.reply));
+}
+
+/// An answer as a text: the number of a message that was sent, what a look sees, or the refusal.
+fn told(alloc: Global, reply: &Result<Reply, Fault>) -> Result<String, Fault> {
+    match reply {
+        Ok(Reply::Sent(posted)) => Ok(format!(in alloc; "sent {}", posted.number)?),
+        Ok(Reply::Looked(look)) => Ok(format!(in alloc;
+            "{} visible, {} entries at {}",
+            look.gauges.visible,
+            look.lines,
+            look.clock.milliseconds()
+        )?),
+        Ok(other) => Ok(format!(in alloc; "{other:?}")?),
+        Err(fault) => Ok(format!(in alloc; "{fault:?}")?),
+    }
+}
