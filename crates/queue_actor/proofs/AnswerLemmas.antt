@@ -1,10 +1,10 @@
 -- What an answer may say of a call that was just made.
-use Rattle.std.proofs.Common.{◌≡◌, ◌⊎◌, ℕ, Result, Err, inl, inr}
+use Rattle.std.proofs.Common.{◌≡◌, ◌⊎◌, ℕ, Result, Err, ap, inl, inr}
 use Rattle.message.specs.declared.fault.Fault.{Fault}
 use Rattle.message.specs.declared.fault.Fault.TheVariants.{Spent}
 use Rattle.queue_core.specs.declared.command.Command.{Command}
 use Rattle.queue_core.specs.declared.reply.Reply.{Reply}
-use Rattle.desk.specs.Views.{Knowledge, HasCalled}
+use Rattle.desk.specs.Views.{Knowledge, HasCalled, IsSpent}
 use Rattle.queue_actor.specs.Answered.{IsLastCall}
 
 -- a call that was made with a pass is its last one
@@ -12,6 +12,6 @@ pub last_call : (before after : Knowledge) (at : ℕ) (command : Command) (reply
 last_call before after at command reply called = inr (before.mine, at, rw called.same_number called.own)
 
 -- so is a call that a desk answered
-pub last_answer : {A : Type 0} (before after : Knowledge) (at : ℕ) (command : Command) (reply : Result Reply Fault) → HasCalled before at command reply after ⊎ ((reply ≡ Err Spent) × A) → IsLastCall after command reply
+pub last_answer : {A : Type 0} (before after : Knowledge) (at : ℕ) (command : Command) (reply : Result Reply Fault) → HasCalled before at command reply after ⊎ ((reply ≡ Err Spent) × A × IsSpent before after) → IsLastCall after command reply
 last_answer before after at command reply (inl called) = last_call before after at command reply called
-last_answer before after at command reply (inr spent) = inl spent.0
+last_answer before after at command reply (inr spent) = inl (spent.0, ap (λ k. k.begun) spent.2)

@@ -3,3 +3,4 @@ pub mod Sending
 pub mod ServingLemmas
 pub mod MovingLemmas
 pub mod ActorSending
+pub mod ScriptLemmas

@@ -1,38 +1,24 @@
 -- Calls by which an actor moves its queue's dead letters, one behind another.
-use Rattle.std.proofs.Common.{◌≡◌, ◌⊎◌, ℕ, true, false, List, [], ◌∷◌, ◌++◌, Some, Result, Ok, Err, is_ok, refl, sym, ◌∙◌, ap, subst, inl, inr, append_assoc, append-nil, rules}
+use Rattle.std.proofs.Common.{◌≡◌, ◌⊎◌, ℕ, Bool, true, false, MatchBool, List, [], ◌∷◌, ◌++◌, Option, Some, None, Result, Ok, Err, is_ok, refl, sym, ◌∙◌, ap, subst, inl, inr, append_assoc, append-nil, rules}
 use Rattle.message.specs.declared.fault.Fault.{Fault}
 use Rattle.message.specs.declared.fault.Fault.TheVariants.{Spent}
 use Rattle.queue_core.specs.declared.command.Command.{Command}
 use Rattle.queue_core.specs.declared.command.Command.TheVariants as commands
 use Rattle.queue_core.specs.declared.parcel.Parcel.{Parcel}
 use Rattle.queue_core.specs.declared.reply.Reply.{Reply}
-use Rattle.queue_core.specs.declared.reply.Reply.TheVariants as replies
 use Rattle.desk.specs.declared.view.Call.{Call}
 use Rattle.desk.specs.History.{call}
-use Rattle.desk.specs.Views.{Knowledge, HasCalled, IsSpent}
-use Rattle.queue_actor.specs.Calling.{HasAsked, IsMove, AreMoves, HasMade, HasMoved, HasMovedOne}
+use Rattle.desk.specs.Views.{Knowledge, HasCalled, IsSpent, IsKnown}
+use Rattle.queue_actor.specs.Answered.{Answered}
+use Rattle.queue_actor.specs.declared.parcels.Delivery.{Delivery}
+use Rattle.queue_actor.specs.declared.parcels.Delivery.TheVariants as deliveries
+use Rattle.queue_actor.specs.Calling.{HasAsked, HasEnded, HasMade, IsMove, IsLastQuestion, AreMoves, HasMoved, HasMovedOne, HasArrived, parcel_in}
 
--- dead letters that were moved, each with both calls
-abbrev pub AreWholeMoves : ℕ → List Call → Type 0
-AreWholeMoves at [] = Unit {0}
-AreWholeMoves at (c ∷ []) = ⊥
-AreWholeMoves at (c ∷ (d ∷ rest)) = IsMove at c d × AreWholeMoves at rest
+some_none : {A : Type 0} {x : A} → ◌≡◌ {A = Option A} None (Some x) → ⊥
+some_none same = search (rules, same)
 
-moves_behind : (at : ℕ) (xs ys : List Call) → AreWholeMoves at xs → AreMoves at ys → AreMoves at (xs ++ ys)
-moves_behind at [] ys whole then = then
-moves_behind at (c ∷ []) ys whole then = absurd whole
-moves_behind at (c ∷ (d ∷ rest)) ys whole then = (whole.0, moves_behind at rest ys whole.1 then)
-
-whole_behind : (at : ℕ) (xs ys : List Call) → AreWholeMoves at xs → AreWholeMoves at ys → AreWholeMoves at (xs ++ ys)
-whole_behind at [] ys whole then = then
-whole_behind at (c ∷ []) ys whole then = absurd whole
-whole_behind at (c ∷ (d ∷ rest)) ys whole then = (whole.0, whole_behind at rest ys whole.1 then)
-
-ok_err : {A B : Type 0} {x : A} {e : B} → Ok x ≡ Err e → ⊥
-ok_err same = search (rules, same)
-
-false_true : false ≡ true → ⊥
-false_true same = search (rules, same)
+true_false : true ≡ false → ⊥
+true_false same = search (rules, same)
 
 -- no call
 pub made_nothing : (Are : List Call → Type 0) (k : Knowledge) → Are [] → HasMade Are k k
@@ -73,9 +59,12 @@ made_both First Second Both a b c first second is = record {
   made = is;
 }
 
--- where the desk is spent nothing more is known
-spent_moved : (Are : List Call → Type 0) (a b : Knowledge) (reply : Result Reply Fault) (c : Knowledge) → (reply ≡ Err Spent) × IsSpent b c → HasMade Are a b → HasMade Are a c
-spent_moved Are a b reply c spent h = subst (λ k. HasMade Are a k) (sym spent.1) (record {
+-- where the desk is spent nothing more is known, but that it is
+ended : (b c : Knowledge) → IsSpent b c → HasEnded c
+ended b c spent = ap (λ k. k.begun) spent
+
+spent_made : (Are : List Call → Type 0) (a b c : Knowledge) → IsSpent b c → HasMade Are a b → HasMade Are a c
+spent_made Are a b c spent h = subst (λ k. HasMade Are a k) (sym spent) (record {
   same_desk = h.same_desk;
   same_start = h.same_start;
   same_number = h.same_number;
@@ -85,68 +74,118 @@ spent_moved Are a b reply c spent h = subst (λ k. HasMade Are a k) (sym spent.1
   made = h.made;
 })
 
--- a question for the first parcel, that is told none or whose parcel is not moved
-pub moved_none : (at : ℕ) (before : Knowledge) (reply : Result Reply Fault) (after : Knowledge) → HasAsked before at commands.FirstParcel reply after → HasMoved at before after
-moved_none at before reply after (inl h) = made_one (λ calls. AreMoves at calls) before at commands.FirstParcel reply after h (refl, refl)
-moved_none at before reply after (inr h) = spent_moved (λ calls. AreMoves at calls) before before reply after h (made_nothing (λ calls. AreMoves at calls) before tt)
+no_parcel_spent : (reply : Result Reply Fault) (parcel : Parcel) → reply ≡ Err Spent → parcel_in reply ≡ Some parcel → ⊥
+no_parcel_spent reply parcel spent there = some_none (sym (ap parcel_in spent) ∙ there)
 
--- a parcel was told and moved
-pub moved_one : (at : ℕ) (a b c : Knowledge) (parcel : Parcel) (command : Command) (reply : Result Reply Fault)
-    → HasAsked a at commands.FirstParcel (Ok (replies.Parcel (Some parcel))) b → HasCalled b at command reply c
-    → (command ≡ commands.Settle parcel.origin.number) ⊎ (command ≡ commands.Orphan parcel.target) → HasMovedOne at a c
-unfolding made_one
-moved_one at a b c parcel command reply (inl h) k is =
-    let first = made_one (λ calls. calls ≡ call a.number at commands.FirstParcel (Ok (replies.Parcel (Some parcel))) ∷ []) a at commands.FirstParcel (Ok (replies.Parcel (Some parcel))) b h refl in
-    let second = made_one (λ calls. calls ≡ call b.number at command reply ∷ []) b at command reply c k refl in
-    made_both _ _ (λ calls. (asks moves : Call) × (calls ≡ asks ∷ moves ∷ []) × IsMove at asks moves) a b c first second (
-      call a.number at commands.FirstParcel (Ok (replies.Parcel (Some parcel))),
-      call b.number at command reply,
-      refl,
-      record { times = (refl, refl); asked = refl; parcel = parcel; told = refl; moved = is },
-    )
-moved_one at a b c parcel command reply (inr h) k is = absurd (ok_err h.0)
+ok_err : {A B : Type 0} {x : A} {e : B} → Ok x ≡ Err e → ⊥
+ok_err same = search (rules, same)
 
--- one that was moved is moved
-pub one_is_moved : (at : ℕ) (a b : Knowledge) → HasMovedOne at a b → HasMade (λ calls. AreWholeMoves at calls) a b
-one_is_moved at a b h = record {
-  same_desk = h.same_desk;
-  same_start = h.same_start;
-  same_number = h.same_number;
-  goes_on = h.goes_on;
-  calls = h.calls;
-  own = h.own;
-  made = subst (λ calls. AreWholeMoves at calls) (sym h.made.2) (h.made.3, tt);
+-- what was accepted was called
+pub accepted_call : (b : Knowledge) (at : ℕ) (command : Command) (reply : Reply) (c : Knowledge) → HasAsked b at command (Ok reply) c → HasCalled b at command (Ok reply) c
+accepted_call b at command reply c (inl h) = h
+accepted_call b at command reply c (inr h) = absurd (ok_err h.0)
+
+-- an answer that is good shows that a parcel arrived
+pub has_arrived : (at : ℕ) (parcel : Parcel) (answer : Answered) (before : Knowledge) → before.start.uid ≡ parcel.target
+    → HasAsked before at (commands.Arrive parcel) answer.reply answer.pass → IsKnown answer.pass → (reply : Result Reply Fault) → answer.reply ≡ reply → is_ok reply ≡ true → HasArrived at parcel answer
+has_arrived at parcel answer before uid asked known (Ok reply) is good = record {
+  before = before;
+  reply = reply;
+  uid = uid;
+  accepted = is;
+  called = accepted_call before at (commands.Arrive parcel) reply answer.pass (subst (λ r. HasAsked before at (commands.Arrive parcel) r answer.pass) is asked);
+  known = known;
 }
+has_arrived at parcel answer before uid asked known (Err fault) is good = absurd (true_false (sym good))
 
-pub whole_is_moved : (at : ℕ) (a b : Knowledge) → HasMade (λ calls. AreWholeMoves at calls) a b → HasMoved at a b
-whole_is_moved at a b h = record {
-  same_desk = h.same_desk;
-  same_start = h.same_start;
-  same_number = h.same_number;
-  goes_on = h.goes_on;
-  calls = h.calls;
-  own = h.own;
-  made = subst (λ calls. AreMoves at calls) (append-nil h.calls) (moves_behind at h.calls [] h.made tt);
-}
+module _ {T : Type 0} (told : ℕ → Parcel → Delivery T → Type 0) where
+  -- dead letters that were moved, each with both calls
+  abbrev pub AreWholeMoves : ℕ → List Call → Type 0
+  AreWholeMoves at [] = Unit {0}
+  AreWholeMoves at (c ∷ []) = ⊥
+  AreWholeMoves at (c ∷ (d ∷ rest)) = IsMove told at c d × (is_ok d.reply ≡ true) × AreWholeMoves at rest
 
--- one more behind those that were moved
-pub whole_and_one : (at : ℕ) (a b c : Knowledge) → HasMade (λ calls. AreWholeMoves at calls) a b → HasMovedOne at b c → HasMade (λ calls. AreWholeMoves at calls) a c
-whole_and_one at a b c h one =
-    let k = one_is_moved at b c one in
-    made_both _ _ (λ calls. AreWholeMoves at calls) a b c h k (whole_behind at h.calls k.calls h.made k.made)
+  moves_behind : (at : ℕ) (over : Type 0) (xs ys : List Call) → AreWholeMoves at xs → AreMoves told at over ys → AreMoves told at over (xs ++ ys)
+  moves_behind at over [] ys whole then = then
+  moves_behind at over (c ∷ []) ys whole then = absurd whole
+  moves_behind at over (c ∷ (d ∷ rest)) ys whole then =
+      (whole.0, subst (λ good. MatchBool good (AreMoves told at over (rest ++ ys)) (rest ++ ys ≡ [])) (sym whole.1) (moves_behind at over rest ys whole.2 then))
 
--- the last calls behind those that moved
-pub whole_and_last : (at : ℕ) (a b c : Knowledge) → HasMade (λ calls. AreWholeMoves at calls) a b → HasMoved at b c → HasMoved at a c
-whole_and_last at a b c h last = made_both _ _ (λ calls. AreMoves at calls) a b c h last (moves_behind at h.calls last.calls h.made last.made)
+  whole_behind : (at : ℕ) (xs ys : List Call) → AreWholeMoves at xs → AreWholeMoves at ys → AreWholeMoves at (xs ++ ys)
+  whole_behind at [] ys whole then = then
+  whole_behind at (c ∷ []) ys whole then = absurd whole
+  whole_behind at (c ∷ (d ∷ rest)) ys whole then = (whole.0, whole.1, whole_behind at rest ys whole.2 then)
 
--- a question whose parcel is not moved since the desk is spent
-pub moved_asked : (at : ℕ) (a b c : Knowledge) (parcel : Parcel) (command : Command) (reply : Result Reply Fault)
-    → HasAsked a at commands.FirstParcel (Ok (replies.Parcel (Some parcel))) b → HasAsked b at command reply c
-    → (command ≡ commands.Settle parcel.origin.number) ⊎ (command ≡ commands.Orphan parcel.target) → HasMoved at a c
-moved_asked at a b c parcel command reply first (inl h) is = whole_is_moved at a c (one_is_moved at a c (moved_one at a b c parcel command reply first h is))
-moved_asked at a b c parcel command reply first (inr h) is = spent_moved (λ calls. AreMoves at calls) a b reply c h (moved_none at a (Ok (replies.Parcel (Some parcel))) b first)
+  -- a question for the first parcel, that is told none
+  pub moved_none : (at : ℕ) (a : Knowledge) (reply : Result Reply Fault) (b : Knowledge) → HasAsked a at commands.FirstParcel reply b → parcel_in reply ≡ None → HasMoved told at a b
+  moved_none at a reply b (inl h) none =
+      made_one (λ calls. AreMoves told at (HasEnded b) calls) a at commands.FirstParcel reply b h (record { time = refl; asked = refl; stops = inl none })
+  moved_none at a reply b (inr h) none =
+      spent_made (λ calls. AreMoves told at (HasEnded b) calls) a a b h.1 (made_nothing (λ calls. AreMoves told at (HasEnded b) calls) a (ended a b h.1))
 
--- where the answer is good the call was made
-pub answered_call : (b : Knowledge) (at : ℕ) (command : Command) (reply : Result Reply Fault) (c : Knowledge) → HasAsked b at command reply c → is_ok reply ≡ true → HasCalled b at command reply c
-answered_call b at command reply c (inl h) good = h
-answered_call b at command reply c (inr h) good = absurd (false_true (sym (ap is_ok h.0) ∙ good))
+  -- a question for the first parcel, that is told one which is refused
+  pub moved_refused : (at : ℕ) (a : Knowledge) (reply : Result Reply Fault) (b : Knowledge) (parcel : Parcel) → HasAsked a at commands.FirstParcel reply b
+      → parcel_in reply ≡ Some parcel → told at parcel deliveries.Refused → HasMoved told at a b
+  moved_refused at a reply b parcel (inl h) there refused =
+      made_one (λ calls. AreMoves told at (HasEnded b) calls) a at commands.FirstParcel reply b h
+      (record { time = refl; asked = refl; stops = inr (inr (parcel, there, refused)) })
+  moved_refused at a reply b parcel (inr h) there refused = absurd (no_parcel_spent reply parcel h.0 there)
+
+  -- what is asked where a parcel was delivered
+  abbrev pub Confirms : ℕ → Parcel → Command → Type 0
+  Confirms at parcel command = ((receipt : T) × told at parcel (deliveries.Accepted receipt) × (command ≡ commands.Settle parcel.origin.number))
+      ⊎ (told at parcel deliveries.Gone × (command ≡ commands.Orphan parcel.target))
+
+  -- a parcel was told and moved, by two calls
+  both_calls : (Are : List Call → Type 0) (at : ℕ) (a b c : Knowledge) (command : Command) (first second : Result Reply Fault)
+      → HasCalled a at commands.FirstParcel first b → HasCalled b at command second c
+      → Are (call a.number at commands.FirstParcel first ∷ call b.number at command second ∷ []) → HasMade Are a c
+  unfolding made_one
+  both_calls Are at a b c command first second h k is =
+      let one = made_one (λ calls. calls ≡ call a.number at commands.FirstParcel first ∷ []) a at commands.FirstParcel first b h refl in
+      let two = made_one (λ calls. calls ≡ call b.number at command second ∷ []) b at command second c k refl in
+      made_both _ _ Are a b c one two is
+
+  pub moved_asked : (at : ℕ) (a b c : Knowledge) (parcel : Parcel) (command : Command) (first second : Result Reply Fault) (good : Bool) → good ≡ is_ok second
+      → HasAsked a at commands.FirstParcel first b → parcel_in first ≡ Some parcel → HasAsked b at command second c → Confirms at parcel command
+      → MatchBool good (HasMovedOne told at a c) (HasMoved told at a c)
+  moved_asked at a b c parcel command first second good same (inr h) there asked is = absurd (no_parcel_spent first parcel h.0 there)
+  moved_asked at a b c parcel command first second true same (inl h) there (inl k) is =
+      both_calls (λ calls. (asks moves : Call) × (calls ≡ asks ∷ moves ∷ []) × IsMove told at asks moves × (is_ok moves.reply ≡ true)) at a b c command first second h k (
+        call a.number at commands.FirstParcel first,
+        call b.number at command second,
+        refl,
+        record { times = (refl, refl); asked = refl; parcel = parcel; there = there; moved = is },
+        sym same,
+      )
+  moved_asked at a b c parcel command first second true same (inl h) there (inr k) is = absurd (true_false (same ∙ ap is_ok k.0))
+  moved_asked at a b c parcel command first second false same (inl h) there (inl k) is =
+      both_calls (λ calls. AreMoves told at (HasEnded c) calls) at a b c command first second h k (
+        record { times = (refl, refl); asked = refl; parcel = parcel; there = there; moved = is },
+        subst (λ good. MatchBool good (HasEnded c) (◌≡◌ {A = List Call} [] [])) same refl,
+      )
+  moved_asked at a b c parcel command first second false same (inl h) there (inr k) is =
+      spent_made (λ calls. AreMoves told at (HasEnded c) calls) a b c k.1
+      (made_one (λ calls. AreMoves told at (HasEnded c) calls) a at commands.FirstParcel first b h (record { time = refl; asked = refl; stops = inr (inl (ended b c k.1)) }))
+
+  -- one that was moved is moved
+  one_is_moved : (at : ℕ) (a b : Knowledge) → HasMovedOne told at a b → HasMade (λ calls. AreWholeMoves at calls) a b
+  one_is_moved at a b h = record {
+    same_desk = h.same_desk;
+    same_start = h.same_start;
+    same_number = h.same_number;
+    goes_on = h.goes_on;
+    calls = h.calls;
+    own = h.own;
+    made = subst (λ calls. AreWholeMoves at calls) (sym h.made.2) (h.made.3, h.made.4, tt);
+  }
+
+  -- one more behind those that were moved
+  pub whole_and_one : (at : ℕ) (a b c : Knowledge) → HasMade (λ calls. AreWholeMoves at calls) a b → HasMovedOne told at b c → HasMade (λ calls. AreWholeMoves at calls) a c
+  whole_and_one at a b c h one =
+      let k = one_is_moved at b c one in
+      made_both _ _ (λ calls. AreWholeMoves at calls) a b c h k (whole_behind at h.calls k.calls h.made k.made)
+
+  -- the last calls behind those that moved
+  pub whole_and_last : (at : ℕ) (a b c : Knowledge) → HasMade (λ calls. AreWholeMoves at calls) a b → HasMoved told at b c → HasMoved told at a c
+  whole_and_last at a b c h last = made_both _ _ (λ calls. AreMoves told at (HasEnded c) calls) a b c h last (moves_behind at (HasEnded c) h.calls last.calls h.made last.made)

@@ -1,5 +1,5 @@
 -- How far an ask is, and what its future gives.
-use Rattle.std.specs.Prelude.{◌≡◌, ℕ, ⊤, Option, Some, None, Result, IfErr}
+use Rattle.std.specs.Prelude.{◌≡◌, ℕ, ⊤, Option, Some, None, Result, IfOk, IfErr}
 use Rattle.std.specs.Arc.{arc_value}
 use Rattle.message.specs.declared.fault.Fault.TheVariants.{ActorGone}
 use Rattle.atomic_table.specs.Seated.{TableId}
@@ -47,9 +47,9 @@ kept_pass (Asking.Sent source) = None
 kept_pass (Asking.Unsent pass) = Some pass
 kept_pass Asking.Over = None
 
--- the only fault that a future gives: the actor has ended, and the pass of a mail that never left comes back
+-- an answer comes to a slot alone; the only fault that a future gives: the actor has ended, and the pass of a mail that never left comes back
 abbrev pub MayGive : {P T : Type 0} → Asking → Result Answered (AskFault P T) → Type 0
-MayGive asking output = IfErr output (λ e. (e.fault ≡ ActorGone) × (e.pass ≡ kept_pass asking))
+MayGive asking output = IfOk output (λ answer. (source : ℕ) × WaitsAt asking source) × IfErr output (λ e. (e.fault ≡ ActorGone) × (e.pass ≡ kept_pass asking))
 
 -- nobody takes mail from the mailbox any more
 abbrev pub IfDisconnected : {M : Type 0} → SendError M → Type 0 → Type 0

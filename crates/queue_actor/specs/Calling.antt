@@ -1,7 +1,7 @@
 -- What an actor does with its own pass: it looks whether polls have to wait, and moves its queue's dead letters.
-use Rattle.std.specs.Prelude.{◌≡◌, ◌⊎◌, ℕ, ◌==◌, ◌&&◌, nat_lt, Bool, true, false, MatchBool, List, [], ◌∷◌, ◌++◌, Some, Result, Ok, Err}
+use Rattle.std.specs.Prelude.{◌≡◌, ◌⊎◌, ℕ, ◌==◌, ◌&&◌, nat_lt, Bool, true, false, MatchBool, List, [], ◌∷◌, ◌++◌, Option, Some, None, Result, Ok, Err, is_ok}
 use Rattle.message.specs.declared.fault.Fault.{Fault}
-use Rattle.message.specs.declared.fault.Fault.TheVariants.{Spent}
+use Rattle.message.specs.declared.fault.Fault.TheVariants.{Spent, QueueDoesNotExist}
 use Rattle.queue_core.specs.declared.command.Command.{Command}
 use Rattle.queue_core.specs.declared.command.Command.TheVariants as commands
 use Rattle.queue_core.specs.declared.reply.Reply.{Reply}
@@ -9,7 +9,10 @@ use Rattle.queue_core.specs.declared.reply.Reply.TheVariants as replies
 use Rattle.queue_core.specs.declared.parcel.Parcel.{Parcel}
 use Rattle.desk.specs.declared.view.Call.{Call}
 use Rattle.desk.specs.History.{GoesOnFrom}
-use Rattle.desk.specs.Views.{Knowledge, HasCalled, IsSpent}
+use Rattle.desk.specs.Views.{Knowledge, HasCalled, IsSpent, IsKnown, most_tickets}
+use Rattle.queue_actor.specs.Answered.{Answered}
+use Rattle.queue_actor.specs.declared.parcels.Delivery.{Delivery}
+use Rattle.queue_actor.specs.declared.parcels.Delivery.TheVariants as deliveries
 
 -- a call was made with a pass, or its desk is spent
 abbrev pub HasAsked : Knowledge → ℕ → Command → Result Reply Fault → Knowledge → Type 0
@@ -30,19 +33,14 @@ abbrev pub KeepsWaiting : ℕ → ℕ → Bool → ℕ → Bool → Knowledge �
 KeepsWaiting limit at quiet until keeps before after =
     MatchBool (nat_lt at until) (Finds limit at quiet keeps before after) ((keeps ≡ false) × (after ≡ before))
 
--- one dead letter is moved: the actor asks for the first parcel and is told one, and confirms it, or takes back what waits for the same queue
-pub record IsMove (at : ℕ) (asks moves : Call) : Type 0 where
-  pub times : (asks.at ≡ at) × (moves.at ≡ at)
-  pub asked : asks.command ≡ commands.FirstParcel
-  pub parcel : Parcel
-  pub told : asks.reply ≡ Ok (replies.Parcel (Some parcel))
-  pub moved : (moves.command ≡ commands.Settle parcel.origin.number) ⊎ (moves.command ≡ commands.Orphan parcel.target)
+-- the parcel that a reply hands over
+abbrev pub parcel_in : Result Reply Fault → Option Parcel
+parcel_in (Ok (replies.Parcel parcel)) = parcel
+parcel_in _ = None
 
--- dead letters are moved one after another; the last call may be a question for a parcel that is not moved
-abbrev pub AreMoves : ℕ → List Call → Type 0
-AreMoves at [] = Unit {0}
-AreMoves at (c ∷ []) = (c.at ≡ at) × (c.command ≡ commands.FirstParcel)
-AreMoves at (c ∷ (d ∷ rest)) = IsMove at c d × AreMoves at rest
+-- all tickets of a pass's desk are drawn: it asks nothing any more
+abbrev pub HasEnded : Knowledge → Type 0
+HasEnded pass = pass.begun ≡ most_tickets
 
 -- calls were made with a pass, of which this is true: others may have called in between
 pub record HasMade (Are : List Call → Type 0) (before after : Knowledge) : Type 0 where
@@ -54,10 +52,53 @@ pub record HasMade (Are : List Call → Type 0) (before after : Knowledge) : Typ
   pub own : after.mine ≡ before.mine ++ calls
   pub made : Are calls
 
--- nothing was asked with the actor's pass but what moves dead letters, at this moment
-abbrev pub HasMoved : ℕ → Knowledge → Knowledge → Type 0
-HasMoved at before after = HasMade (λ calls. AreMoves at calls) before after
+-- whether a reply says that the queue is gone
+abbrev pub is_gone : Result Reply Fault → Bool
+is_gone (Err QueueDoesNotExist) = true
+is_gone _ = false
 
--- one dead letter was moved
-abbrev pub HasMovedOne : ℕ → Knowledge → Knowledge → Type 0
-HasMovedOne at before after = HasMade (λ calls. (asks moves : Call) × (calls ≡ asks ∷ moves ∷ []) × IsMove at asks moves) before after
+-- an answer says that a parcel arrived at a moment: its pass is of a desk of the uid that the parcel is for, and its last call is the arrival there, which was accepted
+pub record HasArrived (at : ℕ) (parcel : Parcel) (answer : Answered) : Type 0 where
+  pub before : Knowledge
+  pub reply : Reply
+  pub uid : before.start.uid ≡ parcel.target
+  pub accepted : answer.reply ≡ Ok reply
+  pub called : HasCalled before at (commands.Arrive parcel) (Ok reply) answer.pass
+  pub known : IsKnown answer.pass
+
+-- a fact of what shows that a parcel was accepted
+abbrev pub IfAccepted : {T : Type 0} → Delivery T → (T → Type 0) → Type 0
+IfAccepted (deliveries.Accepted receipt) P = P receipt
+IfAccepted deliveries.Gone P = Unit {0}
+IfAccepted deliveries.Refused P = Unit {0}
+
+-- what deliveries tell: of a parcel at a moment, that it was accepted, and what shows it, that its queue is gone, or that it was refused
+module _ {T : Type 0} (told : ℕ → Parcel → Delivery T → Type 0) where
+  -- one dead letter is moved: the actor asks for the first parcel and gets one, and delivers it; where it was accepted it is confirmed, and where its queue is gone all that wait for that queue are taken back
+  pub record IsMove (at : ℕ) (asks moves : Call) : Type 0 where
+    pub times : (asks.at ≡ at) × (moves.at ≡ at)
+    pub asked : asks.command ≡ commands.FirstParcel
+    pub parcel : Parcel
+    pub there : parcel_in asks.reply ≡ Some parcel
+    pub moved : ((receipt : T) × told at parcel (deliveries.Accepted receipt) × (moves.command ≡ commands.Settle parcel.origin.number))
+        ⊎ (told at parcel deliveries.Gone × (moves.command ≡ commands.Orphan parcel.target))
+
+  -- the last question for a parcel: there is none, or it was refused; or the desk asks nothing any more
+  pub record IsLastQuestion (at : ℕ) (ended : Type 0) (asks : Call) : Type 0 where
+    pub time : asks.at ≡ at
+    pub asked : asks.command ≡ commands.FirstParcel
+    pub stops : (parcel_in asks.reply ≡ None) ⊎ (ended ⊎ ((parcel : Parcel) × (parcel_in asks.reply ≡ Some parcel) × told at parcel deliveries.Refused))
+
+  -- dead letters are moved one after another, until there is none or one is refused
+  abbrev pub AreMoves : ℕ → Type 0 → List Call → Type 0
+  AreMoves at ended [] = ended
+  AreMoves at ended (c ∷ []) = IsLastQuestion at ended c
+  AreMoves at ended (c ∷ (d ∷ rest)) = IsMove at c d × MatchBool (is_ok d.reply) (AreMoves at ended rest) (rest ≡ [])
+
+  -- nothing was asked with the actor's pass but what moves dead letters, at this moment, until there is none or something is refused
+  abbrev pub HasMoved : ℕ → Knowledge → Knowledge → Type 0
+  HasMoved at before after = HasMade (λ calls. AreMoves at (HasEnded after) calls) before after
+
+  -- one dead letter was moved
+  abbrev pub HasMovedOne : ℕ → Knowledge → Knowledge → Type 0
+  HasMovedOne at before after = HasMade (λ calls. (asks moves : Call) × (calls ≡ asks ∷ moves ∷ []) × IsMove at asks moves × (is_ok moves.reply ≡ true)) before after

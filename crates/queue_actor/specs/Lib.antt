@@ -1,5 +1,5 @@
 pub mod Answered
 pub mod Asking
-pub mod Lists
+pub mod Course
 pub mod Calling
 pub mod Serving

@@ -3,12 +3,15 @@ use Rattle.std.specs.Prelude.{◌≡◌, ◌⊎◌, ℕ, ◌&&◌, nat_lt, Bool,
 use Rattle.std.specs.Arc.{arc_value}
 use Rattle.queue_core.specs.declared.command.Command.{Command}
 use Rattle.queue_core.specs.declared.command.Command.TheVariants as commands
-use Rattle.desk.specs.Views.{Knowledge}
+use Rattle.queue_core.specs.declared.parcel.Parcel.{Parcel}
+use Rattle.desk.specs.Views.{Knowledge, IsKnown}
 use Rattle.queue_actor.specs.declared.mail.Ask.{Ask}
 use Rattle.queue_actor.specs.declared.mail.Mail.{Mail}
 use Rattle.queue_actor.specs.declared.mail.Mail.TheVariants as mails
+use Rattle.queue_actor.specs.declared.parcels.Delivery.{Delivery}
 use Rattle.queue_actor.specs.Answered.{Answered}
 use Rattle.queue_actor.specs.Calling.{HasAsked, KeepsWaiting, HasMoved}
+use Rattle.queue_actor.specs.Course.{Event, gaves, brought_in, given_in}
 
 -- whether a command is a receive
 abbrev pub is_receive : Command → Bool
@@ -22,7 +25,8 @@ module _ {P S Told : Type 0} where
 
   -- the answer to an ask that was asked at a moment: at its own desk, with its own pass and command
   abbrev pub IsAnswerAt : ℕ → Ask P S Told → Answered → Type 0
-  IsAnswerAt at r answer = (answer.desk ≡ arc_value r.desk) × (answer.command ≡ r.command) × HasAsked r.pass at r.command answer.reply answer.pass
+  IsAnswerAt at r answer =
+      (answer.desk ≡ arc_value r.desk) × (answer.command ≡ r.command) × HasAsked r.pass at r.command answer.reply answer.pass × IsKnown answer.pass
 
   -- the answers to asks that were all asked at a moment, in order
   abbrev pub AreAnswersAt : ℕ → List (Ask P S Told) → List (S × Answered) → Type 0
@@ -39,11 +43,6 @@ module _ {P S Told : Type 0} where
       ⊎ ((between : Knowledge) × (answer : Answered) × (rest : List (S × Answered)) × KeepsWaiting limit at quiet r.wait_until false before between
       × IsAnswerAt at r answer × (given ≡ (r.reply, answer) ∷ rest) × LooksOver limit at false between rs rest after left)
 
-  -- what the actor does at the moment of each mail: it looks over the polls that wait, and moves its parcels
-  abbrev pub Goes : ℕ → ℕ → Knowledge → List (Ask P S Told) → List (S × Answered) → Knowledge → List (Ask P S Told) → Type 0
-  Goes limit at before parked given after left =
-      (between : Knowledge) × LooksOver limit at false before parked given between left × HasMoved at between after
-
   -- an ask that comes waits behind the other polls, or is answered at its moment
   abbrev pub Admits : Ask P S Told → List (Ask P S Told) → List (S × Answered) → List (Ask P S Told) → Type 0
   Admits r parked given left =
@@ -56,17 +55,34 @@ module _ {P S Told : Type 0} where
   TakesIn (mails.Tick t) parked given left at = (Some t ≡ at) × (given ≡ []) × (left ≡ parked)
   TakesIn mails.End parked given left at = (None ≡ at) × (given ≡ []) × (left ≡ parked)
 
+-- what deliveries of dead letters tell
+module _ {P S Told T : Type 0} (told : ℕ → Parcel → Delivery T → Type 0) where
+  -- what the actor does at the moment of each mail: it looks over the polls that wait, and moves its parcels
+  abbrev pub Goes : ℕ → ℕ → Knowledge → List (Ask P S Told) → List (S × Answered) → Knowledge → List (Ask P S Told) → Type 0
+  Goes limit at before parked given after left =
+      (between : Knowledge) × LooksOver limit at false before parked given between left × HasMoved told at between after
+
   -- at the end each poll that waits is asked, at the moment of the last mail
   abbrev pub Ends : ℕ → Knowledge → List (Ask P S Told) → List (S × Answered) → Knowledge → Type 0
-  Ends last before parked given after = AreAnswersAt last parked given × HasMoved last before after
+  Ends last before parked given after = AreAnswersAt last parked given × HasMoved told last before after
 
-  -- what an actor does with mails that come one after another, where these polls wait and the last mail came at a moment: all that it gives, in order
-  abbrev pub Serves : ℕ → Knowledge → List (Ask P S Told) → ℕ → List (Mail P S Told) → List (S × Answered) → Knowledge → Type 0
-  Serves limit before parked last [] given after = Ends last before parked given after
-  Serves limit before parked last (mails.End ∷ ms) given after = (ms ≡ []) × Ends last before parked given after
-  Serves limit before parked last (mails.Tick at ∷ ms) given after =
-      (first rest : List (S × Answered)) × (between : Knowledge) × (left : List (Ask P S Told)) × (given ≡ first ++ rest)
-      × Goes limit at before parked first between left × Serves limit between left at ms rest after
-  Serves limit before parked last (mails.Ask r ∷ ms) given after =
-      (first second rest : List (S × Answered)) × (between : Knowledge) × (wait left : List (Ask P S Told)) × (given ≡ (first ++ second) ++ rest)
-      × Admits r parked first wait × Goes limit r.moment before wait second between left × Serves limit between left r.moment ms rest after
+  -- what an actor does with mails that come one after another, where these polls wait and the last mail came at a moment: all that happens at its mailbox, in order
+  abbrev pub Serves : ℕ → Knowledge → List (Ask P S Told) → ℕ → List (Mail P S Told) → List (Event (Mail P S Told) S Answered) → Knowledge → Type 0
+  Serves limit before parked last [] events after =
+      (given : List (S × Answered)) × (events ≡ Event.Over ∷ gaves given) × Ends last before parked given after
+  Serves limit before parked last (mails.End ∷ ms) events after =
+      (ms ≡ []) × ((given : List (S × Answered)) × (events ≡ Event.Brought mails.End ∷ gaves given) × Ends last before parked given after)
+  Serves limit before parked last (mails.Tick at ∷ ms) events after =
+      (given : List (S × Answered)) × (rest : List (Event (Mail P S Told) S Answered)) × (between : Knowledge) × (left : List (Ask P S Told))
+      × (events ≡ Event.Brought (mails.Tick at) ∷ (gaves given ++ rest)) × Goes limit at before parked given between left × Serves limit between left at ms rest after
+  Serves limit before parked last (mails.Ask r ∷ ms) events after =
+      (first second : List (S × Answered)) × (rest : List (Event (Mail P S Told) S Answered)) × (between : Knowledge) × (wait left : List (Ask P S Told))
+      × (events ≡ Event.Brought (mails.Ask r) ∷ (gaves (first ++ second) ++ rest)) × Admits r parked first wait
+      × Goes limit r.moment before wait second between left × Serves limit between left r.moment ms rest after
+
+  -- mails that came one after another from the front of these, until one was the end or none was left, and all the answers that were given: those of a mailbox in memory
+  abbrev pub AllServed : ℕ → Knowledge → List (Mail P S Told) → List (S × Answered) → Knowledge → Type 0
+  AllServed limit before all given after =
+      (served left : List (Mail P S Told)) × (events : List (Event (Mail P S Told) S Answered)) × Serves limit before [] 0 served events after
+      × (all ≡ brought_in events ++ left) × (given ≡ given_in events)
+      × ((left ≡ []) ⊎ ((front : List (Mail P S Told)) × (served ≡ front ++ mails.End ∷ [])))

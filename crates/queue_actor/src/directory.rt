@@ -1,18 +1,21 @@
 //! The directory of the queues that are served: names, mailboxes and desks.
 
-ghost use Rattle.std.specs.Prelude.{◌≡◌, ◌⊎◌, ◌<◌, IfSome, IfOk, IfErr, vec_len};
+ghost use Rattle.std.specs.Prelude.{◌≡◌, ◌⊎◌, ◌==◌, Some, IfSome, IfOk, IfErr};
 ghost use Rattle.std.specs.Arc.{arc_value};
+ghost use Rattle.std.specs.List.{position};
 ghost use Rattle.message.specs.declared.fault.Fault.TheVariants.{OutOfMemory, QueueDoesNotExist, QueueNameExists, OverLimit};
-ghost use Rattle.desk.specs.Views.{Knowledge};
+ghost use Rattle.redrive.specs.Catalog.{IsDirectory, names_listed, uid_of_name};
+ghost use Rattle.desk.specs.Views.{IsKnown, IsNewPass};
 ghost use Rattle.queue_actor.specs.Calling.{HasAsked};
 
+use crate::answer::Answer;
 use crate::mail::Mail;
 use crossbeam_channel::Sender;
 use desk::{Desk, Gate, Pass, Press};
 use journal::Moment;
 use message::{Fault, QueueName};
 use queue_config::Limits;
-use queue_core::{Command, Reply};
+use queue_core::Command;
 use redrive::Catalog;
 use std::alloc::Global;
 use std::marker::Model;
@@ -27,17 +30,20 @@ pub struct Served<P: Press, S: Drop> {
     pub pass: Pass<P>,
     pub mailbox: Sender<Mail<P, S>>,
     pub ghost together: { pass.desk ≡ arc_value desk },
+    pub ghost named: { pass.start.uid ≡ uid },
 }
 
 impl<P: Press, S: Drop> Served<P, S> {
-    /// A queue that is served at a desk, with a pass of that desk.
+    /// A queue that is served at a desk, with a pass of that desk. Its uid is the one under which it was
+    /// opened.
     pub fn new(
         uid: u64,
         desk: Arc<Desk<P>>,
         pass: Pass<P>,
         mailbox: Sender<Mail<P, S>>,
     ) -> Served<P, S>
-        requires { pass.desk ≡ arc_value desk }
+        requires desk { pass.desk ≡ arc_value desk }
+        requires uid { pass.start.uid ≡ uid }
         ensures { (result.uid ≡ uid) × (result.desk ≡ desk) × (result.pass ≡ pass) }
     {
         Served {
@@ -51,7 +57,8 @@ impl<P: Press, S: Drop> Served<P, S> {
     /// The same queue once more, with a pass that is split off. `OutOfMemory` is the only refusal.
     fn again(&mut self) -> Result<Served<P, S>, Fault>
         ensures errors { IfErr result (λ fault. fault ≡ OutOfMemory) }
-        ensures same { IfOk result (λ queue. (queue.uid ≡ self.old.uid) × (arc_value queue.desk ≡ arc_value self.old.desk)) }
+        ensures other { IfOk result (λ queue. (queue.uid ≡ self.old.uid) × (arc_value queue.desk ≡ arc_value self.old.desk) × IsNewPass self.old.pass queue.pass) }
+        ensures same { (self.new.uid ≡ self.old.uid) × (self.new.pass ≡ self.old.pass) }
     {
         let desk = Arc::try_clone(&self.desk)?;
         let mailbox = self.mailbox.clone()?;
@@ -65,12 +72,14 @@ impl<P: Press, S: Drop> Served<P, S> {
         rt: &R,
         alloc: Global,
         at: Moment,
-        command: &Command,
+        command: Command,
         gate: &G,
-    ) -> Result<Reply, Fault>
+    ) -> Answer<P>
     where
         P::Told: Drop,
-        ensures { (after : Knowledge) × HasAsked self.pass at command.now result after }
+        ensures desk { (result.desk ≡ arc_value self.desk) × (result.command ≡ command) }
+        ensures call { HasAsked self.pass at command result.reply result.pass }
+        ensures known { IsKnown result.pass }
     {
         let Served {
             uid: _,
@@ -78,7 +87,8 @@ impl<P: Press, S: Drop> Served<P, S> {
             mut pass,
             mailbox: _,
         } = self;
-        desk.ask(rt, alloc, &mut pass, at, command, gate).reply
+        let reply = desk.ask(rt, alloc, &mut pass, at, &command, gate).reply;
+        Answer::new(desk, pass, command, reply)
     }
 }
 
@@ -92,13 +102,25 @@ struct Entries<P: Press, S: Drop> {
 impl<P: Press, S: Drop> Entries<P, S> {
     /// The place of the queue of a uid.
     fn place_of(&self, uid: u64) -> Option<usize>
-        ensures { IfSome result (λ place. place < vec_len self.now.served) }
+        ensures { result ≡ position (λ queue. queue.uid == uid) self.now.served.items }
     {
         self.served.iter().position(|queue| queue.uid == uid)
     }
 
+    /// The queue of a name once more, where it is served.
+    fn find_name(&mut self, name: &QueueName) -> Result<Option<Served<P, S>>, Fault>
+        ensures uid { IfOk result (λ found. IfSome found (λ queue. uid_of_name self.old.catalog name.now ≡ Some queue.uid)) }
+        ensures errors { IfErr result (λ fault. fault ≡ OutOfMemory) }
+    {
+        match self.catalog.find(name) {
+            Some(uid) => self.find(uid),
+            None => Ok(None),
+        }
+    }
+
     /// The queue of a uid once more, where it is served.
     fn find(&mut self, uid: u64) -> Result<Option<Served<P, S>>, Fault>
+        ensures uid { IfOk result (λ found. IfSome found (λ queue. queue.uid ≡ uid)) }
         ensures errors { IfErr result (λ fault. fault ≡ OutOfMemory) }
     {
         match self.place_of(uid) {
@@ -210,6 +232,7 @@ impl<P: Press, S: Drop> Directory<P, S> {
 
     /// The queue of a uid, where it is served: its desk, its mailbox, and a pass of its own.
     pub fn find_uid<R: Wait>(&self, rt: &R, uid: u64) -> Result<Option<Served<P, S>>, Fault>
+        ensures uid { IfOk result (λ found. IfSome found (λ queue. queue.uid ≡ uid)) }
         ensures errors { IfErr result (λ fault. fault ≡ OutOfMemory) }
     {
         self.entries.lock(rt).find(uid)
@@ -219,11 +242,7 @@ impl<P: Press, S: Drop> Directory<P, S> {
     pub fn find<R: Wait>(&self, rt: &R, name: &QueueName) -> Result<Option<Served<P, S>>, Fault>
         ensures errors { IfErr result (λ fault. fault ≡ OutOfMemory) }
     {
-        let mut entries = self.entries.lock(rt);
-        match entries.catalog.find(name) {
-            Some(uid) => entries.find(uid),
-            None => Ok(None),
-        }
+        self.entries.lock(rt).find_name(name)
     }
 
     /// Takes out the queue of a uid, with its name. The answer is whether the name was there.
@@ -245,6 +264,7 @@ impl<P: Press, S: Drop> Directory<P, S> {
         alloc: Global,
         prefix: &str,
     ) -> Result<Vec<QueueName>, Fault>
+        ensures ok { IfOk result (λ names. (listed : _) × IsDirectory listed × (names.items ≡ names_listed listed prefix.now)) }
         ensures errors { IfErr result (λ fault. fault ≡ OutOfMemory) }
     {
         self.entries.lock(rt).catalog.list(alloc, prefix)

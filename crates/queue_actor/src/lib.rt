@@ -6,16 +6,17 @@
 //! - [`Answer`]: the pass, behind the call that was made with it, beside the command and the reply.
 //! - [`Outbox`]: a mailbox, as those who send see it.
 //! - [`Actor`]: serves the mails of one queue, keeps polls that wait, and moves the queue's dead letters.
-//! - [`Inbox`], [`Replies`]: where its mail comes from, and where its answers go.
+//! - [`Inbox`]: where its mail comes from, and where its answers go.
+//! - [`Targets`]: the queues that dead letters are for, and [`Delivery`], what became of one there.
 //! - [`Directory`]: which queues there are, and where each is served; [`Served`] is one of them.
 //! - [`deadline_loop`]: tells all actors the time.
 //!
 //! `Answered` in `specs/` has the words for answers. An answer's pass is of its desk, and its last call has
 //! the answer's command and reply, by the type: so it holds after the answer has crossed threads too. A
-//! future that waits has registered with a slot, or asked to be polled again. `Serving` relates the mails
-//! that an actor was brought to the answers that it gave: none is swapped, lost, doubled, early or of another
-//! moment, as far as the inbox tells what it brought and the replies what they gave. Channels tell their
-//! types alone.
+//! future that waits has registered with a slot, or asked to be polled again. `Serving` relates what happens
+//! at a mailbox: which mails come, and which answers are given between them. None of these answers is
+//! swapped, lost, given twice, given early or of another moment, as far as the mailbox tells what happened.
+//! One of channels tells the types alone; a mailbox in memory tells all of it.
 #![tactic(auto)]
 
 mod actor;
@@ -37,6 +38,7 @@ pub use deadline::{Beat, TICK_MILLISECONDS, deadline_loop};
 pub use directory::{Directory, Served};
 pub use fault::AskFault;
 pub use future::AskFuture;
-pub use inbox::{Channels, Inbox, Replies};
+pub use inbox::Inbox;
 pub use mail::{Ask, Mail};
 pub use outbox::Outbox;
+pub use parcels::{Delivery, Targets};

@@ -1,6 +1,12 @@
 //! Dead letters that go from the queue of one actor to another queue.
 
+ghost use Rattle.std.specs.Prelude.{◌≡◌, ℕ};
+ghost use Rattle.queue_core.specs.declared.parcel.Parcel.{Parcel};
+ghost use Rattle.queue_actor.specs.Calling.{HasArrived, IfAccepted, is_gone, parcel_in};
+ghost use Rattle.queue_actor.specs.declared.parcels.Delivery.{Delivery};
+
 use crate::actor::Actor;
+use crate::answer::Answer;
 use crate::directory::Directory;
 use desk::{Gate, Press};
 use journal::Moment;
@@ -9,54 +15,103 @@ use queue_core::{Command, Parcel, Reply};
 use std::alloc::Global;
 use std::sync::Wait;
 
-/// What became of a parcel at the queue that it is for.
-#[derive(Clone, Copy, Debug, PartialEq, Eq)]
-enum Delivery {
+/// What became of a parcel at the queue that it is for. `T` is what shows that it was accepted.
+#[derive(Clone, Copy, Drop)]
+pub enum Delivery<T> {
     /// The queue has it, from now on or from an earlier delivery.
-    Accepted,
+    Accepted(T),
     /// The queue is gone.
     Gone,
     /// The queue refused it, or was not reached.
     Refused,
 }
 
-/// What becomes of a parcel whose queue is not served: it is gone where its name is gone too. A queue that
-/// has its name will be served, and its parcels wait.
-fn unserved<P: Press, S: Drop, R: Wait>(
-    rt: &R,
-    alloc: Global,
-    target: u64,
-    directory: &Directory<P, S>,
-) -> Delivery {
-    match directory.sources(rt, alloc, target) {
-        Err(Fault::QueueDoesNotExist) => Delivery::Gone,
-        _ => Delivery::Refused,
-    }
+/// The queues that dead letters are for.
+pub trait Targets {
+    /// What shows that a parcel was accepted.
+    type Receipt: Drop;
+
+    // What is known of a delivery at a moment.
+    ghost was_told: { Self → ℕ → Parcel → Delivery Self.Receipt → Type 0 };
+
+    /// Hands a parcel to the queue that it is for.
+    fn deliver<R: Wait, G: Gate>(
+        &self,
+        rt: &R,
+        alloc: Global,
+        at: Moment,
+        parcel: Parcel,
+        gate: &G,
+    ) -> Delivery<Self::Receipt>
+        ensures { was_told self.now at parcel result };
 }
 
-/// Hands a parcel to the queue that it is for. The directory is asked for that queue, and its lock is
-/// let go before the queue's desk is asked.
-fn deliver<P: Press, S: Drop, R: Wait, G: Gate>(
+/// Whether a reply says that its queue is gone.
+fn is_gone(reply: &Result<Reply, Fault>) -> bool
+    ensures { result ≡ is_gone reply.now }
+{
+    matches!(reply, Err(Fault::QueueDoesNotExist))
+}
+
+/// Whether a uid may have a name, be its queue served or not. Where memory is refused it may.
+fn may_be_named<P: Press, S: Drop, R: Wait>(
     rt: &R,
     alloc: Global,
-    at: Moment,
-    parcel: Parcel,
+    uid: u64,
     directory: &Directory<P, S>,
-    gate: &G,
-) -> Delivery
+) -> bool {
+    !matches!(
+        directory.sources(rt, alloc, uid),
+        Err(Fault::QueueDoesNotExist)
+    )
+}
+
+/// The directory is asked for the queue of a parcel, and its lock is let go before the queue's desk is
+/// asked. A parcel whose queue is not served is gone where its name is gone too: a queue that has its name
+/// will be served, and its parcels wait.
+impl<P: Press, S: Drop> Targets for Directory<P, S>
 where
     P::Told: Drop,
 {
-    match directory.find_uid(rt, parcel.target) {
-        Err(_) => Delivery::Refused,
-        Ok(None) => unserved(rt, alloc, parcel.target, directory),
-        Ok(Some(found)) => {
-            match found.ask(rt, alloc, at, &Command::Arrive { parcel }, gate) {
-                Ok(_) => Delivery::Accepted,
-                Err(Fault::QueueDoesNotExist) => Delivery::Gone,
-                Err(_) => Delivery::Refused,
-            }
+    /// What the queue answered.
+    type Receipt = Answer<P>;
+
+    // A parcel that was accepted was so at the queue of its uid.
+    ghost was_told = { λ _ at parcel delivery. IfAccepted delivery (HasArrived at parcel) };
+
+    fn deliver<R: Wait, G: Gate>(
+        &self,
+        rt: &R,
+        alloc: Global,
+        at: Moment,
+        parcel: Parcel,
+        gate: &G,
+    ) -> Delivery<Answer<P>> {
+        let target = parcel.target;
+        let found = match self.find_uid(rt, target) {
+            Ok(Some(found)) => found,
+            Ok(None) if may_be_named(rt, alloc, target, self) => return Delivery::Refused,
+            Ok(None) => return Delivery::Gone,
+            Err(_) => return Delivery::Refused,
+        };
+        let answer = found.ask(rt, alloc, at, Command::Arrive { parcel }, gate);
+        if answer.reply().is_ok() {
+            Delivery::Accepted(answer)
+        } else if is_gone(answer.reply()) {
+            Delivery::Gone
+        } else {
+            Delivery::Refused
         }
+    }
+}
+
+/// The parcel that a reply hands over.
+fn parcel_of(reply: Result<Reply, Fault>) -> Option<Parcel>
+    ensures { result ≡ parcel_in reply }
+{
+    match reply {
+        Ok(Reply::Parcel(parcel)) => parcel,
+        _ => None,
     }
 }
 
@@ -64,32 +119,31 @@ impl<P: Press> Actor<P>
 where
     P::Told: Drop,
 {
-    ghost use Rattle.std.specs.Prelude.{◌≡◌, true};
+    ghost use Rattle.std.specs.Prelude.{MatchBool};
     ghost use Rattle.desk.specs.Views.{IsKnown};
     ghost use Rattle.queue_actor.specs.Calling.{HasMoved, HasMovedOne};
 
     /// Moves the queue's first parcel: hands it over and confirms it, or takes back what waits for a queue
     /// that is gone. The answer is whether there was one and nothing was refused.
-    fn move_first<S: Drop, R: Wait, G: Gate>(
+    fn move_first<D: Targets, R: Wait, G: Gate>(
         &mut self,
         rt: &R,
         alloc: Global,
         at: Moment,
-        directory: &Directory<P, S>,
+        targets: &D,
         gate: &G,
     ) -> bool
-        ensures moved { HasMoved at self.old.pass self.new.pass }
-        ensures one { result ≡ true → HasMovedOne at self.old.pass self.new.pass }
+        ensures moved { MatchBool result (HasMovedOne (D.was_told targets.now) at self.old.pass self.new.pass) (HasMoved (D.was_told targets.now) at self.old.pass self.new.pass) }
         ensures known { IsKnown self.new.pass }
     {
-        let Ok(Reply::Parcel(Some(parcel))) = self.ask(rt, alloc, at, &Command::FirstParcel, gate)
-        else {
+        let reply = self.ask(rt, alloc, at, &Command::FirstParcel, gate);
+        let Some(parcel) = parcel_of(reply) else {
             return false;
         };
         let number = parcel.origin.number;
         let target = parcel.target;
-        let command = match deliver(rt, alloc, at, parcel, directory, gate) {
-            Delivery::Accepted => Command::Settle { number },
+        let command = match targets.deliver(rt, alloc, at, parcel, gate) {
+            Delivery::Accepted(_) => Command::Settle { number },
             Delivery::Gone => Command::Orphan { target },
             Delivery::Refused => return false,
         };
@@ -97,19 +151,19 @@ where
     }
 
     /// Moves the queue's parcels one after another, until there is none or something is refused.
-    pub(crate) fn move_parcels<S: Drop, R: Wait, G: Gate>(
+    pub(crate) fn move_parcels<D: Targets, R: Wait, G: Gate>(
         &mut self,
         rt: &R,
         alloc: Global,
         at: Moment,
-        directory: &Directory<P, S>,
+        targets: &D,
         gate: &G,
     )
-        ensures moved { HasMoved at self.old.pass self.new.pass }
+        ensures moved { HasMoved (D.was_told targets.now) at self.old.pass self.new.pass }
         ensures known { IsKnown self.new.pass }
     {
         for _ in rt.forever() {
-            if !self.move_first(rt, alloc, at, directory, gate) {
+            if !self.move_first(rt, alloc, at, targets, gate) {
                 return;
             }
         }

@@ -28,25 +28,29 @@ use std::time::{Clock, Duration};
 /// A mail to an actor in these tests.
 type Letter = Mail<NoPress, oneshot::Sender<Answer<NoPress>>>;
 
-/// A queue that was opened at 0 under the uid 1, with the default settings.
-fn open(alloc: Global) -> Result<QueueState, Fault> {
-    QueueState::open(
-        alloc,
-        1,
-        QueueName::read("jobs")?,
-        Settings::default(),
-        Limits::default(),
-        Vec::new(alloc),
-        Moment::zero(),
-    )
+/// A desk of a queue that was opened at 0 under a uid, to be shared, and its first pass.
+fn opened(
+    rt: &HostRuntime,
+    alloc: Global,
+    uid: u64,
+    settings: Settings,
+    limits: Limits,
+) -> Result<(Arc<Desk<NoPress>>, Pass<NoPress>), Fault>
+    ensures desk { IfOk result (λ r. r.1.desk ≡ arc_value r.0) }
+    ensures queue { IfOk result (λ r. (r.1.start.uid ≡ uid) × (r.1.start.limits ≡ limits)) }
+{
+    let name = QueueName::read("jobs")?;
+    let rules = Vec::new(alloc);
+    let state = QueueState::open(alloc, uid, name, settings, limits, rules, Moment::zero())?;
+    let (desk, pass) = Desk::new(rt, alloc, state, NoPress)?;
+    Ok((Arc::new(alloc, desk)?, pass))
 }
 
-/// A desk of a fresh queue, to be shared, and its first pass.
+/// A desk of a fresh queue of the uid 1, to be shared, and its first pass.
 fn desk(rt: &HostRuntime, alloc: Global) -> Result<(Arc<Desk<NoPress>>, Pass<NoPress>), Fault>
     ensures { IfOk result (λ r. r.1.desk ≡ arc_value r.0) }
 {
-    let (desk, pass) = Desk::new(rt, alloc, open(alloc)?, NoPress)?;
-    Ok((Arc::new(alloc, desk)?, pass))
+    opened(rt, alloc, 1, Settings::default(), Limits::default())
 }
 
 /// The time of so many milliseconds.

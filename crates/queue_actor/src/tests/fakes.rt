@@ -1,47 +1,107 @@
 //! A mailbox and answers in memory, and scripts of what an actor is sent.
 
-ghost use Rattle.std.specs.Prelude.{◌≡◌, IfOk};
+ghost use Rattle.std.specs.Prelude.{◌≡◌, true, [], ◌∷◌, ◌++◌, IfOk};
 ghost use Rattle.std.specs.Arc.{arc_value};
+ghost use Rattle.queue_actor.specs.Serving.{AllServed};
 
 use super::*;
-use queue_core::{Maximum, Offer};
+use desk::Gate;
+use queue_core::{Maximum, Offer, Parcel};
 use std::collections::VecDeque;
 use std::process::Abort;
 
 /// A mail whose answer goes to a numbered slot.
 pub(super) type Numbered = Mail<NoPress, u64>;
 
-/// Mails that come one after another, and no more.
+/// Mails that come one after another, and no more, and the answers that were given, each beside its slot.
 #[derive(Drop)]
 pub(super) struct Script {
-    pub(super) mails: VecDeque<Numbered>,
+    mails: VecDeque<Numbered>,
+    given: Vec<(u64, Answer<NoPress>)>,
+    /// Whether all answers are there: one is lost where there is no memory for it.
+    is_whole: bool,
 }
 
-impl Inbox<Numbered> for Script {
-    ghost brought = { λ _ _. Unit {0} };
+impl Inbox<Numbered, u64, Answer<NoPress>> for Script {
+    ghost brings = { λ before mail after. (before.mails.items ≡ mail ∷ after.mails.items) × (after.given.items ≡ before.given.items) × (after.is_whole ≡ before.is_whole) };
 
-    ghost over = { λ _. Unit {0} };
+    ghost is_over = { λ before after. (before.mails.items ≡ []) × (after.mails.items ≡ before.mails.items) × (after.given.items ≡ before.given.items) × (after.is_whole ≡ before.is_whole) };
+
+    ghost gives = { λ before slot answer after. (after.mails.items ≡ before.mails.items) × (after.is_whole ≡ true → (before.is_whole ≡ true) × (after.given.items ≡ before.given.items ++ (slot, answer) ∷ [])) };
 
     fn next<R: Wait>(&mut self, _rt: &R) -> Option<Numbered> {
         self.mails.pop_front()
     }
-}
-
-/// The answers that were given, each beside its slot.
-#[derive(Drop)]
-pub(super) struct Kept {
-    pub(super) given: Vec<(u64, Answer<NoPress>)>,
-    /// How many were lost for want of memory.
-    pub(super) lost: u64,
-}
-
-impl Replies<u64, Answer<NoPress>> for Kept {
-    ghost gave = { λ _ _. Unit {0} };
 
     fn give(&mut self, slot: u64, answer: Answer<NoPress>) {
         if self.given.push((slot, answer)).is_err() {
-            self.lost = self.lost.saturating_add(1);
+            self.is_whole = false;
         }
+    }
+}
+
+/// Runs an actor over mails that come one after another. The answers are all that it gave, each beside its
+/// slot, in the order in which it gave them; `OutOfMemory` where there was no memory to keep one.
+pub(super) fn serve_all<D: Targets, R: Wait>(
+    rt: &R,
+    alloc: Global,
+    actor: &mut Actor<NoPress>,
+    mails: VecDeque<Numbered>,
+    targets: &D,
+) -> Result<Vec<(u64, Answer<NoPress>)>, Fault>
+    ensures { IfOk result (λ given. AllServed (D.was_told targets.now) actor.old.limits.in_flight actor.old.pass mails.items given.items actor.new.pass) }
+{
+    let mut script = Script {
+        mails,
+        given: Vec::new(alloc),
+        is_whole: true,
+    };
+    actor.run(rt, alloc, &mut script, targets, &NoGate);
+    if script.is_whole {
+        Ok(script.given)
+    } else {
+        Err(Fault::OutOfMemory)
+    }
+}
+
+/// Queues that are all told the same of every parcel.
+#[derive(Clone, Copy)]
+pub(super) struct Everywhere {
+    pub(super) delivery: Delivery<()>,
+}
+
+impl Targets for Everywhere {
+    type Receipt = ();
+
+    ghost was_told = { λ targets at parcel delivery. delivery ≡ targets.delivery };
+
+    fn deliver<R: Wait, G: Gate>(
+        &self,
+        _rt: &R,
+        _alloc: Global,
+        _at: Moment,
+        _parcel: Parcel,
+        _gate: &G,
+    ) -> Delivery<()> {
+        self.delivery
+    }
+}
+
+/// A clock that ticks every 100 milliseconds up to a moment.
+#[derive(Drop)]
+pub(super) struct Beats {
+    pub(super) next: u64,
+    pub(super) last: u64,
+}
+
+impl Beat for Beats {
+    fn next(&mut self) -> Option<Moment> {
+        if self.last < self.next {
+            return None;
+        }
+        let at = Moment::new(self.next);
+        self.next = self.next.saturating_add(100);
+        at
     }
 }
 
@@ -177,32 +237,26 @@ fn told_answers(alloc: Global, given: &[(u64, Answer<NoPress>)]) -> Result<Strin
 /// A directory of the limits.
 pub(super) type Listed = Directory<NoPress, u64>;
 
-/// Runs an actor over the mails that a text says, and asserts its answers, in the order in which it gave
-/// them.
-pub(super) fn serve_script<R: Wait + Abort>(
+/// Runs an actor of a queue under limits over the mails that a text says, and asserts its answers, in the
+/// order in which it gave them.
+pub(super) fn serve_script<D: Targets, R: Wait + Abort>(
     rt: &R,
     alloc: Global,
-    directory: &Listed,
+    targets: &D,
     desk: &Arc<Desk<NoPress>>,
     pass: &mut Pass<NoPress>,
+    limits: Limits,
     text: &str,
     wanted: &str,
 ) -> Result<(), Fail>
-    requires { pass.old.desk ≡ arc_value desk.now }
+    requires { (pass.old.desk ≡ arc_value desk.now) × (pass.old.start.limits ≡ limits) }
     ensures { pass.new ≡ pass.old }
 {
-    let mut script = Script {
-        mails: mails_of(alloc, desk, pass, text)?,
-    };
-    let mut kept = Kept {
-        given: Vec::new(alloc),
-        lost: 0,
-    };
+    let mails = mails_of(alloc, desk, pass, text)?;
     let own = desk.pass(pass);
-    let mut actor = Actor::new(Arc::try_clone(desk)?, own);
-    actor.run(rt, alloc, &mut script, &mut kept, directory, &NoGate);
-    assert_eq!(rt; kept.lost, 0);
-    let given = told_answers(alloc, kept.given.as_slice())?;
+    let mut actor = Actor::new(Arc::try_clone(desk)?, own, limits);
+    let given = serve_all(rt, alloc, &mut actor, mails, targets)?;
+    let given = told_answers(alloc, given.as_slice())?;
     assert_eq!(rt; given.as_str(), wanted);
     Ok(())
 }
@@ -218,7 +272,7 @@ pub(super) fn call_desk<R: Wait + Abort>(
     wanted: &str,
 ) -> Result<(), Fail>
     requires { pass.old.desk ≡ arc_value desk.now }
-    ensures { pass.new.desk ≡ pass.old.desk }
+    ensures { (pass.new.desk ≡ pass.old.desk) × (pass.new.start ≡ pass.old.start) }
 {
     let command = command(alloc, call)?;
     let asked = desk.ask(rt, alloc, pass, moment(at)?, &command, &NoGate);

@@ -3,6 +3,7 @@
 ghost use Rattle.std.specs.Prelude.{◌≡◌};
 ghost use Rattle.std.specs.Arc.{arc_value};
 
+use super::fakes::Beats;
 use super::*;
 use std::process::Abort;
 
@@ -12,28 +13,10 @@ type Shared = Directory<NoPress, oneshot::Sender<Answer<NoPress>>>;
 /// A queue that is served, as its callers have it.
 type Client = Served<NoPress, oneshot::Sender<Answer<NoPress>>>;
 
-/// A clock that ticks every 100 milliseconds up to a moment.
-#[derive(Drop)]
-struct Beats {
-    next: u64,
-    last: u64,
-}
-
-impl Beat for Beats {
-    fn next(&mut self) -> Option<Moment> {
-        if self.last < self.next {
-            return None;
-        }
-        let at = Moment::new(self.next);
-        self.next = self.next.saturating_add(100);
-        at
-    }
-}
-
 /// A queue that is served at a desk of its own under a uid, with a mailbox and what takes mail from it.
 fn client(rt: &HostRuntime, uid: u64) -> Result<(Client, Receiver<Letter>), Fail> {
     let alloc = rt.alloc();
-    let (desk, pass) = desk(rt, alloc)?;
+    let (desk, pass) = opened(rt, alloc, uid, Settings::default(), Limits::default())?;
     let (mailbox, mails) = unbounded::<Letter, Global>(alloc)?;
     Ok((Served::new(uid, desk, pass, mailbox), mails))
 }
@@ -56,18 +39,22 @@ fn has_three_ticks<R: Wait + Abort>(rt: &R, mails: &Receiver<Letter>) -> Result<
 }
 
 /// Every queue that is served is told each moment of the clock, and one that is not there any more is
-/// not.
+/// not. An actor that has ended does not keep the others from it.
 #[test]
 fn actors_are_told_the_time(rt: HostRuntime) -> Result<(), Fail> {
     let alloc = rt.alloc();
     let directory = Shared::new(alloc, Limits::default())?;
     let first = directory.enter(&rt, alloc, QueueName::read("first")?)?;
     let gone = directory.enter(&rt, alloc, QueueName::read("gone")?)?;
+    let ended = directory.enter(&rt, alloc, QueueName::read("ended")?)?;
     let last = directory.enter(&rt, alloc, QueueName::read("last")?)?;
     let (served, mails_of_first) = client(&rt, first)?;
     directory.serve(&rt, served, 0)?;
     let (served, mails_of_gone) = client(&rt, gone)?;
     directory.serve(&rt, served, 0)?;
+    let (served, mails_of_ended) = client(&rt, ended)?;
+    directory.serve(&rt, served, 0)?;
+    drop(mails_of_ended);
     let (served, mails_of_last) = client(&rt, last)?;
     directory.serve(&rt, served, 0)?;
     assert!(rt; directory.remove(&rt, gone));
@@ -109,6 +96,31 @@ fn names_are_found_while_they_are_served(rt: HostRuntime) -> Result<(), Fail> {
         Err(Fault::QueueDoesNotExist)
     );
     assert_eq!(rt; directory.enter(&rt, alloc, name)?, 2);
+    Ok(())
+}
+
+/// Of two queues each is found by its own name and by its own uid, with its own mailbox.
+#[test]
+fn each_name_has_its_own_queue(rt: HostRuntime) -> Result<(), Fail> {
+    let alloc = rt.alloc();
+    let directory = Shared::new(alloc, Limits::default())?;
+    let (first, second) = (QueueName::read("first")?, QueueName::read("second")?);
+    let uid = directory.enter(&rt, alloc, first)?;
+    let (served, mails_of_first) = client(&rt, uid)?;
+    directory.serve(&rt, served, 0)?;
+    let uid = directory.enter(&rt, alloc, second)?;
+    let (served, mails_of_second) = client(&rt, uid)?;
+    directory.serve(&rt, served, 0)?;
+    assert_eq!(rt; directory.uid_of(&rt, &first), Some(1));
+    assert_eq!(rt; directory.uid_of(&rt, &second), Some(2));
+    let found = directory.find(&rt, &second)?.ok_or("the queue")?;
+    assert_eq!(rt; found.uid, 2);
+    let _ = found.mailbox.send(&rt, Mail::Tick(moment(100)?));
+    let found = directory.find_uid(&rt, 1)?.ok_or("the queue")?;
+    let _ = found.mailbox.send(&rt, Mail::Tick(moment(200)?));
+    assert_eq!(rt; tick_of(mails_of_second.try_recv(&rt)?), Some(100));
+    assert!(rt; mails_of_second.try_recv(&rt).is_err());
+    assert_eq!(rt; tick_of(mails_of_first.try_recv(&rt)?), Some(200));
     Ok(())
 }
 

@@ -2,82 +2,63 @@
 
 ghost use Rattle.std.specs.Prelude.{◌≡◌, IfOk};
 ghost use Rattle.std.specs.Arc.{arc_value};
+ghost use Rattle.queue_config.specs.Limits.{default_limits};
 
-use super::fakes::{Listed, call_desk, serve_script};
+use super::fakes::{Everywhere, Listed, call_desk, serve_script};
 use super::*;
 use queue_config::Wish;
+use std::process::Abort;
 
 /// A message leaves after one receive.
 const POLICY: &str =
     r#"{"deadLetterTargetArn":"arn:aws:sqs:elasticmq:000000000000:dead","maxReceiveCount":1}"#;
 
-/// A desk of the queue `jobs` of uid 2, whose dead-letter queue has the uid 1 and whose timeout is a
-/// second.
-fn jobs(rt: &HostRuntime, alloc: Global) -> Result<(Arc<Desk<NoPress>>, Pass<NoPress>), Fault>
-    ensures { IfOk result (λ r. r.1.desk ≡ arc_value r.0) }
-{
+/// The settings of a queue whose dead-letter queue has the uid 1 and whose timeout is a second.
+pub(super) fn policy_settings(alloc: Global) -> Result<Settings, Fault> {
     let mut wish = Wish::new();
     wish.put(alloc, "VisibilityTimeout", "1")?;
     wish.put(alloc, "RedrivePolicy", POLICY)?;
-    let state = QueueState::open(
-        alloc,
-        2,
-        QueueName::read("jobs")?,
-        Settings::default().with(&wish, 1),
-        Limits::default(),
-        Vec::new(alloc),
-        Moment::zero(),
-    )?;
-    let (desk, pass) = Desk::new(rt, alloc, state, NoPress)?;
-    Ok((Arc::new(alloc, desk)?, pass))
+    Ok(Settings::default().with(&wish, 1))
 }
 
-/// A desk of the queue `dead` of uid 1, which keeps messages for a minute.
-fn dead(rt: &HostRuntime, alloc: Global) -> Result<(Arc<Desk<NoPress>>, Pass<NoPress>), Fault>
-    ensures { IfOk result (λ r. r.1.desk ≡ arc_value r.0) }
+/// A desk of the queue `jobs` of uid 2 with these settings.
+fn jobs(rt: &HostRuntime, alloc: Global) -> Result<(Arc<Desk<NoPress>>, Pass<NoPress>), Fault>
+    ensures { IfOk result (λ r. (r.1.desk ≡ arc_value r.0) × (r.1.start.uid ≡ 2) × (r.1.start.limits ≡ default_limits)) }
 {
-    dead_under(rt, alloc, Limits::default())
+    opened(rt, alloc, 2, policy_settings(alloc)?, Limits::default())
 }
 
-/// The same under limits.
-fn dead_under(
+/// A desk of the queue `dead` of uid 1 under limits, which keeps messages for a minute.
+fn dead(
     rt: &HostRuntime,
     alloc: Global,
     limits: Limits,
 ) -> Result<(Arc<Desk<NoPress>>, Pass<NoPress>), Fault>
-    ensures { IfOk result (λ r. r.1.desk ≡ arc_value r.0) }
+    ensures { IfOk result (λ r. (r.1.desk ≡ arc_value r.0) × (r.1.start.uid ≡ 1)) }
 {
     let mut wish = Wish::new();
     wish.put(alloc, "MessageRetentionPeriod", "60")?;
-    let state = QueueState::open(
-        alloc,
-        1,
-        QueueName::read("dead")?,
-        Settings::default().with(&wish, 0),
-        limits,
-        Vec::new(alloc),
-        Moment::zero(),
-    )?;
-    let (desk, pass) = Desk::new(rt, alloc, state, NoPress)?;
-    Ok((Arc::new(alloc, desk)?, pass))
+    let settings = Settings::default().with(&wish, 0);
+    opened(rt, alloc, 1, settings, limits)
 }
 
-/// Enters a name, and serves its queue at a desk.
-fn serve_at<R: Wait>(
+/// Enters a name, which gets a uid, and serves its queue at a desk.
+fn serve_at<R: Wait + Abort>(
     rt: &R,
     alloc: Global,
     directory: &Listed,
     name: &str,
+    uid: u64,
     desk: &Arc<Desk<NoPress>>,
     pass: &mut Pass<NoPress>,
     target: u64,
-) -> Result<u64, Fault>
-    requires { pass.old.desk ≡ arc_value desk.now }
+) -> Result<(), Fail>
+    requires { (pass.old.desk ≡ arc_value desk.now) × (pass.old.start.uid ≡ uid) }
     ensures { pass.new ≡ pass.old }
 {
-    let uid = directory.enter(rt, alloc, QueueName::read(name)?)?;
+    assert_eq!(rt; directory.enter(rt, alloc, QueueName::read(name)?)?, uid);
     serve_under(rt, alloc, directory, uid, desk, pass, target)?;
-    Ok(uid)
+    Ok(())
 }
 
 /// Serves the queue of a uid that was entered at a desk.
@@ -90,7 +71,7 @@ fn serve_under<R: Wait>(
     pass: &mut Pass<NoPress>,
     target: u64,
 ) -> Result<(), Fault>
-    requires { pass.old.desk ≡ arc_value desk.now }
+    requires { (pass.old.desk ≡ arc_value desk.now) × (pass.old.start.uid ≡ uid) }
     ensures { pass.new ≡ pass.old }
 {
     let (mailbox, _) = unbounded(alloc)?;
@@ -104,22 +85,41 @@ const MAILS: &str = "1000 send a\n3000 receive 1\n5000 receive 1\nend";
 
 const ANSWERS: &str = "0: sent 0\n1: offered 0.1 a of 1000\n2: offered\n";
 
+/// Runs the actor of `jobs` over mails, and asserts its answers.
+fn serve_jobs<D: Targets, R: Wait + Abort>(
+    rt: &R,
+    alloc: Global,
+    targets: &D,
+    jobs: &Arc<Desk<NoPress>>,
+    pass: &mut Pass<NoPress>,
+    text: &str,
+    wanted: &str,
+) -> Result<(), Fail>
+    requires { (pass.old.desk ≡ arc_value jobs.now) × (pass.old.start.limits ≡ default_limits) }
+    ensures { pass.new ≡ pass.old }
+{
+    serve_script(
+        rt,
+        alloc,
+        targets,
+        jobs,
+        pass,
+        Limits::default(),
+        text,
+        wanted,
+    )
+}
+
 /// A dead letter goes to its queue, where it is there.
 #[test]
 fn a_dead_letter_arrives(rt: HostRuntime) -> Result<(), Fail> {
     let alloc = rt.alloc();
     let directory = Listed::new(alloc, Limits::default())?;
-    let (dead, mut of_dead) = dead(&rt, alloc)?;
+    let (dead, mut of_dead) = dead(&rt, alloc, Limits::default())?;
     let (jobs, mut of_jobs) = jobs(&rt, alloc)?;
-    assert_eq!(rt;
-        serve_at(&rt, alloc, &directory, "dead", &dead, &mut of_dead, 0)?,
-        1
-    );
-    assert_eq!(rt;
-        serve_at(&rt, alloc, &directory, "jobs", &jobs, &mut of_jobs, 1)?,
-        2
-    );
-    serve_script(&rt, alloc, &directory, &jobs, &mut of_jobs, MAILS, ANSWERS)?;
+    serve_at(&rt, alloc, &directory, "dead", 1, &dead, &mut of_dead, 0)?;
+    serve_at(&rt, alloc, &directory, "jobs", 2, &jobs, &mut of_jobs, 1)?;
+    serve_jobs(&rt, alloc, &directory, &jobs, &mut of_jobs, MAILS, ANSWERS)?;
     let look = "1 visible, 2 entries at 5000";
     call_desk(&rt, alloc, &dead, &mut of_dead, 5000, "look", look)?;
     call_desk(&rt, alloc, &jobs, &mut of_jobs, 5000, "parcel", "no parcel")?;
@@ -132,13 +132,13 @@ fn a_dead_letter_arrives(rt: HostRuntime) -> Result<(), Fail> {
 fn a_dead_letter_comes_back(rt: HostRuntime) -> Result<(), Fail> {
     let alloc = rt.alloc();
     let directory = Listed::new(alloc, Limits::default())?;
-    let (dead, mut of_dead) = dead(&rt, alloc)?;
+    let (dead, mut of_dead) = dead(&rt, alloc, Limits::default())?;
     let (jobs, mut of_jobs) = jobs(&rt, alloc)?;
-    let uid = serve_at(&rt, alloc, &directory, "dead", &dead, &mut of_dead, 0)?;
-    serve_at(&rt, alloc, &directory, "jobs", &jobs, &mut of_jobs, uid)?;
-    assert!(rt; directory.remove(&rt, uid));
-    assert!(rt; !directory.remove(&rt, uid));
-    serve_script(&rt, alloc, &directory, &jobs, &mut of_jobs, MAILS, ANSWERS)?;
+    serve_at(&rt, alloc, &directory, "dead", 1, &dead, &mut of_dead, 0)?;
+    serve_at(&rt, alloc, &directory, "jobs", 2, &jobs, &mut of_jobs, 1)?;
+    assert!(rt; directory.remove(&rt, 1));
+    assert!(rt; !directory.remove(&rt, 1));
+    serve_jobs(&rt, alloc, &directory, &jobs, &mut of_jobs, MAILS, ANSWERS)?;
     call_desk(&rt, alloc, &jobs, &mut of_jobs, 5000, "parcel", "no parcel")?;
     let look = "1 visible, 5 entries at 5000";
     call_desk(&rt, alloc, &jobs, &mut of_jobs, 5000, "look", look)
@@ -149,12 +149,12 @@ fn a_dead_letter_comes_back(rt: HostRuntime) -> Result<(), Fail> {
 fn a_dead_letter_of_a_closed_queue_comes_back(rt: HostRuntime) -> Result<(), Fail> {
     let alloc = rt.alloc();
     let directory = Listed::new(alloc, Limits::default())?;
-    let (dead, mut of_dead) = dead(&rt, alloc)?;
+    let (dead, mut of_dead) = dead(&rt, alloc, Limits::default())?;
     let (jobs, mut of_jobs) = jobs(&rt, alloc)?;
-    serve_at(&rt, alloc, &directory, "dead", &dead, &mut of_dead, 0)?;
-    serve_at(&rt, alloc, &directory, "jobs", &jobs, &mut of_jobs, 1)?;
+    serve_at(&rt, alloc, &directory, "dead", 1, &dead, &mut of_dead, 0)?;
+    serve_at(&rt, alloc, &directory, "jobs", 2, &jobs, &mut of_jobs, 1)?;
     call_desk(&rt, alloc, &dead, &mut of_dead, 2000, "close", "done")?;
-    serve_script(&rt, alloc, &directory, &jobs, &mut of_jobs, MAILS, ANSWERS)?;
+    serve_jobs(&rt, alloc, &directory, &jobs, &mut of_jobs, MAILS, ANSWERS)?;
     let look = "1 visible, 5 entries at 5000";
     call_desk(&rt, alloc, &jobs, &mut of_jobs, 5000, "look", look)
 }
@@ -169,11 +169,11 @@ fn a_refused_dead_letter_waits(rt: HostRuntime) -> Result<(), Fail> {
         ..Limits::default()
     };
     let directory = Listed::new(alloc, Limits::default())?;
-    let (dead, mut of_dead) = dead_under(&rt, alloc, full)?;
+    let (dead, mut of_dead) = dead(&rt, alloc, full)?;
     let (jobs, mut of_jobs) = jobs(&rt, alloc)?;
-    serve_at(&rt, alloc, &directory, "dead", &dead, &mut of_dead, 0)?;
-    serve_at(&rt, alloc, &directory, "jobs", &jobs, &mut of_jobs, 1)?;
-    serve_script(&rt, alloc, &directory, &jobs, &mut of_jobs, MAILS, ANSWERS)?;
+    serve_at(&rt, alloc, &directory, "dead", 1, &dead, &mut of_dead, 0)?;
+    serve_at(&rt, alloc, &directory, "jobs", 2, &jobs, &mut of_jobs, 1)?;
+    serve_jobs(&rt, alloc, &directory, &jobs, &mut of_jobs, MAILS, ANSWERS)?;
     let look = "0 visible, 4 entries at 5000";
     call_desk(&rt, alloc, &jobs, &mut of_jobs, 5000, "look", look)
 }
@@ -183,16 +183,16 @@ fn a_refused_dead_letter_waits(rt: HostRuntime) -> Result<(), Fail> {
 fn a_dead_letter_waits_for_its_queue(rt: HostRuntime) -> Result<(), Fail> {
     let alloc = rt.alloc();
     let directory = Listed::new(alloc, Limits::default())?;
-    let uid = directory.enter(&rt, alloc, QueueName::read("dead")?)?;
+    assert_eq!(rt; directory.enter(&rt, alloc, QueueName::read("dead")?)?, 1);
     let (jobs, mut of_jobs) = jobs(&rt, alloc)?;
-    serve_at(&rt, alloc, &directory, "jobs", &jobs, &mut of_jobs, uid)?;
-    serve_script(&rt, alloc, &directory, &jobs, &mut of_jobs, MAILS, ANSWERS)?;
+    serve_at(&rt, alloc, &directory, "jobs", 2, &jobs, &mut of_jobs, 1)?;
+    serve_jobs(&rt, alloc, &directory, &jobs, &mut of_jobs, MAILS, ANSWERS)?;
     let look = "0 visible, 4 entries at 5000";
     call_desk(&rt, alloc, &jobs, &mut of_jobs, 5000, "look", look)?;
-    let (dead, mut of_dead) = dead(&rt, alloc)?;
-    serve_under(&rt, alloc, &directory, uid, &dead, &mut of_dead, 0)?;
+    let (dead, mut of_dead) = dead(&rt, alloc, Limits::default())?;
+    serve_under(&rt, alloc, &directory, 1, &dead, &mut of_dead, 0)?;
     let answers = "0: 0 visible, 4 entries at 6000\n";
-    serve_script(
+    serve_jobs(
         &rt,
         alloc,
         &directory,
@@ -203,4 +203,23 @@ fn a_dead_letter_waits_for_its_queue(rt: HostRuntime) -> Result<(), Fail> {
     )?;
     let look = "1 visible, 2 entries at 6000";
     call_desk(&rt, alloc, &dead, &mut of_dead, 6000, "look", look)
+}
+
+/// A dead letter is confirmed where its delivery says that it was accepted, comes back where its queue is
+/// gone, and waits where it was refused.
+#[test]
+fn dead_letters_go_by_their_delivery(rt: HostRuntime) -> Result<(), Fail> {
+    let alloc = rt.alloc();
+    let cases = [
+        (Delivery::Accepted(()), "0 visible, 5 entries at 5000"),
+        (Delivery::Gone, "1 visible, 5 entries at 5000"),
+        (Delivery::Refused, "0 visible, 4 entries at 5000"),
+    ];
+    for (delivery, look) in cases {
+        let (jobs, mut of_jobs) = jobs(&rt, alloc)?;
+        let targets = Everywhere { delivery };
+        serve_jobs(&rt, alloc, &targets, &jobs, &mut of_jobs, MAILS, ANSWERS)?;
+        call_desk(&rt, alloc, &jobs, &mut of_jobs, 5000, "look", look)?;
+    }
+    Ok(())
 }

@@ -9,20 +9,9 @@ use std::process::Abort;
 
 /// A desk of a fresh queue under limits, to be shared, and its first pass.
 fn fresh(rt: &HostRuntime, limits: Limits) -> Result<(Arc<Desk<NoPress>>, Pass<NoPress>), Fault>
-    ensures { IfOk result (λ r. r.1.desk ≡ arc_value r.0) }
+    ensures { IfOk result (λ r. (r.1.desk ≡ arc_value r.0) × (r.1.start.limits ≡ limits)) }
 {
-    let alloc = rt.alloc();
-    let state = QueueState::open(
-        alloc,
-        1,
-        QueueName::read("jobs")?,
-        Settings::default(),
-        limits,
-        Vec::new(alloc),
-        Moment::zero(),
-    )?;
-    let (desk, pass) = Desk::new(rt, alloc, state, NoPress)?;
-    Ok((Arc::new(alloc, desk)?, pass))
+    opened(rt, rt.alloc(), 1, Settings::default(), limits)
 }
 
 /// Runs an actor of a desk under limits over a script, and asserts its answers.
@@ -34,11 +23,13 @@ fn serve<R: Wait + Abort>(
     text: &str,
     wanted: &str,
 ) -> Result<(), Fail>
-    requires { served.1.desk ≡ arc_value served.0 }
+    requires { (served.1.desk ≡ arc_value served.0) × (served.1.start.limits ≡ limits) }
 {
     let (desk, mut pass) = served;
     let directory = Listed::new(alloc, limits)?;
-    serve_script(rt, alloc, &directory, &desk, &mut pass, text, wanted)
+    serve_script(
+        rt, alloc, &directory, &desk, &mut pass, limits, text, wanted,
+    )
 }
 
 /// A send wakes a poll, which is answered behind it with the message that was sent.
@@ -112,6 +103,24 @@ fn a_poll_at_the_in_flight_limit_is_refused(rt: HostRuntime) -> Result<(), Fail>
         fresh(&rt, limits)?,
         "0 send a\n0 receive 1\n100 receive 1 until 5000\n200 look\nend",
         "0: sent 0\n1: offered 0.1 a of 0\n2: OverLimit\n3: 0 visible, 4 entries at 200\n",
+    )
+}
+
+/// The limit is reached while two polls wait: the first gets the message that was sent, and the second is
+/// refused at once.
+#[test]
+fn the_limit_is_reached_under_a_poll(rt: HostRuntime) -> Result<(), Fail> {
+    let limits = Limits {
+        in_flight: 1,
+        ..Limits::default()
+    };
+    serve(
+        &rt,
+        rt.alloc(),
+        limits,
+        fresh(&rt, limits)?,
+        "0 receive 1 until 5000\n0 receive 1 until 5000\n100 send a\n200 look\nend",
+        "2: sent 0\n0: offered 0.1 a of 100\n1: OverLimit\n3: 0 visible, 4 entries at 200\n",
     )
 }
 

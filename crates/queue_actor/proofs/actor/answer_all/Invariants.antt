@@ -6,4 +6,4 @@ abbrev pub decreases-loop-poll : goal.decreases-loop-poll
 decreases-loop-poll g l = deque_len l.parked
 
 abbrev pub invariant-loop-poll : goal.invariant-loop-poll
-invariant-loop-poll g l = Answering g.C.Replies.gave l.at l.fn.parked.items l.fn.replies l.parked.items l.replies
+invariant-loop-poll g l = Answering g.I.Inbox.gives l.at l.fn.parked.items l.fn.mailbox l.parked.items l.mailbox

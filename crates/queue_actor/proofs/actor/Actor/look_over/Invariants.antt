@@ -4,4 +4,4 @@ use Rattle.queue_actor.proofs.actor.Actor.look_over.Given as goal
 
 abbrev pub invariant-loop : goal.invariant-loop
 invariant-loop g l =
-    Looking g.C.Replies.gave l.limit l.at l.fn.self.pass l.fn.parked.items l.fn.replies l.quiet l.self.pass l.parked.items l.replies (l.end - l.counter)
+    Looking g.I.Inbox.gives l.limit l.at l.fn.self.pass l.fn.parked.items l.fn.mailbox l.quiet l.self.pass l.parked.items l.mailbox (l.end - l.counter)
