@@ -1,12 +1,20 @@
-# `make test` is the gate: it proves every crate from nothing, tries the edits that the prover must
-# refuse, and runs every test. `make wrong-bodies` tries the edits that the gate leaves out; with
-# CRATE=name those of one crate. `make run` proves and builds the replay and runs it on its stored
-# example; `make try` runs the same with no proof. `make refuse` runs the tests of refused memory
-# once for each allocation. `make times` runs the gate and prints what took how long.
-.PHONY: test wrong-bodies run try refuse times
+# `make test` is what each commit must pass: the edits can be applied, each crate has a verdict that holds, and all tests pass. It takes
+# minutes where the verdicts hold. `make prove` proves everything from nothing, and writes every verdict anew. `make verdicts` says which
+# hold. `make run` proves and builds the replay and runs it on its stored example; `make try` runs the same with no proof. `make
+# wrong-bodies` tries the edits that the gate leaves out; with CRATE=name those of one crate. `make refuse` runs the tests of refused
+# memory once for each allocation. `make table` puts what the verdicts say into docs/PROOFS.md.
+.PHONY: test prove verdicts table wrong-bodies run try refuse
 test:
-	tools/check-edits
-	rt ci
+	tools/test
+
+prove:
+	tools/gate --all
+
+verdicts:
+	tools/gate --list
+
+table:
+	tools/gate --paste
 
 wrong-bodies:
 	tools/wrong-bodies $(CRATE)
@@ -19,8 +27,3 @@ try:
 
 refuse:
 	tools/refuse-allocations
-
-times:
-	mkdir -p out
-	tools/gate-times run out/gate-times.log
-	tools/gate-times out/gate-times.log
