@@ -29,7 +29,8 @@ fn two_threads(rt: HostRuntime) -> Result<(), Fail> {
     );
     let all = all_of(&rt, alloc, both.as_slice())?;
     assert_eq!(rt; all.sent.as_slice(), [0, 1].as_slice());
-    assert_eq!(rt; (all.least_seen, all.most_seen), (1, 2));
+    assert!(rt; all.least_seen >= 1);
+    assert_eq!(rt; all.most_seen, 2);
     for caller in both.iter_mut() {
         caller.look(&rt, alloc, 0)?;
         assert_eq!(rt; caller.seen, 2);
