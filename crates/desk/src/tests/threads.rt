@@ -46,7 +46,7 @@ fn two_threads(rt: HostRuntime) -> Result<(), Fail> {
 const ROUNDS: u64 = 3;
 
 /// How many messages a thread sends in a round.
-const SENDS: u64 = 82;
+const SENDS: u64 = 8;
 
 /// One round: sends, and a receive. Two of the eight threads receive for no time, so that what they were
 /// offered stays visible, and six delete a message of those that they were offered.
@@ -150,7 +150,7 @@ fn receipts_have_no_gap(rt: &impl Abort, offered: &[(u64, u64)]) {
     }
 }
 
-/// Two thousand calls of eight threads: 1968 sends, 24 receives that each offer two messages, and 18
+/// Many calls of eight threads: 192 sends, 24 receives that each offer two messages, and 18
 /// deletions, all of them accepted. The journal has each of them once, behind the opening.
 #[test]
 fn eight_threads(rt: HostRuntime) -> Result<(), Fail> {
@@ -169,15 +169,15 @@ fn eight_threads(rt: HostRuntime) -> Result<(), Fail> {
     drop(eight);
     assert_eq!(rt;
         (all.accepted, all.sent.len(), all.offered.len()),
-        (2010, 1968, 48)
+        (234, 192, 48)
     );
     have_no_gap(&rt, all.sent.as_slice());
     receipts_have_no_gap(&rt, all.offered.as_slice());
-    assert_eq!(rt; desk.glance(&mut pass), 2010);
+    assert_eq!(rt; desk.glance(&mut pass), 234);
     let mut state = desk.close(&rt, pass)?;
     let look = state.look(Moment::zero(), &mut Ticks::new(&rt));
-    assert_eq!(rt; (look.lines, state.message_count()), (2011, 1968));
-    assert_eq!(rt; (look.gauges.visible, look.gauges.in_flight), (1932, 18));
+    assert_eq!(rt; (look.lines, state.message_count()), (235, 192));
+    assert_eq!(rt; (look.gauges.visible, look.gauges.in_flight), (156, 18));
     assert_eq!(rt; look.clock, moment(2)?);
     Ok(())
 }
