@@ -1,9 +1,27 @@
+# `make run` proves and builds the server and starts it with a small configuration; Ctrl-C ends it. `make replay` proves and builds the
+# replay and runs it on its stored example; `make try` runs the same with no proof. `make install` puts both programs into PREFIX/bin.
 # `make test` is what each commit must pass: the edits can be applied, each crate has a verdict that holds, and all tests pass. It takes
 # minutes where the verdicts hold. `make prove` proves everything from nothing, and writes every verdict anew. `make verdicts` says which
-# hold. `make run` proves and builds the replay and runs it on its stored example; `make try` runs the same with no proof. `make
+# hold. `make clients` tours the server that `make run` built, with boto3 and the AWS command line; `make rate` times it. `make
 # wrong-bodies` tries the edits that the gate leaves out; with CRATE=name those of one crate. `make refuse` runs the tests of refused
 # memory once for each allocation. `make table` puts what the verdicts say into docs/PROOFS.md.
-.PHONY: test prove verdicts table wrong-bodies run try refuse
+.PHONY: run replay try install test prove verdicts table clients rate wrong-bodies refuse
+PREFIX ?= /usr/local
+
+run:
+	@echo 'The server is proved and built first, where it has changed: up to an hour at its first run.'
+	@echo 'Then it listens at http://localhost:9324 until Ctrl-C ends it.'
+	cd crates/sqs_server && rt run -- example.toml
+
+replay:
+	cd crates/sqs_replay && rt run < stdin
+
+try:
+	cd crates/sqs_replay && rt try < stdin
+
+install:
+	tools/install $(DESTDIR)$(PREFIX)
+
 test:
 	tools/test
 
@@ -16,14 +34,14 @@ verdicts:
 table:
 	tools/gate --paste
 
+clients:
+	clients/run.sh
+
+rate:
+	clients/run.sh rate
+
 wrong-bodies:
 	tools/wrong-bodies $(CRATE)
-
-run:
-	cd crates/sqs_replay && rt run < stdin
-
-try:
-	cd crates/sqs_replay && rt try < stdin
 
 refuse:
 	tools/refuse-allocations

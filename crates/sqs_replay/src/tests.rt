@@ -1,13 +1,9 @@
 //! Replays in memory, and what a refused allocation leaves.
 
-mod attributes;
 mod batches;
 mod devices;
 mod lines;
-mod messages;
 mod program;
-mod queues;
-mod statistics;
 
 use super::{Device, ReplayFault, replay};
 use journal::Ticks;
@@ -43,40 +39,6 @@ fn agrees(rt: &HostRuntime, config: &str, input: &[u8], wanted: &str) -> Result<
     let (result, written) = replayed(rt, config, input);
     same(result, Ok(()))?;
     same(str::from_utf8(written.as_slice())?, wanted)
-}
-
-/// Asserts that the requests of each conversation of a text are answered as it says, from a
-/// configuration on. The lines of a conversation are a request and its answer by turns; those that
-/// begin with `#` say what it is about, and an empty line ends it.
-fn answers(rt: &HostRuntime, config: &str, conversations: &str) -> Result<(), Fail> {
-    let mut input = String::new(rt.alloc());
-    let mut wanted = String::new(rt.alloc());
-    let mut is_answer = false;
-    for line in conversations.lines() {
-        if line.starts_with('#') {
-            continue;
-        }
-        if line.is_empty() {
-            agrees(rt, config, input.as_bytes(), wanted.as_str())?;
-            input.clear();
-            wanted.clear();
-            continue;
-        }
-        let text = if is_answer { &mut wanted } else { &mut input };
-        text.push_str(line)?;
-        text.push('\n')?;
-        is_answer = !is_answer;
-    }
-    agrees(rt, config, input.as_bytes(), wanted.as_str())
-}
-
-/// A text with so many letters `q` in place of each `<letters>`.
-fn with_letters(rt: &HostRuntime, text: &str, letters: usize) -> Result<String, Fail> {
-    let mut word = String::new(rt.alloc());
-    for _ in 0..letters {
-        word.push('q')?;
-    }
-    Ok(text.replace(rt.alloc(), "<letters>", word.as_str())?)
 }
 
 /// A request of each kind of answer.

@@ -1,0 +1,43 @@
+#!/bin/sh
+# Starts the server that `make run` has built, has clients call it, and ends it.
+# Usage: run.sh [rate]. Without an argument the tours of boto3 and of the AWS command line; with `rate` how many sends a second it
+# answers, beside the replay and, where it is installed, nginx.
+set -eu
+cd "$(dirname "$0")/.."
+
+server=crates/sqs_server/out/sqs_server
+port=9324
+
+stop() {
+    echo "clients/run.sh: $1" >&2
+    exit 1
+}
+
+listens() {
+    python3 -c "import socket; socket.create_connection(('127.0.0.1', $port), 1).close()" 2>/dev/null
+}
+
+[ -x "$server" ] || stop "no server yet: build it by 'make run', and end that one by Ctrl-C"
+command -v python3 >/dev/null || stop "no python3: install Debian's package python3"
+if [ "${1:-tours}" = tours ]; then
+    python3 -c 'import boto3' 2>/dev/null || stop "no boto3: install Debian's package python3-boto3, of 2024 or later"
+    command -v aws >/dev/null || stop "no aws: install Debian's package awscli, of 2024 or later"
+else
+    command -v ab >/dev/null || stop "no ab: install Debian's package apache2-utils"
+fi
+! listens || stop "port $port is taken: end what listens there first"
+
+"$server" crates/sqs_server/example.toml &
+trap 'kill $! 2>/dev/null || true' EXIT
+for _ in 1 2 3 4 5 6 7 8 9 10; do
+    listens && break
+    sleep 0.2
+done
+listens || stop "the server does not listen"
+
+if [ "${1:-tours}" = tours ]; then
+    clients/tour.py
+    clients/tour.sh
+else
+    clients/rate.py
+fi

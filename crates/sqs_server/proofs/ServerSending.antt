@@ -1,0 +1,160 @@
+-- What goes between the threads of the server, for desks that print nothing. Each type by the types of its fields, so that no search goes through all of them.
+use denote.RattleType.{RattleType}
+use denote.Enum.Declared as variants
+use denote.Param.Send.{IsSend, sendable, struct_send, enum_send, recorded_send}
+use denote.Struct.Declared as parts
+use denote.Struct.Field.{unit-field}
+use Rattle.std.proofs.Crossing.{crosses}
+use Rattle.std.below.std_heap.proofs.GlobalAllocator.TheSendSync as heap
+use Rattle.std.proofs.alloc.Global.TheSendSync as global
+use Rattle.std.proofs.option.Option.TheSendSync as option
+use Rattle.crossbeam_channel.proofs.channel.Receiver.TheSendSync as channel
+use Rattle.futures.proofs.channel.oneshot.Receiver.TheSendSync as receiver
+use Rattle.desk.proofs.Sending.{pass_send, desk_send, desk_sync}
+use Rattle.desk.specs.contracts.printing.NoPress as nopress
+use Rattle.desk.specs.contracts.printing.NoPressPress.TheImpl as impl
+use Rattle.queue_actor.proofs.Sending.{future_send, mail_send}
+use Rattle.queue_actor.proofs.ActorSending.{directory_send, directory_sync}
+use Rattle.queue_actor.specs.contracts.actor.Actor as actor
+use Rattle.bytes.proofs.shared.Bytes.TheSendSync as bytes
+use Rattle.bytes.specs.contracts.shared.Bytes as shared_bytes
+use Rattle.http.specs.contracts.response.Response as response
+use Rattle.http_body_util.proofs.full.Full.TheSendSync as full
+use Rattle.http_body_util.specs.contracts.full.Full as full_body
+use Rattle.hyper.proofs.rt.TokioTimer.TheSendSync as timer
+use Rattle.hyper.proofs.server.conn.http1.Connection.TheSendSync as connection
+use Rattle.hyper.specs.contracts.error.Error as error
+use Rattle.hyper.specs.contracts.rt.TokioTimer as tokio_timer
+use Rattle.hyper.specs.contracts.server.conn.http1.Connection as served
+use Rattle.std.specs.contracts.alloc.Global as heap_handle
+use Rattle.std.specs.contracts.impls.GlobalAllocator.TheImpl as allocator
+use Rattle.tokio.proofs.net.stream.TcpStream.TheSendSync as tcp
+use Rattle.tokio.specs.contracts.net.stream.TcpStream as stream
+use Rattle.sqs_server.proofs.arriving.Arriving.TheSendSync as arriving
+use Rattle.sqs_server.proofs.door.Guest.TheSendSync as guest
+use Rattle.sqs_server.proofs.plan.Step.TheSendSync as step
+use Rattle.sqs_server.proofs.queues.Made.TheSendSync as made
+use Rattle.sqs_server.proofs.queues.Order.TheSendSync as order
+use Rattle.sqs_server.proofs.reply.Sent.TheSendSync as sent
+use Rattle.sqs_server.proofs.stage.Afterwards.TheSendSync as afterwards
+use Rattle.sqs_server.proofs.stage.Creation.TheSendSync as creation
+use Rattle.sqs_server.proofs.stage.Purpose.TheSendSync as purpose
+use Rattle.sqs_server.specs.contracts.answering.Answering as answering
+use Rattle.sqs_server.specs.contracts.door.Guest as guest_type
+use Rattle.sqs_server.specs.contracts.front.Front as front
+use Rattle.sqs_server.specs.contracts.queues.Maker as maker
+use Rattle.sqs_server.specs.contracts.queues.Queue as queue
+use Rattle.sqs_server.specs.contracts.queues.Serving as serving
+use Rattle.sqs_server.specs.contracts.stage.Exchange as exchange
+use Rattle.sqs_server.specs.contracts.stage.Stage as stage
+
+queue_send : IsSend queue.the_row
+queue_send = search (desk_send, desk_sync, pass_send, mail_send, sendable, crosses) depth 40 fits 100000
+
+exchange_field_send : IsSend (exchange.the_field).row
+exchange_field_send =
+    struct_send
+    (parts.shape exchange.the_type) (
+      search (sendable, crosses) depth 40 fits 100000,
+      (
+        search (mail_send, sendable, crosses) depth 40 fits 100000,
+        (
+          search (sendable, crosses) depth 40 fits 100000,
+          (purpose.the_field_send, (search (future_send, sendable) depth 40 fits 100000, tt)),
+        ),
+      ),
+    )
+
+stage_field_send : IsSend (stage.the_field).row
+stage_field_send =
+    enum_send
+    (variants.shape stage.the_type) (
+      (arriving.the_field_send, tt),
+      (
+        (creation.the_field_send, tt),
+        (
+          (creation.the_field_send, (receiver.the_field_send _ made.the_send, tt)),
+          (
+            (
+              search (sendable, crosses) depth 40 fits 100000,
+              (
+                option.the_field_send queue.the_row queue_send,
+                (search (sendable, crosses) depth 40 fits 100000, (step.the_field_send, tt)),
+              ),
+            ),
+            (
+              (exchange_field_send, tt),
+              (
+                (search (mail_send, sendable, crosses) depth 40 fits 100000, (afterwards.the_field_send, tt)),
+                ((sent.the_field_send, tt), (tt, tt)),
+              ),
+            ),
+          ),
+        ),
+      ),
+    )
+
+pub front_send : (T : RattleType) → IsSend T → IsSend (front.the_row T)
+front_send T s = search (directory_send, directory_sync, order.the_send, sendable, crosses) depth 40 fits 100000
+
+pub answering_send : (T : RattleType) → IsSend T → IsSend (answering.the_row T)
+answering_send T s =
+    recorded_send
+    (answering.the_field T).row
+    _
+    _
+    (answering.the_type T).to_one
+    (
+    struct_send
+    (parts.shape (answering.the_type T))
+    (global.the_field_send, (option.the_field_send (front.the_row T) (front_send T s), (stage_field_send, tt)))
+    )
+
+-- ---- connections
+
+abbrev Body : RattleType
+Body = full_body.the_row (shared_bytes.the_row heap_handle.the_row allocator.ghosts)
+
+body_send : IsSend Body
+body_send = full.the_send _ (bytes.the_send _ _ global.the_send global.the_sync heap.the_frees)
+
+abbrev Served : RattleType → RattleType
+Served T = served.the_row stream.the_row (front.the_row T) Body (tokio_timer.the_row T) (response.the_row Body) error.the_row (answering.the_row T)
+
+served_send : (T : RattleType) → IsSend T → IsSend (Served T)
+served_send T s = connection.the_send _ _ _ _ _ _ _ tcp.the_send (front_send T s) body_send (timer.the_send T s) (answering_send T s)
+
+pub caller_send : (T : RattleType) → IsSend T → IsSend (guest_type.the_row (Served T) T)
+caller_send T s = guest.the_send (Served T) T (served_send T s) s
+
+-- ---- threads of their own
+
+actor_field_send : IsSend (actor.the_field nopress.the_row (unit-field).row impl.ghosts).row
+actor_field_send = search (desk_send, desk_sync, pass_send, sendable, crosses) depth 40 fits 100000
+
+pub serving_send : (T : RattleType) → IsSend T → IsSend (serving.the_row T)
+serving_send T s =
+    recorded_send
+    (serving.the_field T).row
+    _
+    _
+    (serving.the_type T).to_one
+    (
+    struct_send
+    (parts.shape (serving.the_type T)) (
+      s,
+      (
+        global.the_field_send,
+        (
+          actor_field_send,
+          (
+            search (channel.the_send, mail_send, sendable, crosses) depth 40 fits 100000,
+            (search (directory_send, directory_sync, sendable, crosses) depth 40 fits 100000, tt),
+          ),
+        ),
+      ),
+    )
+    )
+
+pub maker_send : (T : RattleType) → IsSend T → IsSend (maker.the_row T)
+maker_send T s = search (order.the_send, channel.the_send, directory_send, directory_sync, sendable, crosses) depth 40 fits 100000

@@ -1,0 +1,5 @@
+use Rattle.std.proofs.Common.{refl, inl}
+use Rattle.sqs_server.proofs.front.Front.begins.Goals as goal
+
+pub returns-in-Ok : goal.returns-in-Ok
+returns-in-Ok g c = inl (c.in-Ok.queue, refl)

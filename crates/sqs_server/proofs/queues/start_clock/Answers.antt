@@ -1,0 +1,7 @@
+use denote.Param.Send.{sendable}
+use Rattle.std.proofs.Crossing.{crosses}
+use Rattle.queue_actor.proofs.ActorSending.{directory_send, directory_sync}
+use Rattle.sqs_server.proofs.queues.start_clock.Goals as goal
+
+pub spawn-telling-requires-send-F : goal.spawn-telling-requires-send-F
+spawn-telling-requires-send-F g c κs = search (directory_send, directory_sync, sendable, crosses) depth 40 fits 100000

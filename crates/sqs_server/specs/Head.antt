@@ -1,0 +1,29 @@
+-- What a request over HTTP asks (AWS JSON 1.0 for method and target; the limit and the order are this project's own).
+use Rattle.std.specs.Prelude.{ℕ, nat_lt, if◌then◌else◌, List, take, drop, codes, Option, Some, None, Result, Ok, Err}
+use Rattle.std.specs.Str.{bytes_eq, is_utf8}
+use Rattle.message.specs.declared.fault.Fault.{Fault}
+use Rattle.message.specs.declared.fault.Fault.TheVariants.{UnsupportedOperation}
+use Rattle.aws_json.specs.Steps.{◌>>=◌}
+use Rattle.aws_json.specs.Request.{request_of}
+use Rattle.aws_json.specs.declared.request.Request.{Request}
+use Rattle.sqs_server.specs.declared.head.Denial.{Denial}
+use Rattle.sqs_server.specs.declared.head.Denial.TheVariants.{MethodNotAllowed, BodyTooLarge}
+
+-- why a request is not looked at, by its method and by the size of its body: the method is judged first
+abbrev pub denial_of : List ℕ → ℕ → Option Denial
+denial_of method size =
+    if bytes_eq method (codes "POST") then (if nat_lt 8_388_608 size then Some BodyTooLarge else None)
+    else Some MethodNotAllowed
+
+-- the action that bytes are, where they are a text
+abbrev pub action_text : List ℕ → Result (List ℕ) Fault
+action_text action = if is_utf8 action then Ok action else Err UnsupportedOperation
+
+-- the action that a target names, behind the service's name; the target has to be there
+abbrev pub action_of : Option (List ℕ) → Result (List ℕ) Fault
+action_of None = Err UnsupportedOperation
+action_of (Some target) = if bytes_eq (take 10 target) (codes "AmazonSQS.") then action_text (drop 10 target) else Err UnsupportedOperation
+
+-- what a target and a body ask: the target is judged before the body
+abbrev pub asked_of : Option (List ℕ) → List ℕ → Result Request Fault
+asked_of target body = action_of target >>= λ action. request_of action body

@@ -1,0 +1,73 @@
+-- What the future of a response gives: a request is judged by its head, its stages follow one another, and what the last one ends with is sent.
+use Rattle.std.specs.Prelude.{◌≡◌, ◌⊎◌, ⊤, ℕ, List, [], Bool, true, false, Option, Some, None, Result, Ok, Err}
+use Rattle.http.specs.Response.{body_of, head_of}
+use Rattle.http.specs.StatusCode.{IsStatusCode}
+use Rattle.http.specs.declared.request.Parts.{Parts}
+use Rattle.http.specs.declared.response.Response.{Response}
+use Rattle.http_body_util.specs.declared.full.Full.{Full}
+use Rattle.hyper.specs.declared.error.Error.{Error}
+use Rattle.message.specs.declared.fault.Fault.TheVariants.{OutOfMemory}
+use Rattle.sqs_server.specs.declared.arriving.Arriving.{Arriving}
+use Rattle.sqs_server.specs.declared.head.Denial.{Denial}
+use Rattle.sqs_server.specs.declared.reply.Sent.{Sent}
+use Rattle.sqs_server.specs.declared.stage.Halt.{Halt}
+use Rattle.sqs_server.specs.declared.stage.Halt.TheVariants as halts
+use Rattle.sqs_server.specs.declared.stage.Next.TheVariants.{On, Ends}
+use Rattle.sqs_server.specs.declared.stage.Stage.{Stage}
+use Rattle.sqs_server.specs.declared.stage.Stage.TheVariants as stages
+use Rattle.sqs_server.specs.declared.stage.Turn.TheVariants.{Goes, Waits}
+use Rattle.sqs_server.specs.Head.{denial_of}
+use Rattle.sqs_server.specs.Sent.{HoldsBody, denied, refused, reply_headers}
+use Rattle.sqs_server.specs.Stages.{Turns}
+
+-- ---- how a request begins
+
+-- denied by its head, or its body comes
+abbrev pub Judged : Parts → Option Denial → Stage → Type 0
+Judged head (Some denial) stage = stage ≡ stages.Sending (denied denial)
+Judged head None stage = (arriving : Arriving) × (stage ≡ stages.Collecting arriving) × (arriving.head ≡ head)
+
+-- the same, by the method and by the least size that its body can have
+abbrev pub IsFirst : Parts → Stage → Type 0
+IsFirst head stage = (size : ℕ) × Judged head (denial_of head.method size) stage
+
+-- ---- how it ends
+
+-- a request that is at a stage may end so: turn by turn
+pub data MayEnd : Stage → Result Sent Error → Type 0 where
+  ends : {stage : Stage} → {ended : Result Sent Error} → Turns stage (Goes (Ends ended)) → MayEnd stage ended
+  goes : {stage next : Stage} → {ended : Result Sent Error} → Turns stage (Goes (On next)) → MayEnd next ended → MayEnd stage ended
+  waits : {stage left : Stage} → {ended : Result Sent Error} → Turns stage (Waits left) → MayEnd left ended → MayEnd stage ended
+
+-- a fact of where a request waits
+abbrev pub OnHeld : Halt → Type 0 → Type 0
+OnHeld (halts.Waits stage) P = P
+OnHeld (halts.Ends ended) P = ⊤
+
+-- a request that is at a stage may end as it has ended; or what it waits at may end only as it may
+abbrev pub Halts : Stage → Halt → Type 0
+Halts stage (halts.Waits left) = (ended : Result Sent Error) → MayEnd left ended → MayEnd stage ended
+Halts stage (halts.Ends ended) = MayEnd stage ended
+
+-- where there was no memory to begin, what is known by the head is sent, and else that refusal
+abbrev pub without_memory : Stage → Sent
+without_memory (stages.Sending sent) = sent
+without_memory stage = refused OutOfMemory
+
+-- ---- what is sent
+
+-- a response sends this: its status, its bytes, and the content type, unless there was no memory for that
+pub record Holds (sent : Sent) (response : Response (Full (List ℕ))) : Type 0 where
+  pub status : IsStatusCode sent.status → (head_of response).status ≡ sent.status
+  pub body : HoldsBody (body_of response) sent.body
+  pub headers : ((head_of response).headers ≡ reply_headers) ⊎ ((head_of response).headers ≡ [])
+
+-- a request that ended so gets this
+abbrev pub Responds : Result Sent Error → Result (Response (Full (List ℕ))) Error → Type 0
+Responds (Ok sent) given = (response : Response (Full (List ℕ))) × (given ≡ Ok response) × Holds sent response
+Responds (Err error) given = given ≡ Err error
+
+-- a request that is at a stage may get this, where there was memory to begin, and where there was none
+abbrev pub Gives : Bool → Stage → Result (Response (Full (List ℕ))) Error → Type 0
+Gives true stage given = (ended : Result Sent Error) × MayEnd stage ended × Responds ended given
+Gives false stage given = Responds (Ok (without_memory stage)) given

@@ -1,0 +1,305 @@
+-- What comes of each stage of a request: what a client is told, or what is asked of which queue next, at which moment and for which purpose. Of the
+-- directory no clause says which queues it has, so one that was found is some queue; and a mailbox says nothing of what is put into it.
+use Rattle.std.specs.Prelude.{◌≡◌, ◌≢◌, ◌⊎◌, ⊤, ℕ, List, codes, Option, Some, None, Result, Ok, Err, IfOk, IfErr, MatchBool, option_map}
+use Rattle.std.specs.Arc.{arc_value}
+use Rattle.aws_json.specs.Steps.{result_map}
+use Rattle.aws_json.specs.declared.reply.ReplyShape.{ReplyShape}
+use Rattle.aws_json.specs.declared.reply.ReplyShape.TheVariants as shapes
+use Rattle.aws_json.specs.declared.request.Request.{Request}
+use Rattle.desk.specs.declared.printing.NoPress.{NoPress}
+use Rattle.futures.specs.Channel.{canceled_source}
+use Rattle.futures.specs.declared.channel.oneshot.Receiver.{Receiver}
+use Rattle.futures.specs.declared.channel.oneshot.Sender.{Sender}
+use Rattle.http.specs.declared.request.Parts.{Parts}
+use Rattle.http_body_util.specs.Collected.{collected_bytes}
+use Rattle.http_body_util.specs.declared.collected.Collected.{Collected}
+use Rattle.http_body_util.specs.declared.limited.LimitedError.{LimitedError}
+use Rattle.http_body_util.specs.declared.limited.LimitedError.TheVariants as limits
+use Rattle.http_header.specs.HeaderMap.{get}
+use Rattle.hyper.specs.declared.error.Error.{Error}
+use Rattle.message.specs.Fault.{Meets}
+use Rattle.message.specs.declared.fault.Fault.{Fault}
+use Rattle.message.specs.declared.fault.Fault.TheVariants.{OutOfMemory, QueueDoesNotExist, QueueNameExists, InvalidAttributeValue, ActorGone}
+use Rattle.queue_actor.specs.Answered.{Answered}
+use Rattle.queue_actor.specs.Asking.{Asking, IfSent, IfUnsent, IsAskOf, MayGive}
+use Rattle.queue_actor.specs.declared.fault.AskFault.{AskFault}
+use Rattle.queue_actor.specs.declared.mail.Ask.{Ask}
+use Rattle.queue_config.specs.Settings.{QueueSettings, RequestedAttributes, requested_target, same_settings, settings_with}
+use Rattle.queue_core.specs.declared.command.Command.{Command}
+use Rattle.queue_core.specs.declared.command.Command.TheVariants as commands
+use Rattle.queue_core.specs.declared.reply.Reply.{Reply}
+use Rattle.queue_core.specs.declared.reply.Reply.TheVariants as replies
+use Rattle.redrive.specs.Catalog.{Directory, IsDirectory, names_listed}
+use Rattle.std.specs.Str.{bytes_eq}
+use Rattle.sqs_server.specs.declared.arriving.Arriving.{Arriving}
+use Rattle.sqs_server.specs.declared.head.Denial.TheVariants.{BodyTooLarge}
+use Rattle.sqs_server.specs.declared.plan.Performed.{Performed}
+use Rattle.sqs_server.specs.declared.plan.Step.{Step}
+use Rattle.sqs_server.specs.declared.plan.Step.TheVariants as steps
+use Rattle.sqs_server.specs.declared.plan.Then.{Then}
+use Rattle.sqs_server.specs.declared.queues.Made.{Made}
+use Rattle.sqs_server.specs.declared.queues.Queue.{Queue}
+use Rattle.sqs_server.specs.declared.reply.Sent.{Sent}
+use Rattle.sqs_server.specs.declared.stage.Afterwards.{Afterwards}
+use Rattle.sqs_server.specs.declared.stage.Afterwards.TheVariants.{Tell, Create}
+use Rattle.sqs_server.specs.declared.stage.Creation.{Creation}
+use Rattle.sqs_server.specs.declared.stage.Exchange.{Exchange}
+use Rattle.sqs_server.specs.declared.stage.Next.{Next}
+use Rattle.sqs_server.specs.declared.stage.Next.TheVariants.{On, Ends}
+use Rattle.sqs_server.specs.declared.stage.Purpose.{Purpose}
+use Rattle.sqs_server.specs.declared.stage.Purpose.TheVariants as purposes
+use Rattle.sqs_server.specs.declared.stage.Stage.{Stage}
+use Rattle.sqs_server.specs.declared.stage.Stage.TheVariants as stages
+use Rattle.sqs_server.specs.declared.stage.Turn.{Turn}
+use Rattle.sqs_server.specs.declared.stage.Turn.TheVariants.{Goes, Waits}
+use Rattle.sqs_server.specs.declared.task.Task.{Task}
+use Rattle.sqs_server.specs.declared.task.Task.TheVariants as tasks
+use Rattle.sqs_server.specs.Head.{action_of, asked_of}
+use Rattle.sqs_server.specs.Plan.{Follows, after}
+use Rattle.sqs_server.specs.Sent.{denied, refused, sent_for}
+use Rattle.sqs_server.specs.Task.{Begins}
+use Rattle.sqs_server.specs.Times.{wait_limit}
+
+-- ---- what ends a request
+
+-- a refusal
+abbrev pub refuses : Fault → Next
+refuses fault = Ends (Ok (refused fault))
+
+-- an answer; a reply that there is no memory for is told as that refusal
+abbrev pub Tells : Result ReplyShape Fault → Next → Type 0
+Tells answer next =
+    (sent : Sent) × (next ≡ Ends (Ok sent)) × ((sent ≡ sent_for answer) ⊎ (sent ≡ refused OutOfMemory))
+    × IfErr answer (λ fault. sent ≡ refused fault)
+
+-- a body that did not come whole: one that is too long is denied, and where the connection failed nothing is sent
+abbrev pub sent_of_error : {E : Type 0} → LimitedError E → Result Sent E
+sent_of_error limits.LengthLimit = Ok (denied BodyTooLarge)
+sent_of_error (limits.Body error) = Err error
+
+-- ---- queues
+
+-- a queue that is looked for is not there, or there is no memory for a pass of it
+abbrev pub IsMissed : Fault → Type 0
+IsMissed fault = (fault ≡ QueueDoesNotExist) ⊎ (fault ≡ OutOfMemory)
+
+-- a queue was found, and this holds of it; or the request is refused
+abbrev pub Opens : (Queue → Type 0) → Next → Type 0
+Opens P next = ((queue : Queue) × P queue) ⊎ ((fault : Fault) × IsMissed fault × (next ≡ refuses fault))
+
+-- the uid of the dead-letter queue that a queue of a name is to have, 0 for none: it has to be there, and to be another one
+abbrev pub IsTarget : List ℕ → Option (Option (List ℕ)) → Result ℕ Fault → Type 0
+IsTarget own (Some (Some name)) found =
+    MatchBool (bytes_eq name own) (found ≡ Err InvalidAttributeValue) (IfErr found (λ fault. fault ≡ InvalidAttributeValue))
+IsTarget own asked found = found ≡ Ok 0
+
+-- the target that is asked for a queue of a name was found, and this holds of its uid; or the request is refused
+abbrev pub Targets : List ℕ → RequestedAttributes → (ℕ → Type 0) → Next → Type 0
+Targets own wish P next =
+    (found : Result ℕ Fault) × IsTarget own (requested_target wish) found × IfOk found P × IfErr found (λ fault. next ≡ refuses fault)
+
+-- A command is sent to a queue at a moment, with its desk and its pass; the answer, for which it waits so many seconds at most, is for a purpose. A
+-- mail that could not be put has left the pass where it was.
+abbrev pub Asks : Queue → ℕ → Command → ℕ → Asking → Type 0
+Asks queue at command seconds asking =
+    IfSent asking (λ source.
+    (ask : Ask NoPress (Sender Answered) ⊤) × IsAskOf ask (arc_value queue.desk) queue.pass at command (wait_limit at seconds)
+    × (canceled_source ask.reply ≡ source))
+    × IfUnsent asking (λ kept. kept ≡ queue.pass) × (asking ≢ Asking.Over)
+
+abbrev pub Sends : Queue → ℕ → Command → ℕ → Purpose → Next → Type 0
+Sends queue at command seconds purpose next =
+    ((exchange : Exchange) × (next ≡ On (stages.Asking exchange)) × (exchange.uid ≡ queue.uid) × (exchange.at ≡ at)
+    × (exchange.purpose ≡ purpose) × Asks queue at command seconds exchange.future)
+    ⊎ (next ≡ refuses OutOfMemory)
+
+-- ---- a request begins
+
+-- a queue of the name that is told is there
+abbrev pub TellsUrl : List ℕ → Next → Type 0
+TellsUrl name next = Tells (Ok (shapes.QueueUrl name)) next ⊎ (next ≡ refuses QueueDoesNotExist)
+
+-- the names of a directory that begin with a prefix are told
+abbrev pub TellsUrls : List ℕ → Next → Type 0
+TellsUrls prefix next =
+    ((listed : Directory) × IsDirectory listed × Tells (Ok (shapes.QueueUrls (names_listed listed prefix))) next)
+    ⊎ (next ≡ refuses OutOfMemory)
+
+-- names are told of queues that have a queue for their dead letters
+abbrev pub TellsSources : Next → Type 0
+TellsSources next =
+    ((names : List (List ℕ)) × Tells (Ok (shapes.SourceQueueUrls names)) next)
+    ⊎ ((fault : Fault) × IsMissed fault × (next ≡ refuses fault))
+
+-- what a task begins with at a moment
+abbrev pub Begun : Task → ℕ → Next → Type 0
+Begun (tasks.Create name wish) at next = next ≡ On (stages.Creating record { name = name; wish = wish; at = at })
+Begun (tasks.Delete name) at next = Opens (λ queue. Sends queue at commands.Close 0 purposes.Delete next) next
+Begun (tasks.Set name wish) at next =
+    Opens (λ queue. Targets name wish (λ target.
+    Sends queue at (commands.Set wish target) 0 (purposes.Set (option_map (λ _. target) (requested_target wish))) next) next) next
+Begun (tasks.Url name) at next = TellsUrl name next
+Begun (tasks.Urls prefix) at next = TellsUrls prefix next
+Begun (tasks.Sources name) at next = TellsSources next
+Begun (tasks.Ask name step) at next = Opens (λ queue. next ≡ On (stages.Going queue.uid (Some queue) at step)) next
+
+-- the value of the header that names the action
+abbrev pub target_in : Parts → Option (List ℕ)
+target_in head = option_map (λ value. value.bytes) (get head.headers (codes "x-amz-target"))
+
+-- A request is judged by its head and these bytes, and begins with its task at one moment; or it is refused. Want of memory may come in the place of
+-- what the bytes ask.
+abbrev pub IsJudged : Parts → List ℕ → Next → Type 0
+IsJudged head bytes next =
+    (asked : Result Request Fault) × Meets asked (asked_of (target_in head) bytes)
+    × IfErr (action_of (target_in head)) (λ fault. asked ≡ Err fault)
+    × IfOk asked (λ request. (at : ℕ) × (task : Task) × Begins request task × Begun task at next)
+    × IfErr asked (λ fault. next ≡ refuses fault)
+
+-- the same of a body that has come, unless there is no memory for its bytes in one piece
+abbrev pub IsRead : Parts → Collected → Next → Type 0
+IsRead head body next = IsJudged head (collected_bytes body) next ⊎ (next ≡ refuses OutOfMemory)
+
+-- ---- a queue is to be there
+
+-- one is ordered
+abbrev pub Ordered : Creation → Next → Type 0
+Ordered creation next = ((made : Receiver Made) × (next ≡ On (stages.Making creation made))) ⊎ (next ≡ refuses OutOfMemory)
+
+-- one was ordered: it is there, or one of its name came to be there meanwhile, which is looked for, or it is refused
+abbrev pub Makes : {T : Type 0} → Creation → Result T Fault → Next → Type 0
+Makes creation (Ok made) next = Tells (Ok (shapes.QueueUrl creation.name)) next
+Makes creation (Err QueueNameExists) next = next ≡ On (stages.Creating creation)
+Makes creation (Err fault) next = next ≡ refuses fault
+
+-- one is ordered, or that of its name is looked at; while that one is being opened, what is asked for comes back
+abbrev pub Creates : Creation → Result Next Creation → Type 0
+Creates creation (Ok next) =
+    Targets creation.name creation.wish (λ target.
+    Ordered creation next ⊎ Opens (λ queue. Sends queue creation.at commands.Look 0 (purposes.Existing creation) next) next) next
+Creates creation (Err back) = back ≡ creation
+
+-- ---- a queue is taken out
+
+-- its actor was told its end
+abbrev pub Concludes : Afterwards → Next → Type 0
+Concludes (Tell (Ok done)) next = Tells (Ok shapes.Nothing) next
+Concludes (Tell (Err fault)) next = next ≡ refuses fault
+Concludes (Create creation) next = next ≡ On (stages.Creating creation)
+
+-- its actor is told its end next, where the queue is at hand
+abbrev pub Leaves : Option Queue → Afterwards → Next → Type 0
+Leaves (Some queue) then next = next ≡ On (stages.Ending queue.mailbox then)
+Leaves None then next = Concludes then next
+
+-- ---- a command was answered
+
+-- one that closes: the queue is taken out, also where it had been closed before, and then it was not there
+abbrev pub Deleted : {T : Type 0} → Option Queue → Result T Fault → Next → Type 0
+Deleted queue (Ok done) next = Leaves queue (Tell (Ok tt)) next
+Deleted queue (Err QueueDoesNotExist) next = Leaves queue (Tell (Err QueueDoesNotExist)) next
+Deleted queue (Err fault) next = next ≡ refuses fault
+
+-- one that gives settings
+abbrev pub Settled : {T : Type 0} → Result T Fault → Next → Type 0
+Settled (Ok done) next = Tells (Ok shapes.Nothing) next
+Settled (Err fault) next = next ≡ refuses fault
+
+-- a look at a queue whose name another is to have: it is that one where it has the settings already
+abbrev pub Compared : Creation → QueueSettings → Next → Type 0
+Compared creation settings next =
+    Targets creation.name creation.wish (λ target.
+    MatchBool (same_settings (settings_with settings creation.wish target) settings)
+    (Tells (Ok (shapes.QueueUrl creation.name)) next) (next ≡ refuses QueueNameExists)) next
+
+-- the same; one that was closed is taken out, and made anew
+abbrev pub Seen : Option Queue → Creation → Reply → Next → Type 0
+Seen queue creation (replies.Looked look) next =
+    MatchBool look.closed (Leaves queue (Create creation) next) (Compared creation look.settings next)
+Seen queue creation reply next = Tells (Ok (shapes.QueueUrl creation.name)) next
+
+-- the same; one whose actor has ended is made anew
+abbrev pub Looked : Option Queue → Creation → Result Performed Fault → Next → Type 0
+Looked queue creation (Ok done) next = Seen queue creation done.reply next
+Looked queue creation (Err ActorGone) next = next ≡ On (stages.Creating creation)
+Looked queue creation (Err fault) next = next ≡ refuses fault
+
+-- what became of a command is for its purpose
+abbrev pub Resumes : ℕ → Option Queue → ℕ → Purpose → Result Performed Fault → Next → Type 0
+Resumes uid queue at (purposes.Plan then) outcome next =
+    (step : Step) × (next ≡ On (stages.Going uid queue at step)) × Follows then step (after uid then outcome)
+Resumes uid queue at purposes.Delete outcome next = Deleted queue outcome next
+Resumes uid queue at (purposes.Set target) outcome next = Settled outcome next
+Resumes uid queue at (purposes.Existing creation) outcome next = Looked queue creation outcome next
+
+-- what became of a command that was answered
+abbrev pub outcome : Command → Result Reply Fault → Result Performed Fault
+outcome command reply = result_map (λ told. record { command = command; reply = told }) reply
+
+-- It goes on with the queue that answered, at the moment and for the purpose of the exchange; where there is no answer, without a queue and with
+-- the fault.
+abbrev pub Returned : {P T : Type 0} → Exchange → Result Answered (AskFault P T) → Next → Type 0
+Returned exchange (Ok answer) next =
+    (queue : Queue) × (queue.uid ≡ exchange.uid) × (arc_value queue.desk ≡ answer.desk) × (queue.pass ≡ answer.pass)
+    × Resumes exchange.uid (Some queue) exchange.at exchange.purpose (outcome answer.command answer.reply) next
+Returned exchange (Err lost) next = Resumes exchange.uid None exchange.at exchange.purpose (Err lost.fault) next
+
+-- ---- a command is asked
+
+-- the queue of a uid is looked for, and asked; where it is not to be had, that is what became of the command
+abbrev pub AsksFound : ℕ → ℕ → Command → ℕ → Then → Next → Type 0
+AsksFound uid at command seconds then next =
+    ((queue : Queue) × (queue.uid ≡ uid) × Sends queue at command seconds (purposes.Plan then) next)
+    ⊎ ((fault : Fault) × IsMissed fault × Resumes uid None at (purposes.Plan then) (Err fault) next)
+
+-- a step of the queue of a uid, at a moment
+abbrev pub GoesOn : ℕ → Option Queue → ℕ → Step → Next → Type 0
+GoesOn uid queue at (steps.Answer answer) next = Tells answer next
+GoesOn uid (Some queue) at (steps.Ask command seconds then) next = Sends queue at command seconds (purposes.Plan then) next
+GoesOn uid None at (steps.Ask command seconds then) next = AsksFound uid at command seconds then next
+
+-- ---- all stages
+
+-- a stage goes on, and this holds of it; or it waits, and this holds of the stage that is left
+abbrev pub Leads : (Next → Type 0) → (Stage → Type 0) → Turn → Type 0
+Leads goes waits (Goes next) = goes next
+Leads goes waits (Waits stage) = waits stage
+
+-- a body comes: it has come, or it did not come whole, or it still comes, behind the same head
+abbrev pub Collects : Parts → Turn → Type 0
+Collects head =
+    Leads (λ next. ((body : Collected) × IsRead head body next) ⊎ ((error : LimitedError Error) × (next ≡ Ends (sent_of_error error))))
+    (λ stage. (left : Arriving) × (stage ≡ stages.Collecting left) × (left.head ≡ head))
+
+-- a queue is to be there
+abbrev pub Names : Creation → Turn → Type 0
+Names creation = Leads (λ next. Creates creation (Ok next)) (λ stage. stage ≡ stages.Creating creation)
+
+-- a queue was ordered; where the thread that makes queues is gone, there was no memory for it
+abbrev pub AwaitsQueue : Creation → Turn → Type 0
+AwaitsQueue creation =
+    Leads (λ next. ((outcome : Result ⊤ Fault) × Makes creation outcome next) ⊎ (next ≡ refuses OutOfMemory))
+    (λ stage. (made : Receiver Made) × (stage ≡ stages.Making creation made))
+
+-- an actor is told its end
+abbrev pub Closes : Afterwards → Turn → Type 0
+Closes then = Leads (Concludes then) (λ stage. stage ≡ stages.Ending tt then)
+
+-- a queue was asked
+abbrev pub AwaitsAnswer : Exchange → Turn → Type 0
+AwaitsAnswer exchange =
+    Leads (λ next. (given : Result Answered (AskFault NoPress ⊤)) × MayGive exchange.future given × Returned exchange given next)
+    (λ stage. (left : Exchange) × (stage ≡ stages.Asking left) × (left.uid ≡ exchange.uid) × (left.at ≡ exchange.at)
+    × (left.purpose ≡ exchange.purpose)
+    × ((given : Result Answered (AskFault NoPress ⊤)) → MayGive left.future given → MayGive exchange.future given))
+
+-- what becomes of a stage that is looked at
+abbrev pub Turns : Stage → Turn → Type 0
+Turns (stages.Collecting arriving) turn = Collects arriving.head turn
+Turns (stages.Creating creation) turn = Names creation turn
+Turns (stages.Making creation made) turn = AwaitsQueue creation turn
+Turns (stages.Ending mailbox then) turn = Closes then turn
+Turns (stages.Asking exchange) turn = AwaitsAnswer exchange turn
+Turns (stages.Going uid queue at step) turn = (next : Next) × (turn ≡ Goes next) × GoesOn uid queue at step next
+Turns (stages.Sending sent) turn = turn ≡ Goes (Ends (Ok sent))
+Turns stages.Over turn = turn ≡ Goes (refuses OutOfMemory)

@@ -1,0 +1,124 @@
+//! The service of a connection: each request gets a future of its response.
+
+ghost use Rattle.std.specs.Prelude.{◌≡◌, Ok, None, is_some};
+ghost use Rattle.http.specs.Request.{head_of};
+ghost use Rattle.sqs_server.specs.Head as head_spec;
+ghost use Rattle.sqs_server.specs.Responses as response;
+ghost use Rattle.sqs_server.specs.Responses.{Gives, IsFirst, Judged, Responds};
+
+use crate::arriving::Arriving;
+use crate::front::Front;
+use crate::head::{BODY_LIMIT, denial_of};
+use crate::reply::{Sent, denied, refused, response_of};
+use crate::stage::{Halt, Stage};
+use bytes::Bytes;
+use futures::Future;
+use futures::task::{Context, Poll};
+use http::request::Parts;
+use http_body::Body;
+use http_body_util::{BodyExt, Full, Limited};
+use hyper::body::Incoming;
+use hyper::service::Service;
+use hyper::{Request, Response};
+use message::Fault;
+use std::alloc::Global;
+use std::mem;
+use std::sync::Wait;
+use std::time::Clock;
+
+/// The future of a response.
+#[derive(Drop)]
+pub struct Answering<R> {
+    alloc: Global,
+    /// `None` where there was no memory to begin.
+    front: Option<Front<R>>,
+    stage: Stage,
+}
+
+/// What is sent where there was no memory to begin. What is known by the head needs none.
+fn without_memory(stage: Stage) -> Sent
+    ensures { result ≡ response.without_memory stage }
+{
+    match stage {
+        Stage::Sending(sent) => sent,
+        _ => refused(Fault::OutOfMemory),
+    }
+}
+
+/// The response to a request that has ended so.
+fn respond(
+    alloc: Global,
+    ended: Result<Sent, hyper::Error>,
+) -> Result<Response<Full<Bytes>>, hyper::Error>
+    ensures { Responds ended result }
+{
+    match ended {
+        Ok(sent) => Ok(response_of(alloc, sent)),
+        Err(error) => Err(error),
+    }
+}
+
+/// The stage of a request whose body comes behind a head.
+fn collecting(alloc: Global, head: Parts, body: Incoming) -> Stage
+    ensures { Judged head None result }
+{
+    let body = Limited::new(body, BODY_LIMIT as usize).collect(alloc);
+    Stage::Collecting(Arriving { head, body })
+}
+
+/// The stage that a request begins with, by its head and by the least size that its body can have.
+fn judged(alloc: Global, head: Parts, body: Incoming, size: u64) -> Stage
+    ensures { Judged head (head_spec.denial_of head.method size) result }
+{
+    match denial_of(head.method.as_str(), size) {
+        Some(denial) => Stage::Sending(denied(denial)),
+        None => collecting(alloc, head, body),
+    }
+}
+
+/// The stage that a request begins with.
+fn first_stage(alloc: Global, request: Request<Incoming>) -> Stage
+    ensures { IsFirst (head_of request) result }
+{
+    let (head, body) = request.into_parts();
+    let size = body.size_hint().lower();
+    judged(alloc, head, body, size)
+}
+
+impl<R: Wait + Clock + Drop> Future for Answering<R> {
+    type Output = Result<Response<Full<Bytes>>, hyper::Error>;
+
+    ghost gives = { λ answering given. Gives (is_some answering.front) answering.stage given };
+
+    fn poll(&mut self, cx: &mut Context<'_>) -> Poll<Result<Response<Full<Bytes>>, hyper::Error>> {
+        let stage = mem::replace(&mut self.stage, Stage::Over);
+        let Some(front) = &self.front else {
+            return Poll::Ready(respond(self.alloc, Ok(without_memory(stage))));
+        };
+        match front.run(cx, stage) {
+            Halt::Waits(stage) => {
+                self.stage = stage;
+                Poll::Pending
+            }
+            Halt::Ends(ended) => Poll::Ready(respond(self.alloc, ended)),
+        }
+    }
+}
+
+impl<R: Wait + Clock + Copy + Drop> Service<Request<Incoming>> for Front<R> {
+    type Response = Response<Full<Bytes>>;
+
+    type Error = hyper::Error;
+
+    type Future = Answering<R>;
+
+    ghost calls = { λ _ request answering. IsFirst (head_of request) answering.stage };
+
+    fn call(&self, request: Request<Incoming>) -> Answering<R> {
+        Answering {
+            alloc: self.alloc,
+            front: self.again().ok(),
+            stage: first_stage(self.alloc, request),
+        }
+    }
+}

@@ -1,0 +1,17 @@
+//! A request whose body comes.
+
+ghost use Rattle.std.specs.Prelude.{IsSome};
+
+use http::request::Parts;
+use http_body_util::Limited;
+use http_body_util::combinators::Collect;
+use hyper::body::Incoming;
+
+/// A request whose body comes.
+#[derive(Drop)]
+pub struct Arriving {
+    pub head: Parts,
+    pub body: Collect<Limited<Incoming>>,
+    // The body has not been handed over.
+    pub ghost here: { ∥ IsSome body.collected ∥₁ },
+}

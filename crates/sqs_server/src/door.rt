@@ -1,0 +1,199 @@
+//! Who comes in: connections are accepted, served side by side, and counted when they have closed.
+
+ghost use Rattle.std.specs.Prelude.{◌≡◌, IfOk, IfSome, IsTrue};
+ghost use Rattle.futures.specs.Poll.{OnPending};
+ghost use Rattle.futures.specs.Task.{IsArmed, Keeps};
+ghost use Rattle.tokio.specs.Locks.{CanAcquire};
+
+use crate::front::Front;
+use crate::notices::Notices;
+use bytes::Bytes;
+use futures::Future;
+use futures::executor::TaskSet;
+use futures::task::{Context, Poll};
+use http_body_util::Full;
+use hyper::rt::TokioTimer;
+use hyper::server::conn::http1::{Builder, Connection};
+use std::alloc::Global;
+use std::io;
+use std::sync::{Arc, Wait};
+use std::time::{Clock, Duration};
+use tokio::net::{TcpListener, TcpStream};
+use tokio::sync::{AcquireOwned, Semaphore};
+use tokio::time::{Handle, Sleep};
+
+/// How many connections one look accepts before it lets others go on.
+const BUDGET: u32 = 64;
+
+/// How long nothing is accepted after the system has refused to, in milliseconds.
+const PAUSE_MILLISECONDS: u64 = 50;
+
+/// A connection that is served: what serves it, and where it is counted once it has closed.
+#[derive(Drop)]
+pub struct Guest<C, R> {
+    rt: R,
+    alloc: Global,
+    connection: C,
+    notices: Notices,
+    closed: Arc<Semaphore>,
+}
+
+/// A guest over a socket.
+pub type Caller<R> = Guest<Connection<TcpStream, Front<R>, Full<Bytes>, TokioTimer<R>>, R>;
+
+impl<C: Future<Output = hyper::Result<()>>, R: Wait + Drop> Future for Guest<C, R> {
+    type Output = ();
+
+    ghost can_poll = { λ g. C.can_poll g.connection };
+
+    ghost needs = { λ g. C.needs g.connection };
+
+    /// Serves. A fault of the connection is told on standard error, and is no fault of the server.
+    fn poll(&mut self, cx: &mut Context<'_>) -> Poll<()> {
+        match self.connection.poll(cx) {
+            Poll::Pending => return Poll::Pending,
+            Poll::Ready(Ok(())) => {}
+            Poll::Ready(Err(error)) => {
+                let line = format!(in self.alloc; "connection: {error}");
+                self.notices.tell(&self.rt, line);
+            }
+        }
+        self.closed.add_permits(1);
+        Poll::Ready(())
+    }
+}
+
+/// Makes what serves a socket.
+pub trait Welcome: Drop {
+    type Guest: Future<Output = ()>;
+
+    /// What serves it, from its first request on.
+    fn guest(&self, socket: TcpStream) -> io::Result<Self::Guest>
+        ensures { IfOk result Self.Guest.can_poll };
+}
+
+/// Has the requests of a socket answered over HTTP/1.1.
+#[derive(Drop)]
+pub struct Reception<R> {
+    pub rt: R,
+    pub alloc: Global,
+    pub http: Builder<TokioTimer<R>>,
+    pub front: Front<R>,
+    pub notices: Notices,
+    pub closed: Arc<Semaphore>,
+}
+
+impl<R: Wait + Clock + Copy + Send + Drop + 'static> Welcome for Reception<R> {
+    type Guest = Caller<R>;
+
+    fn guest(&self, socket: TcpStream) -> io::Result<Caller<R>> {
+        socket.set_nodelay(true)?;
+        let (Ok(front), Ok(notices)) = (self.front.again(), self.notices.again()) else {
+            return Err(io::ErrorKind::OutOfMemory.into());
+        };
+        Ok(Guest {
+            rt: self.rt,
+            alloc: self.alloc,
+            connection: self.http.serve_connection(socket, front),
+            notices,
+            closed: Arc::try_clone(&self.closed)?,
+        })
+    }
+}
+
+/// Accepts connections until enough of them have closed, where a number is asked for.
+#[derive(Drop)]
+pub struct Door<'a, R, W: Welcome> {
+    pub rt: R,
+    pub alloc: Global,
+    pub listener: TcpListener,
+    pub notices: Notices,
+    pub closed: Arc<Semaphore>,
+    pub welcome: W,
+    pub tasks: &'a TaskSet<W::Guest>,
+    pub timers: Handle,
+    pub pause: Option<Sleep>,
+    pub enough: Option<AcquireOwned>,
+}
+
+impl<R: Wait + Clock, W: Welcome> Door<'_, R, W> {
+    /// Has a connection served.
+    fn let_in(&self, socket: TcpStream) -> io::Result<()> {
+        let guest = self.welcome.guest(socket)?;
+        self.tasks.spawn(guest).map_err(io::Error::from)
+    }
+
+    /// The same. One that cannot be served is closed and counted.
+    fn receive(&self, socket: TcpStream) {
+        if let Err(error) = self.let_in(socket) {
+            let line = format!(in self.alloc; "connection: {error}");
+            self.notices.tell(&self.rt, line);
+            self.closed.add_permits(1);
+        }
+    }
+
+    /// Tells a fault of the system, and accepts nothing for a while.
+    fn complain(&mut self, error: io::Error)
+        ensures enough { self.new.enough ≡ self.old.enough }
+    {
+        let line = format!(in self.alloc; "accept: {error}");
+        self.notices.tell(&self.rt, line);
+        let pause = Duration::from_millis(PAUSE_MILLISECONDS);
+        self.pause = self.timers.sleep(&self.rt, pause).ok();
+    }
+
+    /// Whether nothing is to be accepted yet.
+    fn is_pausing(&mut self, cx: &mut Context<'_>) -> bool
+        ensures enough { self.new.enough ≡ self.old.enough }
+        ensures armed { IsTrue result → IsArmed cx.new }
+        ensures kept { Keeps cx.old cx.new }
+    {
+        let is_pending = match &mut self.pause {
+            Some(pause) => pause.poll(cx).is_pending(),
+            None => false,
+        };
+        if !is_pending {
+            self.pause = None;
+        }
+        is_pending
+    }
+
+    /// Whether enough connections have closed.
+    fn is_enough(&mut self, cx: &mut Context<'_>) -> Poll<io::Result<()>>
+        requires { IfSome self.old.enough CanAcquire }
+        ensures again { OnPending result (IfSome self.new.enough CanAcquire) }
+        ensures kept { Keeps cx.old cx.new }
+    {
+        match &mut self.enough {
+            Some(enough) => match enough.poll(cx) {
+                Poll::Pending => Poll::Pending,
+                Poll::Ready(Ok(_permits)) => Poll::Ready(Ok(())),
+                Poll::Ready(Err(_refused)) => Poll::Ready(Err(io::ErrorKind::OutOfMemory.into())),
+            },
+            None => Poll::Pending,
+        }
+    }
+}
+
+impl<R: Wait + Clock + Drop, W: Welcome> Future for Door<'_, R, W> {
+    type Output = io::Result<()>;
+
+    ghost can_poll = { λ d. IfSome d.enough CanAcquire };
+
+    fn poll(&mut self, cx: &mut Context<'_>) -> Poll<io::Result<()>> {
+        if let Poll::Ready(ended) = self.is_enough(cx) {
+            return Poll::Ready(ended);
+        }
+        for _ in 0..BUDGET {
+            if self.is_pausing(cx) {
+                return Poll::Pending;
+            }
+            match self.listener.poll_accept(cx) {
+                Poll::Pending => return Poll::Pending,
+                Poll::Ready(Ok((socket, _))) => self.receive(socket),
+                Poll::Ready(Err(error)) => self.complain(error),
+            }
+        }
+        cx.yield_now()
+    }
+}

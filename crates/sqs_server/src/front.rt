@@ -1,0 +1,687 @@
+//! What comes over HTTP is asked of the queues, and what they answer is sent.
+
+ghost use Rattle.std.specs.Prelude.{◌≡◌, ◌⊎◌, Ok, Err, None, IfOk, IfErr, option_map};
+ghost use Rattle.futures.specs.Task.{IsArmed, Keeps};
+ghost use Rattle.aws_json.specs.declared.reply.ReplyShape.TheVariants as shapes;
+ghost use Rattle.message.specs.declared.fault.Fault.TheVariants.{OutOfMemory, QueueDoesNotExist};
+ghost use Rattle.queue_config.specs.Settings.{requested_target};
+ghost use Rattle.redrive.specs.Catalog.{Directory, IsDirectory, names_listed};
+ghost use Rattle.sqs_server.specs.declared.stage.Purpose.TheVariants as purposes;
+ghost use Rattle.sqs_server.specs.declared.stage.Stage.TheVariants as stages;
+ghost use Rattle.sqs_server.specs.declared.task.Task.TheVariants as tasks;
+ghost use Rattle.sqs_server.specs.Responses.{Halts, OnHeld};
+ghost use Rattle.sqs_server.specs.Stages.{AsksFound, AwaitsAnswer, AwaitsQueue, Begun, Closes, Collects, Compared, Concludes, Creates, Deleted, GoesOn, IsJudged, IsMissed, IsRead, IsTarget, Leaves, Looked, Makes, Names, Ordered, Resumes, Returned, Seen, Sends, Settled, Tells, TellsSources, TellsUrl, TellsUrls, Turns};
+ghost use Rattle.sqs_server.specs.Stages as told;
+ghost use Rattle.sqs_server.specs.Task.{Begins};
+ghost use Rattle.sqs_server.specs.Turns.{OnWaits};
+
+use crate::arriving::Arriving;
+use crate::clock::{moment_of_day, wait_limit};
+use crate::head::{Denial, asked_of};
+use crate::plan::{Outcome, Performed, Step, Then, after};
+use crate::queues::{Made, Mailbox, NewQueue, Order, Queue, Queues};
+use crate::reply::{Sent, denied, refused, sent_for};
+use crate::stage::{Afterwards, Creation, Exchange, Halt, Next, Purpose, Stage, Turn};
+use crate::task::{Task, task_of};
+use aws_json::{Prefix, QueueNames, ReplyShape, Request};
+use crossbeam_channel::{SendError, Sender};
+use desk::NoPress;
+use futures::Future;
+use futures::channel::oneshot;
+use futures::channel::oneshot::Receiver;
+use futures::task::{Context, Poll};
+use http::request::Parts;
+use http_body_util::{Collected, LimitedError};
+use journal::Moment;
+use message::{Fault, QueueName};
+use queue_actor::{Answer, AskFault, AskFuture, Mail};
+use queue_config::{Settings, Wish};
+use queue_core::{Command, Reply};
+use std::alloc::Global;
+use std::sync::{Arc, Wait};
+use std::time::Clock;
+
+/// Answers the requests of one connection.
+#[derive(Drop)]
+pub struct Front<R> {
+    pub rt: R,
+    pub alloc: Global,
+    pub queues: Arc<Queues>,
+    pub orders: Sender<Order>,
+}
+
+impl<R: Copy> Front<R> {
+    /// The same for another connection or request. `OutOfMemory` is the only refusal.
+    pub fn again(&self) -> Result<Front<R>, Fault>
+        ensures { IfErr result (λ fault. fault ≡ OutOfMemory) }
+    {
+        Ok(Front {
+            rt: self.rt,
+            alloc: self.alloc,
+            queues: Arc::try_clone(&self.queues)?,
+            orders: self.orders.clone()?,
+        })
+    }
+}
+
+/// The value of the header that names the action.
+fn target_of(head: &Parts) -> Option<&[u8]>
+    ensures { option_map (λ s. s.now) result ≡ told.target_in head.now }
+{
+    match head.headers.get("x-amz-target") {
+        Some(value) => Some(value.as_bytes()),
+        None => None,
+    }
+}
+
+/// What a refusal comes to.
+fn refuses(fault: Fault) -> Next
+    ensures { result ≡ told.refuses fault }
+{
+    Next::Ends(Ok(refused(fault)))
+}
+
+/// What comes to be sent of a body that did not come whole.
+fn sent_of_error(error: LimitedError<hyper::Error>) -> Result<Sent, hyper::Error>
+    ensures { result ≡ told.sent_of_error error }
+{
+    match error {
+        LimitedError::LengthLimit => Ok(denied(Denial::BodyTooLarge)),
+        LimitedError::Body(error) => Err(error),
+    }
+}
+
+/// The new target of a queue that gets settings, where a policy is asked for or cleared.
+fn retargets(wish: &Wish, target: u64) -> Option<u64>
+    ensures { result ≡ option_map (λ _. target) (requested_target wish.now) }
+{
+    match wish.target() {
+        Some(_) => Some(target),
+        None => None,
+    }
+}
+
+/// What became of a command that was answered.
+fn outcome_of(command: Command, reply: Result<Reply, Fault>) -> Outcome
+    ensures { result ≡ told.outcome command reply }
+{
+    match reply {
+        Ok(reply) => Ok(Performed { command, reply }),
+        Err(fault) => Err(fault),
+    }
+}
+
+impl<R: Wait + Clock> Front<R> {
+    /// What an answer comes to.
+    fn answers(&self, answer: Result<ReplyShape, Fault>) -> Next
+        ensures { Tells answer result }
+    {
+        Next::Ends(Ok(sent_for(self.alloc, &answer)))
+    }
+
+    /// The queue of a name.
+    fn find(&self, name: &QueueName) -> Result<Queue, Fault>
+        ensures { IfErr result IsMissed }
+    {
+        match self.queues.find(&self.rt, name)? {
+            Some(queue) => Ok(Queue::of(queue)),
+            None => Err(Fault::QueueDoesNotExist),
+        }
+    }
+
+    /// The uid of the dead-letter queue that a queue of a name is to have, 0 for none. It has to be there
+    /// and to be another one.
+    fn target_uid(&self, own: &QueueName, wish: &Wish) -> Result<u64, Fault>
+        ensures { IsTarget own.now (requested_target wish.now) result }
+    {
+        let name = match wish.target() {
+            Some(Some(name)) => name,
+            _ => return Ok(0),
+        };
+        if name == *own {
+            return Err(Fault::InvalidAttributeValue);
+        }
+        match self.queues.uid_of(&self.rt, &name) {
+            Some(uid) => Ok(uid),
+            None => Err(Fault::InvalidAttributeValue),
+        }
+    }
+
+    /// The URL of a queue that is there.
+    fn url(&self, name: QueueName) -> Result<ReplyShape, Fault>
+        ensures { (result ≡ Ok (shapes.QueueUrl name)) ⊎ (result ≡ Err QueueDoesNotExist) }
+    {
+        match self.queues.uid_of(&self.rt, &name) {
+            Some(_) => Ok(ReplyShape::QueueUrl(name)),
+            None => Err(Fault::QueueDoesNotExist),
+        }
+    }
+
+    /// The URLs of the queues whose names begin with a prefix.
+    fn urls(&self, prefix: &Prefix) -> Result<ReplyShape, Fault>
+        ensures ok { IfOk result (λ shape. (listed : Directory) × IsDirectory listed × (shape ≡ shapes.QueueUrls (names_listed listed prefix.now))) }
+        ensures errors { IfErr result (λ fault. fault ≡ OutOfMemory) }
+    {
+        let names = self.queues.list(&self.rt, self.alloc, prefix.as_text())?;
+        Ok(ReplyShape::QueueUrls(QueueNames::new(names)))
+    }
+
+    /// The URLs of the queues that have a queue for their dead letters.
+    fn source_urls(&self, name: &QueueName) -> Result<ReplyShape, Fault>
+        ensures ok { IfOk result (λ shape. (names : _) × (shape ≡ shapes.SourceQueueUrls names)) }
+        ensures errors { IfErr result IsMissed }
+    {
+        let Some(uid) = self.queues.uid_of(&self.rt, name) else {
+            return Err(Fault::QueueDoesNotExist);
+        };
+        let names = self.queues.sources(&self.rt, self.alloc, uid)?;
+        Ok(ReplyShape::SourceQueueUrls(QueueNames::new(names)))
+    }
+
+    /// Sends a command to a queue. What cannot be sent is refused.
+    fn ask(
+        &self,
+        queue: Queue,
+        at: Moment,
+        command: Command,
+        seconds: u64,
+        purpose: Purpose,
+    ) -> Next
+        ensures { Sends queue at command seconds purpose result }
+    {
+        let Queue {
+            uid,
+            desk,
+            pass,
+            mailbox,
+        } = queue;
+        let until = wait_limit(at, seconds);
+        let asked = AskFuture::new(
+            &self.rt, self.alloc, &mailbox, desk, pass, at, command, until,
+        );
+        match asked {
+            Ok(future) => Next::On(Stage::Asking(Exchange {
+                uid,
+                mailbox,
+                at,
+                purpose,
+                future,
+            })),
+            Err(AskFault { fault, pass: _ }) => refuses(fault),
+        }
+    }
+
+    /// Asks a queue of a name what a request asks of it.
+    fn begins(&self, name: &QueueName, at: Moment, step: Step) -> Next
+        ensures { Begun (tasks.Ask name.now step) at result }
+    {
+        match self.find(name) {
+            Ok(queue) => Next::On(Stage::Going {
+                uid: queue.uid,
+                queue: Some(queue),
+                at,
+                step,
+            }),
+            Err(fault) => refuses(fault),
+        }
+    }
+
+    /// Closes a queue.
+    fn delete(&self, name: &QueueName, at: Moment) -> Next
+        ensures { Begun (tasks.Delete name.now) at result }
+    {
+        match self.find(name) {
+            Ok(queue) => self.ask(queue, at, Command::Close, 0, Purpose::Delete),
+            Err(fault) => refuses(fault),
+        }
+    }
+
+    /// Gives a queue settings.
+    fn set(&self, name: &QueueName, at: Moment, wish: Wish) -> Next
+        ensures { Begun (tasks.Set name.now wish) at result }
+    {
+        let queue = match self.find(name) {
+            Ok(queue) => queue,
+            Err(fault) => return refuses(fault),
+        };
+        let target = match self.target_uid(name, &wish) {
+            Ok(target) => target,
+            Err(fault) => return refuses(fault),
+        };
+        let purpose = Purpose::Set(retargets(&wish, target));
+        self.ask(queue, at, Command::Set { wish, target }, 0, purpose)
+    }
+
+    /// Tells the URL of a queue that is there.
+    fn tells_url(&self, name: QueueName) -> Next
+        ensures { TellsUrl name result }
+    {
+        match self.url(name) {
+            Ok(shape) => self.answers(Ok(shape)),
+            Err(fault) => refuses(fault),
+        }
+    }
+
+    /// Tells the URLs of the queues whose names begin with a prefix.
+    fn tells_urls(&self, prefix: &Prefix) -> Next
+        ensures { TellsUrls prefix.now result }
+    {
+        match self.urls(prefix) {
+            Ok(shape) => self.answers(Ok(shape)),
+            Err(fault) => refuses(fault),
+        }
+    }
+
+    /// Tells the URLs of the queues that have a queue for their dead letters.
+    fn tells_sources(&self, name: &QueueName) -> Next
+        ensures { TellsSources result }
+    {
+        match self.source_urls(name) {
+            Ok(shape) => self.answers(Ok(shape)),
+            Err(fault) => refuses(fault),
+        }
+    }
+
+    /// Begins a task.
+    fn about(&self, task: Task, at: Moment) -> Next
+        ensures { Begun task at result }
+    {
+        match task {
+            Task::Create { name, wish } => Next::On(Stage::Creating(Creation { name, wish, at })),
+            Task::Delete { queue } => self.delete(&queue, at),
+            Task::Set { queue, wish } => self.set(&queue, at, wish),
+            Task::Url { name } => self.tells_url(name),
+            Task::Urls { prefix } => self.tells_urls(&prefix),
+            Task::Sources { queue } => self.tells_sources(&queue),
+            Task::Ask { queue, step } => self.begins(&queue, at, step),
+        }
+    }
+
+    /// Begins what a request is about.
+    fn begin(&self, request: Request, at: Moment) -> Next
+        ensures { (task : _) × Begins request task × Begun task at result }
+    {
+        self.about(task_of(self.alloc, request), at)
+    }
+
+    /// Begins what the header that names the action and these bytes ask.
+    fn judge(&self, head: &Parts, bytes: &[u8]) -> Next
+        ensures { IsJudged head.now bytes.now result }
+    {
+        match asked_of(self.alloc, target_of(head), bytes) {
+            Ok(request) => self.begin(request, moment_of_day(&self.rt)),
+            Err(fault) => refuses(fault),
+        }
+    }
+
+    /// Begins what a request asks whose body has come.
+    fn read(&self, head: &Parts, body: Collected) -> Next
+        ensures { IsRead head.now body result }
+    {
+        match body.to_bytes() {
+            Ok(bytes) => self.judge(head, bytes.as_slice()),
+            Err(_refused) => refuses(Fault::OutOfMemory),
+        }
+    }
+
+    /// Looks whether the body has come.
+    fn await_body(&self, cx: &mut Context<'_>, arriving: Arriving) -> Turn
+        ensures waits { OnWaits result (IsArmed cx.new) }
+        ensures kept { Keeps cx.old cx.new }
+        ensures leads { Collects arriving.head result }
+    {
+        let Arriving { head, mut body } = arriving;
+        match body.poll(cx) {
+            Poll::Pending => Turn::Waits(Stage::Collecting(Arriving { head, body })),
+            Poll::Ready(Ok(body)) => Turn::Goes(self.read(&head, body)),
+            Poll::Ready(Err(error)) => Turn::Goes(Next::Ends(sent_of_error(error))),
+        }
+    }
+
+    /// Orders a queue that is not there.
+    fn order(&self, creation: Creation, target: u64) -> Next
+        ensures { Ordered creation result }
+    {
+        let Ok((tells, made)) = oneshot::channel(self.alloc) else {
+            return refuses(Fault::OutOfMemory);
+        };
+        let new = NewQueue {
+            name: creation.name,
+            settings: Settings::default().with(&creation.wish, target),
+            rules: Vec::new(self.alloc),
+        };
+        let order = Order {
+            new,
+            at: creation.at,
+            made: tells,
+        };
+        match self.orders.send(&self.rt, order) {
+            Ok(()) => Next::On(Stage::Making { creation, made }),
+            Err(_refused) => refuses(Fault::OutOfMemory),
+        }
+    }
+
+    /// Answers for a queue that was ordered. One of its name that came to be there meanwhile is looked at.
+    fn ordered(&self, creation: Creation, made: Made) -> Next
+        ensures { Makes creation made.outcome result }
+    {
+        match made.outcome {
+            Ok(()) => self.answers(Ok(ReplyShape::QueueUrl(creation.name))),
+            Err(Fault::QueueNameExists) => Next::On(Stage::Creating(creation)),
+            Err(fault) => refuses(fault),
+        }
+    }
+
+    /// Looks whether a queue was made that was ordered.
+    fn await_queue(
+        &self,
+        cx: &mut Context<'_>,
+        creation: Creation,
+        mut made: Receiver<Made>,
+    ) -> Turn
+        ensures waits { OnWaits result (IsArmed cx.new) }
+        ensures kept { Keeps cx.old cx.new }
+        ensures leads { AwaitsQueue creation result }
+    {
+        match made.poll(cx) {
+            Poll::Pending => Turn::Waits(Stage::Making { creation, made }),
+            Poll::Ready(Ok(made)) => Turn::Goes(self.ordered(creation, made)),
+            Poll::Ready(Err(_gone)) => Turn::Goes(refuses(Fault::OutOfMemory)),
+        }
+    }
+
+    /// Creates a queue, or looks at the one that has its name. While that one is being opened, what is asked
+    /// for comes back.
+    fn create(&self, creation: Creation) -> Result<Next, Creation>
+        ensures { Creates creation result }
+    {
+        let target = match self.target_uid(&creation.name, &creation.wish) {
+            Ok(target) => target,
+            Err(fault) => return Ok(refuses(fault)),
+        };
+        if self.queues.uid_of(&self.rt, &creation.name).is_none() {
+            return Ok(self.order(creation, target));
+        }
+        match self.queues.find(&self.rt, &creation.name) {
+            Ok(Some(queue)) => {
+                let purpose = Purpose::Existing(creation);
+                Ok(self.ask(Queue::of(queue), creation.at, Command::Look, 0, purpose))
+            }
+            Ok(None) => Err(creation),
+            Err(fault) => Ok(refuses(fault)),
+        }
+    }
+
+    /// The same, and looks for that one again once others had a turn.
+    fn await_name(&self, cx: &mut Context<'_>, creation: Creation) -> Turn
+        ensures waits { OnWaits result (IsArmed cx.new) }
+        ensures kept { Keeps cx.old cx.new }
+        ensures leads { Names creation result }
+    {
+        match self.create(creation) {
+            Ok(next) => Turn::Goes(next),
+            Err(creation) => {
+                let _: Poll<()> = cx.yield_now();
+                Turn::Waits(Stage::Creating(creation))
+            }
+        }
+    }
+
+    /// Goes on once an actor was told its end.
+    fn ended(&self, then: Afterwards) -> Next
+        ensures { Concludes then result }
+    {
+        match then {
+            Afterwards::Tell(Ok(())) => self.answers(Ok(ReplyShape::Nothing)),
+            Afterwards::Tell(Err(fault)) => refuses(fault),
+            Afterwards::Create(creation) => Next::On(Stage::Creating(creation)),
+        }
+    }
+
+    /// Tells an actor its end, at which it answers the polls that wait. Without memory for that it is told
+    /// once others had a turn.
+    fn end(&self, cx: &mut Context<'_>, mailbox: Mailbox, then: Afterwards) -> Turn
+        ensures waits { OnWaits result (IsArmed cx.new) }
+        ensures kept { Keeps cx.old cx.new }
+        ensures leads { Closes then result }
+    {
+        match mailbox.send(&self.rt, Mail::End) {
+            Err(SendError::OutOfMemory(_)) => {
+                let _: Poll<()> = cx.yield_now();
+                Turn::Waits(Stage::Ending { mailbox, then })
+            }
+            _ => Turn::Goes(self.ended(then)),
+        }
+    }
+
+    /// Takes a queue out of the directory. Its actor is told its end next.
+    fn take_out(&self, uid: u64, queue: Option<Queue>, then: Afterwards) -> Next
+        ensures { Leaves queue then result }
+    {
+        self.queues.remove(&self.rt, uid);
+        match queue {
+            Some(Queue { mailbox, .. }) => Next::On(Stage::Ending { mailbox, then }),
+            None => self.ended(then),
+        }
+    }
+
+    /// Asks a queue that is looked for by its uid, and goes on without it where it is not to be had.
+    fn ask_found(&self, uid: u64, at: Moment, command: Command, seconds: u64, then: Then) -> Next
+        ensures { AsksFound uid at command seconds then result }
+    {
+        let fault = match self.queues.find_uid(&self.rt, uid) {
+            Ok(Some(queue)) => {
+                return self.ask(Queue::of(queue), at, command, seconds, Purpose::Plan(then));
+            }
+            Ok(None) => Fault::QueueDoesNotExist,
+            Err(fault) => fault,
+        };
+        self.planned(uid, None, at, then, Err(fault))
+    }
+
+    /// Asks what is next, or answers.
+    fn go_on(&self, uid: u64, queue: Option<Queue>, at: Moment, step: Step) -> Next
+        ensures { GoesOn uid queue at step result }
+    {
+        match (step, queue) {
+            (Step::Answer(answer), _) => self.answers(answer),
+            (
+                Step::Ask {
+                    command,
+                    seconds,
+                    then,
+                },
+                Some(queue),
+            ) => self.ask(queue, at, command, seconds, Purpose::Plan(then)),
+            (
+                Step::Ask {
+                    command,
+                    seconds,
+                    then,
+                },
+                None,
+            ) => self.ask_found(uid, at, command, seconds, then),
+        }
+    }
+
+    /// Takes out a queue that was closed. One that had been closed before, by a request whose client went
+    /// away, is taken out too, and is not there any more.
+    fn deleted(&self, uid: u64, queue: Option<Queue>, outcome: Outcome) -> Next
+        ensures { Deleted queue outcome result }
+    {
+        match outcome {
+            Ok(_) => self.take_out(uid, queue, Afterwards::Tell(Ok(()))),
+            Err(Fault::QueueDoesNotExist) => {
+                let then = Afterwards::Tell(Err(Fault::QueueDoesNotExist));
+                self.take_out(uid, queue, then)
+            }
+            Err(fault) => refuses(fault),
+        }
+    }
+
+    /// Enters the target of a queue that has settings.
+    fn settled(&self, uid: u64, target: Option<u64>, outcome: Outcome) -> Next
+        ensures { Settled outcome result }
+    {
+        if let Err(fault) = outcome {
+            return refuses(fault);
+        }
+        if let Some(target) = target {
+            self.queues.set_target(&self.rt, uid, target);
+        }
+        self.answers(Ok(ReplyShape::Nothing))
+    }
+
+    /// Answers for a queue that was there already, by its settings.
+    fn compared(&self, creation: Creation, settings: Settings) -> Next
+        ensures { Compared creation settings result }
+    {
+        let target = match self.target_uid(&creation.name, &creation.wish) {
+            Ok(target) => target,
+            Err(fault) => return refuses(fault),
+        };
+        if settings.agrees(&creation.wish, target) {
+            self.answers(Ok(ReplyShape::QueueUrl(creation.name)))
+        } else {
+            refuses(Fault::QueueNameExists)
+        }
+    }
+
+    /// The same, by a look at it. One that was closed is taken out and made anew.
+    fn seen(&self, uid: u64, queue: Option<Queue>, creation: Creation, reply: Reply) -> Next
+        ensures { Seen queue creation reply result }
+    {
+        match reply {
+            Reply::Looked(look) if look.closed => {
+                self.take_out(uid, queue, Afterwards::Create(creation))
+            }
+            Reply::Looked(look) => self.compared(creation, look.settings),
+            _ => self.answers(Ok(ReplyShape::QueueUrl(creation.name))),
+        }
+    }
+
+    /// The same, by what became of the look. One that was taken out meanwhile is made anew.
+    fn looked(&self, uid: u64, queue: Option<Queue>, creation: Creation, outcome: Outcome) -> Next
+        ensures { Looked queue creation outcome result }
+    {
+        match outcome {
+            Ok(Performed { command: _, reply }) => self.seen(uid, queue, creation, reply),
+            Err(Fault::ActorGone) => Next::On(Stage::Creating(creation)),
+            Err(fault) => refuses(fault),
+        }
+    }
+
+    /// Goes on as a request has it, with what became of a command.
+    fn planned(
+        &self,
+        uid: u64,
+        queue: Option<Queue>,
+        at: Moment,
+        then: Then,
+        outcome: Outcome,
+    ) -> Next
+        ensures { Resumes uid queue at (purposes.Plan then) outcome result }
+    {
+        Next::On(Stage::Going {
+            uid,
+            queue,
+            at,
+            step: after(self.alloc, uid, then, outcome),
+        })
+    }
+
+    /// Goes on with what became of a command, and with the queue where it has answered.
+    fn resume(
+        &self,
+        uid: u64,
+        queue: Option<Queue>,
+        at: Moment,
+        purpose: Purpose,
+        outcome: Outcome,
+    ) -> Next
+        ensures { Resumes uid queue at purpose outcome result }
+    {
+        match purpose {
+            Purpose::Plan(then) => self.planned(uid, queue, at, then, outcome),
+            Purpose::Delete => self.deleted(uid, queue, outcome),
+            Purpose::Set(target) => self.settled(uid, target, outcome),
+            Purpose::Existing(creation) => self.looked(uid, queue, creation, outcome),
+        }
+    }
+
+    /// Goes on with the answer to a command, or without one.
+    fn answered(
+        &self,
+        exchange: Exchange,
+        given: Result<Answer<NoPress>, AskFault<NoPress>>,
+    ) -> Next
+        ensures { Returned exchange given result }
+    {
+        let Exchange {
+            uid,
+            mailbox,
+            at,
+            purpose,
+            future: _,
+        } = exchange;
+        match given {
+            Ok(answer) => {
+                let (desk, pass, command, reply) = answer.into_parts();
+                let queue = Queue::new(uid, desk, pass, mailbox);
+                self.resume(uid, Some(queue), at, purpose, outcome_of(command, reply))
+            }
+            Err(AskFault { fault, pass: _ }) => self.resume(uid, None, at, purpose, Err(fault)),
+        }
+    }
+
+    /// Looks whether a command was answered.
+    fn await_answer(&self, cx: &mut Context<'_>, mut exchange: Exchange) -> Turn
+        ensures waits { OnWaits result (IsArmed cx.new) }
+        ensures kept { Keeps cx.old cx.new }
+        ensures leads { AwaitsAnswer exchange result }
+    {
+        match exchange.future.poll(cx) {
+            Poll::Pending => Turn::Waits(Stage::Asking(exchange)),
+            Poll::Ready(given) => Turn::Goes(self.answered(exchange, given)),
+        }
+    }
+
+    /// Looks at a stage.
+    pub(crate) fn turn(&self, cx: &mut Context<'_>, stage: Stage) -> Turn
+        ensures waits { OnWaits result (IsArmed cx.new) }
+        ensures kept { Keeps cx.old cx.new }
+        ensures leads { Turns stage result }
+    {
+        match stage {
+            Stage::Collecting(arriving) => self.await_body(cx, arriving),
+            Stage::Creating(creation) => self.await_name(cx, creation),
+            Stage::Making { creation, made } => self.await_queue(cx, creation, made),
+            Stage::Ending { mailbox, then } => self.end(cx, mailbox, then),
+            Stage::Asking(exchange) => self.await_answer(cx, exchange),
+            Stage::Going {
+                uid,
+                queue,
+                at,
+                step,
+            } => Turn::Goes(self.go_on(uid, queue, at, step)),
+            Stage::Sending(sent) => Turn::Goes(Next::Ends(Ok(sent))),
+            Stage::Over => Turn::Goes(refuses(Fault::OutOfMemory)),
+        }
+    }
+
+    /// Goes through stages, until one waits or the request ends.
+    pub(crate) fn run(&self, cx: &mut Context<'_>, mut stage: Stage) -> Halt
+        ensures waits { OnHeld result (IsArmed cx.new) }
+        ensures kept { Keeps cx.old cx.new }
+        ensures leads { Halts stage result }
+    {
+        for _ in self.rt.forever() {
+            match self.turn(cx, stage) {
+                Turn::Waits(left) => return Halt::Waits(left),
+                Turn::Goes(Next::On(next)) => stage = next,
+                Turn::Goes(Next::Ends(ended)) => return Halt::Ends(ended),
+            }
+        }
+        unreachable!()
+    }
+}

@@ -1,0 +1,315 @@
+//! How a queue comes to be served: it gets a uid, a desk, a mailbox, and an actor in a thread of its own.
+//! Queues that clients create are made by one thread, so that no poll has to start a thread.
+
+ghost use Rattle.std.specs.Prelude.{◌≡◌};
+ghost use Rattle.std.specs.Arc.{arc_value};
+
+use crate::clock::moment_of_day;
+use crossbeam_channel::{Receiver, Sender, unbounded};
+use desk::{Desk, NoGate, NoPress, Pass};
+use futures::channel::oneshot;
+use journal::Moment;
+use message::{Fault, QueueName};
+use queue_actor::{Actor, Answer, Beat, Directory, Mail, Served, TICK_MILLISECONDS, deadline_loop};
+use queue_config::{AlarmRule, Config, ConfiguredAlarm, Settings};
+use queue_core::QueueState;
+use std::alloc::Global;
+use std::sync::{Arc, Wait};
+use std::thread;
+use std::thread::Threads;
+use std::time::{Clock, Duration};
+
+/// Where an answer goes.
+pub type Slot = oneshot::Sender<Answer<NoPress>>;
+
+/// What an actor finds in its mailbox.
+pub type Letter = Mail<NoPress, Slot>;
+
+/// Where mail for an actor is put.
+pub type Mailbox = Sender<Letter>;
+
+/// A queue as a request has it at hand: its desk, a pass of that desk, and the mailbox of its actor.
+#[derive(Drop)]
+pub struct Queue {
+    pub uid: u64,
+    pub desk: Arc<Desk<NoPress>>,
+    pub pass: Pass<NoPress>,
+    pub mailbox: Mailbox,
+    pub ghost together: { pass.desk ≡ arc_value desk },
+}
+
+impl Queue {
+    /// The queue of these parts.
+    pub fn new(uid: u64, desk: Arc<Desk<NoPress>>, pass: Pass<NoPress>, mailbox: Mailbox) -> Queue
+        requires { pass.desk ≡ arc_value desk }
+        ensures { (result.uid ≡ uid) × (result.desk ≡ desk) × (result.pass ≡ pass) }
+    {
+        Queue {
+            uid,
+            desk,
+            pass,
+            mailbox,
+        }
+    }
+
+    /// A queue that was found in the directory.
+    pub fn of(served: Served<NoPress, Slot>) -> Queue
+        ensures { (result.uid ≡ served.uid) × (result.desk ≡ served.desk) × (result.pass ≡ served.pass) }
+    {
+        let Served {
+            uid,
+            desk,
+            pass,
+            mailbox,
+        } = served;
+        Queue::new(uid, desk, pass, mailbox)
+    }
+}
+
+/// The queues that are served.
+pub type Queues = Directory<NoPress, Slot>;
+
+/// The wall clock, looked at every so often.
+#[derive(Drop)]
+struct Ticking<C> {
+    clock: C,
+}
+
+impl<C: Clock> Beat for Ticking<C> {
+    fn next(&mut self) -> Option<Moment> {
+        thread::sleep(&self.clock, Duration::from_millis(TICK_MILLISECONDS));
+        Some(moment_of_day(&self.clock))
+    }
+}
+
+/// A queue that is to be there.
+#[derive(Debug, Drop)]
+pub struct NewQueue {
+    pub name: QueueName,
+    pub settings: Settings,
+    pub rules: Vec<AlarmRule>,
+}
+
+/// What became of an order.
+#[derive(Debug, Drop)]
+pub struct Made {
+    pub outcome: Result<(), Fault>,
+}
+
+/// A queue that is to be made at a moment, and where it is told what became of it.
+#[derive(Drop)]
+pub struct Order {
+    pub new: NewQueue,
+    pub at: Moment,
+    pub made: oneshot::Sender<Made>,
+}
+
+/// The queues that are served, and where more of them are ordered.
+#[derive(Drop)]
+pub struct Opened {
+    pub queues: Arc<Queues>,
+    pub orders: Sender<Order>,
+}
+
+/// The uid of the dead-letter queue that settings name, 0 for none.
+fn target_of(settings: &Settings) -> u64 {
+    match settings.redrive_policy {
+        Some(policy) => policy.target,
+        None => 0,
+    }
+}
+
+/// An actor and what its thread works with.
+#[derive(Drop)]
+pub struct Serving<R> {
+    rt: R,
+    alloc: Global,
+    actor: Actor<NoPress>,
+    mails: Receiver<Letter>,
+    queues: Arc<Queues>,
+}
+
+impl<R: Wait + Copy> Serving<R> {
+    /// Serves the queue until its mailbox ends.
+    fn run(self) {
+        let Serving {
+            rt,
+            alloc,
+            mut actor,
+            mut mails,
+            queues,
+        } = self;
+        actor.run(&rt, alloc, &mut mails, &*queues, &NoGate)
+    }
+}
+
+/// Starts the thread of an actor. A thread that cannot be started is `OutOfMemory`.
+fn start_actor<R: Wait + Threads + Copy + Send + 'static>(
+    rt: &R,
+    alloc: Global,
+    actor: Actor<NoPress>,
+    mails: Receiver<Letter>,
+    queues: Arc<Queues>,
+) -> Result<(), Fault> {
+    let serving = Serving {
+        rt: *rt,
+        alloc,
+        actor,
+        mails,
+        queues,
+    };
+    match thread::spawn(rt, move || serving.run()) {
+        Ok(_thread) => Ok(()),
+        Err(_refused) => Err(Fault::OutOfMemory),
+    }
+}
+
+/// Opens a queue at a moment under a uid that was entered, and serves it.
+fn start_queue<R: Wait + Threads + Copy + Send + 'static>(
+    rt: &R,
+    host: &HostRuntime,
+    alloc: Global,
+    queues: &Arc<Queues>,
+    uid: u64,
+    new: NewQueue,
+    at: Moment,
+) -> Result<(), Fault> {
+    let target = target_of(&new.settings);
+    let limits = queues.limits();
+    let state = QueueState::open(alloc, uid, new.name, new.settings, limits, new.rules, at)?;
+    let (desk, mut pass) = Desk::new(host, alloc, state, NoPress)?;
+    let own = desk.pass(&mut pass);
+    let desk = Arc::new(alloc, desk)?;
+    let (mailbox, mails) = unbounded::<Letter, Global>(alloc)?;
+    let actor = Actor::new(Arc::try_clone(&desk)?, own, limits);
+    start_actor(rt, alloc, actor, mails, Arc::try_clone(queues)?)?;
+    queues.serve(rt, Served::new(uid, desk, pass, mailbox), target)
+}
+
+/// Makes a queue at a moment. `QueueNameExists` where its name is there, `OverLimit` where there are as
+/// many queues as there may be, and `OutOfMemory` also where its thread cannot be started. A refused
+/// queue leaves no name.
+fn make_queue<R: Wait + Threads + Copy + Send + 'static>(
+    rt: &R,
+    host: &HostRuntime,
+    alloc: Global,
+    queues: &Arc<Queues>,
+    new: NewQueue,
+    at: Moment,
+) -> Result<(), Fault> {
+    let uid = queues.enter(rt, alloc, new.name)?;
+    let started = start_queue(rt, host, alloc, queues, uid, new, at);
+    if started.is_err() {
+        queues.remove(rt, uid);
+    }
+    started
+}
+
+/// The rules of the alarms of the queue of a uid, in their order.
+fn rules_of(alloc: Global, alarms: &[ConfiguredAlarm], uid: u64) -> Result<Vec<AlarmRule>, Fault> {
+    let mut rules = Vec::new(alloc);
+    for alarm in alarms {
+        if alarm.queue == uid {
+            rules.push(alarm.rule)?;
+        }
+    }
+    Ok(rules)
+}
+
+/// Makes the configured queues at a moment, in their order.
+fn make_configured<R: Wait + Threads + Copy + Send + 'static>(
+    rt: &R,
+    host: &HostRuntime,
+    alloc: Global,
+    queues: &Arc<Queues>,
+    config: &Config,
+    at: Moment,
+) -> Result<(), Fault> {
+    let mut uid = 0u64;
+    for queue in config.queues.as_slice() {
+        uid = uid.saturating_add(1);
+        let new = NewQueue {
+            name: queue.name,
+            settings: queue.settings,
+            rules: rules_of(alloc, config.alarms.as_slice(), uid)?,
+        };
+        make_queue(rt, host, alloc, queues, new, at)?;
+    }
+    Ok(())
+}
+
+/// Starts the thread that tells all actors the time.
+fn start_clock<R: Wait + Threads + Clock + Copy + Send + 'static>(
+    rt: &R,
+    alloc: Global,
+    queues: Arc<Queues>,
+) -> Result<(), Fault> {
+    let own = *rt;
+    let telling = thread::spawn(rt, move || {
+        deadline_loop(&own, alloc, &*queues, &mut Ticking { clock: own })
+    });
+    match telling {
+        Ok(_thread) => Ok(()),
+        Err(_refused) => Err(Fault::OutOfMemory),
+    }
+}
+
+/// What the thread works with that makes queues.
+#[derive(Drop)]
+pub struct Maker<R> {
+    rt: R,
+    host: HostRuntime,
+    alloc: Global,
+    queues: Arc<Queues>,
+    orders: Receiver<Order>,
+}
+
+impl<R: Wait + Threads + Copy + Send + 'static> Maker<R> {
+    /// Makes the queues that are ordered, one after another, until nobody can order any more.
+    fn run(self) {
+        for _ in self.rt.forever() {
+            let Ok(Order { new, at, made }) = self.orders.recv(&self.rt) else {
+                return;
+            };
+            let outcome = make_queue(&self.rt, &self.host, self.alloc, &self.queues, new, at);
+            let _ = made.send(Made { outcome });
+        }
+    }
+}
+
+/// Starts the thread that makes queues.
+fn start_maker<R: Wait + Threads + Copy + Send + 'static>(
+    rt: &R,
+    host: &HostRuntime,
+    alloc: Global,
+    queues: Arc<Queues>,
+    orders: Receiver<Order>,
+) -> Result<(), Fault> {
+    let maker = Maker {
+        rt: *rt,
+        host: *host,
+        alloc,
+        queues,
+        orders,
+    };
+    match thread::spawn(rt, move || maker.run()) {
+        Ok(_thread) => Ok(()),
+        Err(_refused) => Err(Fault::OutOfMemory),
+    }
+}
+
+/// The queues of a configuration, opened at a moment and served from now on.
+pub(crate) fn open_all<R: Wait + Threads + Clock + Copy + Send + 'static>(
+    rt: &R,
+    host: &HostRuntime,
+    alloc: Global,
+    config: &Config,
+    at: Moment,
+) -> Result<Opened, Fault> {
+    let queues = Arc::new(alloc, Directory::new(alloc, config.limits)?)?;
+    make_configured(rt, host, alloc, &queues, config, at)?;
+    start_clock(rt, alloc, Arc::try_clone(&queues)?)?;
+    let (orders, ordered) = unbounded::<Order, Global>(alloc)?;
+    start_maker(rt, host, alloc, Arc::try_clone(&queues)?, ordered)?;
+    Ok(Opened { queues, orders })
+}

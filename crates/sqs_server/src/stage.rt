@@ -1,0 +1,110 @@
+//! How far a request is.
+
+use crate::arriving::Arriving;
+use crate::plan::{Step, Then};
+use crate::queues::{Made, Mailbox, Queue};
+use crate::reply::Sent;
+use desk::NoPress;
+use futures::channel::oneshot::Receiver;
+use journal::Moment;
+use message::{Fault, QueueName};
+use queue_actor::AskFuture;
+use queue_config::Wish;
+
+/// A queue that is to be there.
+#[derive(Clone, Copy, Debug)]
+pub struct Creation {
+    pub name: QueueName,
+    pub wish: Wish,
+    pub at: Moment,
+}
+
+/// What comes once an actor was told its end.
+#[derive(Debug, Drop)]
+pub enum Afterwards {
+    /// A client is told what became of the deletion that it asked for.
+    Tell(Result<(), Fault>),
+    /// A queue is made under the name that is free now.
+    Create(Creation),
+}
+
+/// What is made of the answer to a command.
+#[derive(Drop)]
+pub enum Purpose {
+    /// It goes on as its request has it.
+    Plan(Then),
+    /// The queue was closed, and is taken out.
+    Delete,
+    /// The queue has settings, and from now on this target, where one was asked for.
+    Set(Option<u64>),
+    /// The queue was looked at, since one of its name is to be there.
+    Existing(Creation),
+}
+
+/// A command that was sent to a queue.
+#[derive(Drop)]
+pub struct Exchange {
+    pub uid: u64,
+    pub mailbox: Mailbox,
+    pub at: Moment,
+    pub purpose: Purpose,
+    pub future: AskFuture<NoPress>,
+}
+
+/// How far a request is.
+#[derive(Drop)]
+pub enum Stage {
+    /// Its body comes.
+    Collecting(Arriving),
+    /// A queue is to be there.
+    Creating(Creation),
+    /// A queue was ordered.
+    Making {
+        creation: Creation,
+        made: Receiver<Made>,
+    },
+    /// A queue is to be asked; one that is not at hand is looked for by its uid.
+    Going {
+        uid: u64,
+        queue: Option<Queue>,
+        at: Moment,
+        step: Step,
+    },
+    /// A queue was asked.
+    Asking(Exchange),
+    /// A queue was taken out of the directory, and its actor is to be told its end.
+    Ending {
+        mailbox: Mailbox,
+        then: Afterwards,
+    },
+    /// This is to be sent.
+    Sending(Sent),
+    /// All is done.
+    Over,
+}
+
+/// What comes of a stage that need not wait.
+#[derive(Drop)]
+pub enum Next {
+    /// It goes on at once.
+    On(Stage),
+    /// It ends.
+    Ends(Result<Sent, hyper::Error>),
+}
+
+/// What becomes of a stage that is looked at.
+#[derive(Drop)]
+pub enum Turn {
+    Goes(Next),
+    /// It waits, and the task was registered.
+    Waits(Stage),
+}
+
+/// What becomes of a request that goes on for as long as it need not wait.
+#[derive(Drop)]
+pub enum Halt {
+    /// It waits at this stage, and the task was registered.
+    Waits(Stage),
+    /// It has ended.
+    Ends(Result<Sent, hyper::Error>),
+}

@@ -1,0 +1,251 @@
+//! Conversations with the server over loopback. What is wanted was worked out by hand from what each
+//! request asks, and never taken from the program.
+
+mod conversations;
+
+use crate::arguments::{Refusal, configuration_in};
+use crate::serving::{listen, serve};
+use crossbeam_channel::{Receiver, unbounded};
+use std::alloc::{AllocError, Global};
+use std::io::{Read, Write};
+use std::net::{Ipv4Addr, Net, SocketAddr, TcpStream};
+use std::process::Abort;
+use std::random::RandomSource;
+use std::sync::Wait;
+use std::test::Fail;
+use std::thread::Threads;
+use std::time::{Clock, Duration};
+use std::{str, thread};
+use tokio::runtime::Runtime;
+
+/// How long a test waits for anything, in seconds.
+const PATIENCE: u64 = 20;
+
+/// A server at a port of its own, in threads of its own.
+#[derive(Drop)]
+struct Started {
+    address: SocketAddr,
+    ended: Receiver<bool>,
+}
+
+/// Starts a server with a configuration, which ends after so many connections.
+fn start<R>(rt: &R, host: &HostRuntime, text: &str, connections: u64) -> Result<Started, Fail>
+where
+    R: Wait
+        + Threads
+        + Clock
+        + Net
+        + RandomSource
+        + AllocGlobal
+        + Eprint
+        + Copy
+        + Send
+        + Sync
+        + Drop
+        + 'static,
+{
+    let alloc = rt.alloc();
+    let bytes = Vec::from_slice(alloc, text.as_bytes())?;
+    let config = configuration_in(alloc, Ok(bytes))?;
+    let mut runtime = Runtime::with_worker_threads(rt, 2)?;
+    let listener = listen(rt, &runtime, SocketAddr::from((Ipv4Addr::LOCALHOST, 0)))?;
+    let address = listener.local_addr()?;
+    let (ends, ended) = unbounded::<bool, Global>(alloc)?;
+    let (own, host) = (*rt, *host);
+    let _server = thread::spawn(rt, move || {
+        let outcome = serve(
+            &own,
+            &host,
+            &mut runtime,
+            listener,
+            &config,
+            Some(connections),
+        );
+        let _ = ends.send(&own, outcome.is_ok());
+    })?;
+    Ok(Started { address, ended })
+}
+
+/// Whether the server ends, and as it should.
+fn has_ended<R: Wait + Clock>(rt: &R, server: &Started) -> bool {
+    let patience = Duration::from_secs(PATIENCE);
+    matches!(server.ended.recv_timeout(rt, patience), Ok(true))
+}
+
+/// A connection to the server.
+fn connect(rt: &HostRuntime, server: &Started) -> Result<TcpStream, Fail> {
+    let stream = TcpStream::connect(rt, server.address)?;
+    stream.set_read_timeout(Some(Duration::from_secs(PATIENCE)))?;
+    stream.set_nodelay(true)?;
+    Ok(stream)
+}
+
+/// A request of an action.
+fn request(alloc: Global, action: &str, body: &str) -> Result<String, AllocError> {
+    let length = body.len();
+    format!(in alloc;
+        "POST / HTTP/1.1\r\nHost: localhost\r\nX-Amz-Target: AmazonSQS.{action}\r\nContent-Length: {length}\r\n\r\n{body}"
+    )
+}
+
+/// The number of bytes that a head announces.
+fn length_in(head: &str) -> Option<usize> {
+    let (_, rest) = head.split_once("content-length: ")?;
+    match rest.split_once("\r\n") {
+        Some((length, _)) => length.parse::<usize>().ok(),
+        None => rest.parse::<usize>().ok(),
+    }
+}
+
+/// The head and the body of a reply, where it has come whole.
+fn whole_reply(bytes: &[u8]) -> Option<(&str, &str)> {
+    let (head, body) = str::from_utf8(bytes).ok()?.split_once("\r\n\r\n")?;
+    if body.len() == length_in(head)? {
+        Some((head, body))
+    } else {
+        None
+    }
+}
+
+/// The status of a reply and its body, a space between them. Every reply has the content type.
+fn told(alloc: Global, head: &str, body: &str) -> Result<String, Fail> {
+    let (_, status) = head.split_once("HTTP/1.1 ").ok_or("a status")?;
+    let (code, fields) = status.split_once(" ").ok_or("a code")?;
+    let _ = fields
+        .split_once("\r\ncontent-type: application/x-amz-json-1.0")
+        .ok_or("the content type")?;
+    Ok(format!(in alloc; "{code} {body}")?)
+}
+
+/// The next reply of a connection: its status and its body.
+fn next_reply(alloc: Global, stream: &mut TcpStream) -> Result<String, Fail> {
+    let mut came = Vec::new(alloc);
+    for _ in 0..10_000 {
+        if let Some((head, body)) = whole_reply(came.as_slice()) {
+            return told(alloc, head, body);
+        }
+        let mut piece = [0u8; 1024];
+        let count = stream.read(&mut piece)?;
+        if count == 0 {
+            return Err(Fail::from("the connection ended"));
+        }
+        came.extend_from_slice(&piece[..count])?;
+    }
+    Err(Fail::from("a reply without end"))
+}
+
+/// What a client has yet to read, and who it is.
+#[derive(Drop)]
+struct Client {
+    letter: u8,
+    stream: TcpStream,
+}
+
+/// The place of a client, which connects where it has not yet done so.
+fn place_of(
+    rt: &HostRuntime,
+    server: &Started,
+    clients: &mut Vec<Client>,
+    letter: u8,
+) -> Result<usize, Fail> {
+    if let Some(place) = clients.iter().position(|it| it.letter == letter) {
+        return Ok(place);
+    }
+    let stream = connect(rt, server)?;
+    clients.push(Client { letter, stream })?;
+    Ok(clients.len() - 1)
+}
+
+/// Sends chunks of a body, 65,536 blanks each. One that cannot be sent any more is no fault.
+fn send_chunks(alloc: Global, stream: &mut TcpStream, chunks: u32) -> Result<(), Fail> {
+    let chunk = Vec::from_elem(alloc, b' ', 65_536)?;
+    for _ in 0..chunks {
+        let sent = stream
+            .write_all(b"10000\r\n")
+            .and_then(|_| stream.write_all(chunk.as_slice()))
+            .and_then(|_| stream.write_all(b"\r\n"));
+        if sent.is_err() {
+            break;
+        }
+    }
+    Ok(())
+}
+
+/// Whether nothing comes for 300 milliseconds.
+fn is_silent(stream: &mut TcpStream) -> Result<bool, Fail> {
+    stream.set_read_timeout(Some(Duration::from_millis(300)))?;
+    let mut piece = [0u8; 1];
+    let is_silent = stream.read(&mut piece).is_err();
+    stream.set_read_timeout(Some(Duration::from_secs(PATIENCE)))?;
+    Ok(is_silent)
+}
+
+/// Does what a line says of a client, and gives what it got where the line says what it gets.
+fn act(
+    alloc: Global,
+    stream: &mut TcpStream,
+    verb: &str,
+    rest: &str,
+) -> Result<Option<String>, Fail> {
+    match verb {
+        "asks" => {
+            let (action, body) = rest.split_once(" ").ok_or("an action and a body")?;
+            let text = request(alloc, action, body)?;
+            stream.write_all(text.as_bytes())?;
+        }
+        "sends" => {
+            let text = rest.replace(alloc, "~", "\r\n")?;
+            stream.write_all(text.as_bytes())?;
+        }
+        "chunks" => send_chunks(alloc, stream, rest.parse::<u32>().ok().ok_or("a number")?)?,
+        "gets" | "begins" => return Ok(Some(next_reply(alloc, stream)?)),
+        "waits" => {
+            if !is_silent(stream)? {
+                return Err(Fail::from("something came"));
+            }
+        }
+        _ => return Err(Fail::from("another word")),
+    }
+    Ok(None)
+}
+
+/// Does what each line says of a client, and gives the first line that went otherwise, with what came.
+fn talk(rt: &HostRuntime, server: &Started, steps: &str) -> Result<String, Fail> {
+    let alloc = rt.alloc();
+    let mut clients = Vec::new(alloc);
+    for line in steps.lines() {
+        let letter = line.bytes().next().ok_or("a client")?;
+        let (_, rest) = line.split_once(" ").ok_or("a verb")?;
+        let (verb, rest) = rest.split_once(" ").ok_or("a thing")?;
+        let place = place_of(rt, server, &mut clients, letter)?;
+        if verb == "leaves" && place < clients.len() {
+            clients.remove(place);
+            continue;
+        }
+        let client = clients.get_mut(place).ok_or("a client")?;
+        let came = act(alloc, &mut client.stream, verb, rest)?;
+        if !is_as_wanted(came.as_ref(), verb, rest) {
+            return Ok(format!(in alloc; "{line}: {came:?}")?);
+        }
+    }
+    Ok(String::new(alloc))
+}
+
+/// Whether a client got what it was to get, or nothing where it was to get nothing.
+fn is_as_wanted(came: Option<&String>, verb: &str, wanted: &str) -> bool {
+    match came {
+        Some(came) if verb == "begins" => came.starts_with(wanted),
+        Some(came) => came.as_str() == wanted,
+        None => true,
+    }
+}
+
+/// How many clients the lines have: their letters go up from A.
+fn clients_in(steps: &str) -> u64 {
+    let mut count = 0;
+    for line in steps.lines() {
+        let letter = line.bytes().next().unwrap_or(b'A');
+        count = u64::max(count, letter.saturating_sub(b'A') as u64 + 1);
+    }
+    count
+}

@@ -1,0 +1,290 @@
+//! Conversations, each between a server of its own and clients with letters.
+
+use super::*;
+
+/// A conversation's first line says what it shows; then come the lines of its configuration. Behind `--` each line
+/// is what a client does: `asks` an action with a body; `sends` bytes, a tilde for the end of a line; sends so many
+/// `chunks`; `gets` a status and a body, or one that `begins` so; `waits`, and gets nothing; `leaves`.
+const CONVERSATIONS: &str = r#"a creation, on a connection that its client asks to be closed
+--
+A sends POST / HTTP/1.1~Host: localhost~X-Amz-Target: AmazonSQS.CreateQueue~Content-Length: 20~Connection: close~~{"QueueName":"jobs"}
+A gets 200 {"QueueUrl":"http://localhost:9324/000000000000/jobs"}
+
+several requests on one connection
+--
+A asks CreateQueue {"QueueName":"jobs"}
+A gets 200 {"QueueUrl":"http://localhost:9324/000000000000/jobs"}
+A asks CreateQueue {"QueueName":"jobs"}
+A gets 200 {"QueueUrl":"http://localhost:9324/000000000000/jobs"}
+A asks SendMessage {"QueueUrl":"jobs","MessageBody":"hello"}
+A gets 200 {"MD5OfMessageBody":"5d41402abc4b2a76b9719d911017c592","MessageId":"00000000-0000-0001-0000-000000000000"}
+A asks ReceiveMessage {"QueueUrl":"jobs"}
+A gets 200 {"Messages":[{"Body":"hello","MD5OfBody":"5d41402abc4b2a76b9719d911017c592","MessageId":"00000000-0000-0001-0000-000000000000","ReceiptHandle":"000000000000000100000000000000000000000000000001"}]}
+A asks DeleteMessage {"QueueUrl":"jobs","ReceiptHandle":"000000000000000100000000000000000000000000000001"}
+A gets 200 {}
+
+a batch, of which an entry that cannot be read fails by itself and takes no number
+[[queue]]
+name = "jobs"
+--
+A asks SendMessageBatch {"QueueUrl":"jobs","Entries":[{"Id":"x","MessageBody":"\u0001"},{"Id":"y","MessageBody":"b"}]}
+A gets 200 {"Failed":[{"Code":"InvalidMessageContents","Id":"x","Message":"Characters not allowed in the message.","SenderFault":true}],"Successful":[{"Id":"y","MD5OfMessageBody":"92eb5ffee6ae2fec3ad71c777531578f","MessageId":"00000000-0000-0001-0000-000000000000"}]}
+
+queues that are created, listed and deleted
+[[queue]]
+name = "alpha"
+--
+A asks CreateQueue {"QueueName":"beta","Attributes":{"RedrivePolicy":"{\"deadLetterTargetArn\":\"arn:aws:sqs:elasticmq:000000000000:alpha\",\"maxReceiveCount\":3}"}}
+A gets 200 {"QueueUrl":"http://localhost:9324/000000000000/beta"}
+A asks CreateQueue {"QueueName":"beta","Attributes":{"VisibilityTimeout":"5"}}
+A gets 400 {"__type":"com.amazonaws.sqs#QueueNameExists","message":"A queue of this name exists with other attributes."}
+A asks ListQueues {}
+A gets 200 {"QueueUrls":["http://localhost:9324/000000000000/alpha","http://localhost:9324/000000000000/beta"]}
+A asks ListDeadLetterSourceQueues {"QueueUrl":"http://localhost:9324/000000000000/alpha"}
+A gets 200 {"queueUrls":["http://localhost:9324/000000000000/beta"]}
+A asks SetQueueAttributes {"QueueUrl":"beta","Attributes":{"RedrivePolicy":""}}
+A gets 200 {}
+A asks ListDeadLetterSourceQueues {"QueueUrl":"http://localhost:9324/000000000000/alpha"}
+A gets 200 {"queueUrls":[]}
+A asks DeleteQueue {"QueueUrl":"http://localhost:9324/000000000000/alpha"}
+A gets 200 {}
+A asks GetQueueUrl {"QueueName":"alpha"}
+A gets 400 {"__type":"com.amazonaws.sqs#QueueDoesNotExist","message":"The specified queue does not exist."}
+
+a message that was received as often as it may be is found in the dead-letter queue
+[[queue]]
+name = "dead"
+[[queue]]
+name = "jobs"
+visibility_timeout = 0
+dead_letter_queue = "dead"
+max_receive_count = 1
+--
+A asks SendMessage {"QueueUrl":"jobs","MessageBody":"a"}
+A begins 200 {
+A asks ReceiveMessage {"QueueUrl":"jobs"}
+A begins 200 {"Messages":[{"Body":"a"
+A asks ReceiveMessage {"QueueUrl":"jobs"}
+A gets 200 {}
+A asks ReceiveMessage {"QueueUrl":"dead","WaitTimeSeconds":20}
+A gets 200 {"Messages":[{"Body":"a","MD5OfBody":"0cc175b9c0f1b6a831c399e269772661","MessageId":"00000000-0000-0002-0000-000000000000","ReceiptHandle":"000000000000000100000000000000000000000000000001"}]}
+
+policies that are configured, cleared, given, and refused
+[[queue]]
+name = "dead"
+[[queue]]
+name = "jobs"
+dead_letter_queue = "dead"
+max_receive_count = 1
+--
+A asks ListDeadLetterSourceQueues {"QueueUrl":"dead"}
+A gets 200 {"queueUrls":["http://localhost:9324/000000000000/jobs"]}
+A asks SetQueueAttributes {"QueueUrl":"jobs","Attributes":{"RedrivePolicy":""}}
+A gets 200 {}
+A asks ListDeadLetterSourceQueues {"QueueUrl":"dead"}
+A gets 200 {"queueUrls":[]}
+A asks SetQueueAttributes {"QueueUrl":"jobs","Attributes":{"RedrivePolicy":"{\"deadLetterTargetArn\":\"arn:aws:sqs:elasticmq:000000000000:dead\",\"maxReceiveCount\":2}"}}
+A gets 200 {}
+A asks SetQueueAttributes {"QueueUrl":"jobs","Attributes":{"RedrivePolicy":"{\"deadLetterTargetArn\":\"arn:aws:sqs:elasticmq:000000000000:nosuch\",\"maxReceiveCount\":2}"}}
+A gets 400 {"__type":"com.amazonaws.sqs#InvalidAttributeValue","message":"Attribute value not allowed."}
+A asks ListDeadLetterSourceQueues {"QueueUrl":"dead"}
+A gets 200 {"queueUrls":["http://localhost:9324/000000000000/jobs"]}
+
+a message that is made visible again, and then purged
+[[queue]]
+name = "jobs"
+--
+A asks SendMessage {"QueueUrl":"jobs","MessageBody":"a"}
+A begins 200 {
+A asks ReceiveMessage {"QueueUrl":"jobs"}
+A begins 200 {"Messages":[{
+A asks GetQueueAttributes {"QueueUrl":"jobs","AttributeNames":["ApproximateNumberOfMessages","ApproximateNumberOfMessagesNotVisible"]}
+A gets 200 {"Attributes":{"ApproximateNumberOfMessages":"0","ApproximateNumberOfMessagesNotVisible":"1"}}
+A asks ChangeMessageVisibility {"QueueUrl":"jobs","ReceiptHandle":"000000000000000100000000000000000000000000000001","VisibilityTimeout":0}
+A gets 200 {}
+A asks GetQueueAttributes {"QueueUrl":"jobs","AttributeNames":["ApproximateNumberOfMessages","ApproximateNumberOfMessagesNotVisible"]}
+A gets 200 {"Attributes":{"ApproximateNumberOfMessages":"1","ApproximateNumberOfMessagesNotVisible":"0"}}
+A asks ChangeMessageVisibility {"QueueUrl":"jobs","ReceiptHandle":"000000000000000100000000000000000000000000000001","VisibilityTimeout":0}
+A gets 400 {"__type":"com.amazonaws.sqs#MessageNotInflight","message":"The message is not in flight."}
+A asks PurgeQueue {"QueueUrl":"jobs"}
+A gets 200 {}
+A asks GetQueueAttributes {"QueueUrl":"jobs","AttributeNames":["ApproximateNumberOfMessages","ApproximateNumberOfMessagesNotVisible"]}
+A gets 200 {"Attributes":{"ApproximateNumberOfMessages":"0","ApproximateNumberOfMessagesNotVisible":"0"}}
+
+a target that is missing, foreign or of no action, and another method
+--
+A sends POST / HTTP/1.1~Host: localhost~Content-Length: 2~~{}
+A gets 400 {"__type":"com.amazonaws.sqs#UnsupportedOperation","message":"The action is not supported."}
+B sends POST / HTTP/1.1~Host: localhost~X-Amz-Target: DynamoDB_20120810.ListQueues~Content-Length: 2~~{}
+B gets 400 {"__type":"com.amazonaws.sqs#UnsupportedOperation","message":"The action is not supported."}
+C asks Foo {
+C gets 400 {"__type":"com.amazonaws.sqs#UnsupportedOperation","message":"The action is not supported."}
+D sends GET / HTTP/1.1~Host: localhost~~
+D gets 405 {"message":"method not allowed"}
+
+a body that is announced with one byte too many, whatever the target is, and another method whatever is announced
+--
+A sends POST / HTTP/1.1~Host: localhost~X-Amz-Target: AmazonSQS.ListQueues~Expect: 100-continue~Content-Length: 8388609~~
+A gets 413 {"message":"body too large"}
+B sends POST / HTTP/1.1~Host: localhost~X-Amz-Target: Other.Nothing~Expect: 100-continue~Content-Length: 8388609~~
+B gets 413 {"message":"body too large"}
+C sends PUT / HTTP/1.1~Host: localhost~Expect: 100-continue~Content-Length: 8388609~~
+C gets 405 {"message":"method not allowed"}
+
+a body in chunks with one byte too many, and one of as many as there may be, which is no JSON
+--
+A sends POST / HTTP/1.1~Host: localhost~X-Amz-Target: AmazonSQS.ListQueues~Transfer-Encoding: chunked~~1~ ~
+A chunks 128
+A gets 413 {"message":"body too large"}
+B sends POST / HTTP/1.1~Host: localhost~X-Amz-Target: AmazonSQS.ListQueues~Transfer-Encoding: chunked~~
+B chunks 128
+B sends 0~~
+B gets 400 {"__type":"com.amazonaws.sqs#SerializationException","message":"The request cannot be read."}
+
+bodies that are cut, that name a queue that is not there, and that are refused before it is looked for
+--
+A asks SendMessage {"QueueUrl":"jo
+A gets 400 {"__type":"com.amazonaws.sqs#SerializationException","message":"The request cannot be read."}
+A asks SendMessage {"QueueUrl":"jobs","MessageBody":"hello"}
+A gets 400 {"__type":"com.amazonaws.sqs#QueueDoesNotExist","message":"The specified queue does not exist."}
+A asks SendMessage {"QueueUrl":"nosuch","MessageBody":""}
+A gets 400 {"__type":"com.amazonaws.sqs#InvalidParameterValue","message":"Parameter value not allowed."}
+
+connections that are cut in a head and in a body leave the next one answered
+--
+A sends POST / HTTP/1.1~Host: loc
+A leaves now
+B sends POST / HTTP/1.1~Host: localhost~X-Amz-Target: AmazonSQS.ListQueues~Content-Length: 20~~{
+B leaves now
+C asks ListQueues {}
+C gets 200 {"QueueUrls":[]}
+
+a receive that waits is answered by a send on another connection, and not before
+[[queue]]
+name = "jobs"
+--
+A asks ReceiveMessage {"QueueUrl":"jobs","WaitTimeSeconds":20}
+A waits for nothing
+B asks SendMessage {"QueueUrl":"jobs","MessageBody":"a"}
+B begins 200 {
+A gets 200 {"Messages":[{"Body":"a","MD5OfBody":"0cc175b9c0f1b6a831c399e269772661","MessageId":"00000000-0000-0001-0000-000000000000","ReceiptHandle":"000000000000000100000000000000000000000000000001"}]}
+
+a receive that waits as its queue has it, and is then answered without messages
+[[queue]]
+name = "jobs"
+wait_seconds = 1
+--
+A asks ReceiveMessage {"QueueUrl":"jobs"}
+A waits for nothing
+A waits for nothing
+A gets 200 {}
+
+a receive that waits is answered when its queue is deleted
+[[queue]]
+name = "jobs"
+--
+A asks ReceiveMessage {"QueueUrl":"jobs","WaitTimeSeconds":20}
+A waits for nothing
+B asks DeleteQueue {"QueueUrl":"jobs"}
+B gets 200 {}
+A gets 400 {"__type":"com.amazonaws.sqs#QueueDoesNotExist","message":"The specified queue does not exist."}
+
+a receive whose client left, and another request to its queue
+[[queue]]
+name = "jobs"
+--
+A asks ReceiveMessage {"QueueUrl":"jobs","WaitTimeSeconds":1}
+A waits for nothing
+A leaves now
+B asks GetQueueAttributes {"QueueUrl":"jobs","AttributeNames":["ApproximateNumberOfMessages"]}
+B gets 200 {"Attributes":{"ApproximateNumberOfMessages":"0"}}
+
+eight connections that are open at once, each of which asks for one queue and is answered
+--
+A asks CreateQueue {"QueueName":"jobs"}
+B asks CreateQueue {"QueueName":"jobs"}
+C asks CreateQueue {"QueueName":"jobs"}
+D asks CreateQueue {"QueueName":"jobs"}
+E asks CreateQueue {"QueueName":"jobs"}
+F asks CreateQueue {"QueueName":"jobs"}
+G asks CreateQueue {"QueueName":"jobs"}
+H asks CreateQueue {"QueueName":"jobs"}
+A gets 200 {"QueueUrl":"http://localhost:9324/000000000000/jobs"}
+B gets 200 {"QueueUrl":"http://localhost:9324/000000000000/jobs"}
+C gets 200 {"QueueUrl":"http://localhost:9324/000000000000/jobs"}
+D gets 200 {"QueueUrl":"http://localhost:9324/000000000000/jobs"}
+E gets 200 {"QueueUrl":"http://localhost:9324/000000000000/jobs"}
+F gets 200 {"QueueUrl":"http://localhost:9324/000000000000/jobs"}
+G gets 200 {"QueueUrl":"http://localhost:9324/000000000000/jobs"}
+H gets 200 {"QueueUrl":"http://localhost:9324/000000000000/jobs"}
+A asks ListQueues {}
+A gets 200 {"QueueUrls":["http://localhost:9324/000000000000/jobs"]}
+A asks SendMessage {"QueueUrl":"jobs","MessageBody":"a"}
+B asks SendMessage {"QueueUrl":"jobs","MessageBody":"a"}
+C asks SendMessage {"QueueUrl":"jobs","MessageBody":"a"}
+D asks SendMessage {"QueueUrl":"jobs","MessageBody":"a"}
+E asks SendMessage {"QueueUrl":"jobs","MessageBody":"a"}
+F asks SendMessage {"QueueUrl":"jobs","MessageBody":"a"}
+G asks SendMessage {"QueueUrl":"jobs","MessageBody":"a"}
+H asks SendMessage {"QueueUrl":"jobs","MessageBody":"a"}
+A begins 200 {"MD5OfMessageBody":"0cc175b9c0f1b6a831c399e269772661","MessageId":"00000000-0000-0001-0000-00000000000
+B begins 200 {"MD5OfMessageBody":"0cc175b9c0f1b6a831c399e269772661","MessageId":"00000000-0000-0001-0000-00000000000
+C begins 200 {"MD5OfMessageBody":"0cc175b9c0f1b6a831c399e269772661","MessageId":"00000000-0000-0001-0000-00000000000
+D begins 200 {"MD5OfMessageBody":"0cc175b9c0f1b6a831c399e269772661","MessageId":"00000000-0000-0001-0000-00000000000
+E begins 200 {"MD5OfMessageBody":"0cc175b9c0f1b6a831c399e269772661","MessageId":"00000000-0000-0001-0000-00000000000
+F begins 200 {"MD5OfMessageBody":"0cc175b9c0f1b6a831c399e269772661","MessageId":"00000000-0000-0001-0000-00000000000
+G begins 200 {"MD5OfMessageBody":"0cc175b9c0f1b6a831c399e269772661","MessageId":"00000000-0000-0001-0000-00000000000
+H begins 200 {"MD5OfMessageBody":"0cc175b9c0f1b6a831c399e269772661","MessageId":"00000000-0000-0001-0000-00000000000
+A asks GetQueueAttributes {"QueueUrl":"jobs","AttributeNames":["ApproximateNumberOfMessages"]}
+A gets 200 {"Attributes":{"ApproximateNumberOfMessages":"8"}}
+"#;
+
+/// All conversations, one after another.
+#[test]
+fn conversations(rt: HostRuntime) -> Result<(), Fail> {
+    for text in CONVERSATIONS.trim().split("\n\n") {
+        let (head, steps) = text.split_once("\n--\n").ok_or("a line --")?;
+        let config = head.split_once("\n").map_or("", |it| it.1);
+        let server = start(&rt, &rt, config, clients_in(steps))?;
+        let other = talk(&rt, &server, steps)?;
+        assert!(rt; other.is_empty(), "{head}: {other}");
+        assert!(rt; has_ended(&rt, &server), "{head}");
+    }
+    Ok(())
+}
+
+/// The server ends when as many connections have closed as were asked for, and not before. One that is
+/// still open does not count, and does not keep it.
+#[test]
+fn closed_connections_are_counted(rt: HostRuntime) -> Result<(), Fail> {
+    let alloc = rt.alloc();
+    let server = start(&rt, &rt, "", 2)?;
+    let mut open = connect(&rt, &server)?;
+    for is_last in [false, true] {
+        act(alloc, &mut open, "asks", "ListQueues {}")?;
+        let told = next_reply(alloc, &mut open)?;
+        assert_eq!(rt; told.as_str(), r#"200 {"QueueUrls":[]}"#);
+        let mut other = connect(&rt, &server)?;
+        act(alloc, &mut other, "asks", "ListQueues {}")?;
+        next_reply(alloc, &mut other)?;
+        drop(other);
+        if !is_last {
+            let soon = server.ended.recv_timeout(&rt, Duration::from_millis(300));
+            assert!(rt; soon.is_err());
+        }
+    }
+    assert!(rt; has_ended(&rt, &server));
+    Ok(())
+}
+
+/// A port that is taken cannot be opened.
+#[test]
+fn taken_port_is_refused(rt: HostRuntime) -> Result<(), Fail> {
+    let runtime = Runtime::with_worker_threads(&rt, 1)?;
+    let first = listen(&rt, &runtime, SocketAddr::from((Ipv4Addr::LOCALHOST, 0)))?;
+    let Err(refused) = listen(&rt, &runtime, first.local_addr()?) else {
+        return Err(Fail::from("a port that is taken"));
+    };
+    assert_eq!(rt; refused, Refusal::Listen);
+    Ok(())
+}
