@@ -1,37 +1,111 @@
-//! Transcripts: requests, and what is read of them or told to the client. Answers were worked out
-//! from docs/PROFILE.md by hand; digests were computed with Python's `hashlib`, the bytes of base64
-//! with its `base64`.
+//! Requests, and what is read of them or answered: what a run of `sqs_replay` cannot show, and each
+//! action and each reply once where memory is refused. All else stands in the stored runs of
+//! `crates/sqs_replay/cases`. Answers were worked out from docs/PROFILE.md by hand; digests were
+//! computed with Python's `hashlib`.
 
 use super::*;
 use journal::{Moment, Origin, Ticks};
 use message::{Content, Fault, MessageId, QueueName};
 use queue_config::{Limits, RedrivePolicy, Settings, Wish};
-use queue_core::{Command, Delay, Gauges, Look, Offers, Parcel, QueueState, Timeout};
+use queue_core::{Command, Gauges, Look, Offers, Parcel, QueueState, Timeout};
 use receipt_handle::Handle;
 use std::alloc::Global;
-use std::process::Abort;
 use std::test::Fail;
 
-mod attributes;
-mod replies;
-mod requests;
+/// What is asked and what is told of it, by turns. Each action and each reply stands here once.
+///
+/// - After `read` a request, and what was read of it: the delay, the timeout and the policy that a
+///   queue of the defaults gets; a prefix; how many messages a receive asks for, its timeout and its
+///   wait, and the two sorts of attributes; the three numbers of a handle, and a timeout.
+/// - After `names` a body, and the queue that it names.
+/// - `nothing`, and the reply to a batch of no entries.
+/// - Else a request, and its reply: by [`shape_of`].
+const LINES: &str = r#"CreateQueue {"QueueName":"jobs","Attributes":{"VisibilityTimeout":"5"}}
+{"QueueUrl":"http://localhost:9324/000000000000/jobs"}
+SetQueueAttributes {"QueueUrl":"jobs","Attributes":{"DelaySeconds":"5"}}
+{}
+PurgeQueue {"QueueUrl":"jobs"}
+{}
+DeleteQueue {"QueueUrl":"jobs"}
+{}
+GetQueueUrl {"QueueName":"jobs"}
+{"QueueUrl":"http://localhost:9324/000000000000/jobs"}
+ListQueues {"QueueNamePrefix":"b,A-1"}
+{"QueueUrls":["http://localhost:9324/000000000000/b","http://localhost:9324/000000000000/A-1"]}
+ListDeadLetterSourceQueues {"QueueUrl":"alpha"}
+{"queueUrls":["http://localhost:9324/000000000000/alpha"]}
+GetQueueAttributes {"QueueUrl":"beta","AttributeNames":["All"]}
+{"Attributes":{"ApproximateNumberOfMessages":"7","ApproximateNumberOfMessagesDelayed":"0","ApproximateNumberOfMessagesNotVisible":"18446744073709551615","CreatedTimestamp":"4","DelaySeconds":"1","LastModifiedTimestamp":"5","MaximumMessageSize":"1025","MessageRetentionPeriod":"61","QueueArn":"arn:aws:sqs:elasticmq:000000000000:beta","ReceiveMessageWaitTimeSeconds":"3","RedrivePolicy":"{\"deadLetterTargetArn\":\"arn:aws:sqs:elasticmq:000000000000:alpha\",\"maxReceiveCount\":3}","VisibilityTimeout":"2"}}
+SendMessage {"QueueUrl":"jobs","MessageBody":"hello","DelaySeconds":7}
+{"MD5OfMessageBody":"5d41402abc4b2a76b9719d911017c592","MessageId":"01234567-89ab-cdef-fedc-ba9876543210"}
+SendMessage {"QueueUrl":"jobs","MessageBody":"hello","MessageAttributes":{"b":{"DataType":"String","StringValue":"x"},"a":{"DataType":"Binary","BinaryValue":"AA=="}}}
+{"MD5OfMessageAttributes":"2cc23ebbcef47291d79349d5c0a33a94","MD5OfMessageBody":"5d41402abc4b2a76b9719d911017c592","MessageId":"01234567-89ab-cdef-fedc-ba9876543210"}
+ReceiveMessage {"QueueUrl":"dead","AttributeNames":["All"],"MessageAttributeNames":["b.*","foo"]}
+{"Messages":[{"Attributes":{"ApproximateFirstReceiveTimestamp":"6000","ApproximateReceiveCount":"1","SenderId":"000000000000","SentTimestamp":"1000"},"Body":"hi","MD5OfBody":"49f68a5c8493ec2c0bf489821c21fc3b","MD5OfMessageAttributes":"e65da9a78f5eedcdf32f7219d9236dc3","MessageAttributes":{"b.c":{"BinaryValue":"AA==","DataType":"Binary"},"foo":{"DataType":"String","StringValue":"1"}},"MessageId":"00000000-0000-0001-0000-000000000000","ReceiptHandle":"000000000000000100000000000000000000000000000001"},{"Attributes":{"ApproximateFirstReceiveTimestamp":"6000","ApproximateReceiveCount":"1","DeadLetterQueueSourceArn":"arn:aws:sqs:elasticmq:000000000000:jobs","SenderId":"000000000000","SentTimestamp":"1000"},"Body":"a","MD5OfBody":"0cc175b9c0f1b6a831c399e269772661","MessageId":"00000000-0000-0002-0000-000000000000","ReceiptHandle":"000000000000000100000000000000010000000000000001"}]}
+DeleteMessage {"QueueUrl":"jobs","ReceiptHandle":"000000000000000100000000000000020000000000000003"}
+{}
+ChangeMessageVisibility {"QueueUrl":"jobs","ReceiptHandle":"000000000000000100000000000000020000000000000003","VisibilityTimeout":4}
+{}
+SendMessageBatch {"QueueUrl":"jobs","Entries":[{"Id":"e","MessageBody":"a"},{"Id":"d"},{"Id":"c","MessageBody":"b","MessageAttributes":{"b":{"DataType":"String","StringValue":"x"},"a":{"DataType":"Binary","BinaryValue":"AA=="}}},{"Id":"b","MessageBody":"\u0001"}]}
+{"Failed":[{"Code":"InvalidParameterValue","Id":"d","Message":"Parameter value not allowed.","SenderFault":true},{"Code":"InvalidMessageContents","Id":"b","Message":"Characters not allowed in the message.","SenderFault":true},{"Code":"JournalFull","Id":"a-_9","Message":"The journal of the queue is full.","SenderFault":false}],"Successful":[{"Id":"e","MD5OfMessageBody":"0cc175b9c0f1b6a831c399e269772661","MessageId":"00000000-0000-0001-0000-000000000000"},{"Id":"c","MD5OfMessageAttributes":"2cc23ebbcef47291d79349d5c0a33a94","MD5OfMessageBody":"92eb5ffee6ae2fec3ad71c777531578f","MessageId":"00000000-0000-0001-0000-000000000000"},{"Id":"z"}]}
+DeleteMessageBatch {"QueueUrl":"jobs","Entries":[{"Id":"a","ReceiptHandle":"z"},{"Id":"b","ReceiptHandle":"000000000000000100000000000000020000000000000003"}]}
+{"Failed":[{"Code":"ReceiptHandleIsInvalid","Id":"a","Message":"The receipt handle is not valid.","SenderFault":true},{"Code":"JournalFull","Id":"a-_9","Message":"The journal of the queue is full.","SenderFault":false}],"Successful":[{"Id":"b"},{"Id":"z"}]}
+ChangeMessageVisibilityBatch {"QueueUrl":"jobs","Entries":[{"Id":"a","ReceiptHandle":"000000000000000100000000000000020000000000000003","VisibilityTimeout":4},{"Id":"b","ReceiptHandle":"z","VisibilityTimeout":4}]}
+{"Failed":[{"Code":"ReceiptHandleIsInvalid","Id":"b","Message":"The receipt handle is not valid.","SenderFault":true},{"Code":"JournalFull","Id":"a-_9","Message":"The journal of the queue is full.","SenderFault":false}],"Successful":[{"Id":"a"},{"Id":"z"}]}
+nothing
+{"Failed":[],"Successful":[]}
+names {"QueueUrl":"http://localhost:9324/000000000000/jobs"}
+jobs
+names {"QueueUrl":null}
+none
+read CreateQueue {"QueueName":"jobs","Attributes":{"VisibilityTimeout":"1","RedrivePolicy":"{\"deadLetterTargetArn\":\"arn:aws:sqs:elasticmq:000000000000:dead\",\"maxReceiveCount\":1}"}}
+0 1 dead 1
+read SetQueueAttributes {"QueueUrl":"beta","Attributes":{"RedrivePolicy":"{\"deadLetterTargetArn\":\"arn:aws:sqs:elasticmq:000000000000:beta\",\"maxReceiveCount\":3}","DelaySeconds":"5"}}
+5 30 beta 3
+read ListQueues {"QueueNamePrefix":"/ \n","MaxResults":1}
+"/ \n"
+read ReceiveMessage {"QueueUrl":"jobs"}
+1 None None []
+read ReceiveMessage {"QueueUrl":"jobs","MaxNumberOfMessages":null,"VisibilityTimeout":null,"WaitTimeSeconds":null,"AttributeNames":null}
+1 None None []
+read ReceiveMessage {"QueueUrl":"jobs","MaxNumberOfMessages":1,"VisibilityTimeout":0,"WaitTimeSeconds":0}
+1 Some(0) Some(0) []
+read ReceiveMessage {"QueueUrl":"jobs","MaxNumberOfMessages":10,"VisibilityTimeout":43200,"WaitTimeSeconds":20}
+10 Some(43200) Some(20) []
+read ReceiveMessage {"WaitTimeSeconds":3,"VisibilityTimeout":4,"MaxNumberOfMessages":2,"QueueUrl":"jobs","MessageBody":5}
+2 Some(4) Some(3) []
+read ReceiveMessage {"QueueUrl":"jobs","AttributeNames":["SentTimestamp","SentTimestamp"],"MessageSystemAttributeNames":["SenderId"],"MessageAttributeNames":["b","All","foo.*","b",""]}
+1 None None [Sender, Sent] "b" "All" "foo.*" "b" ""
+read ReceiveMessage {"QueueUrl":"jobs","MessageAttributeNames":["x y","\u00e9","AWS."],"AttributeNames":["All"]}
+1 None None [FirstReceive, ReceiveCount, Source, Sender, Sent] "x y" "é" "AWS."
+read DeleteMessage {"QueueUrl":"jobs","ReceiptHandle":"000000000000000100000000000000000000000000000001","VisibilityTimeout":0}
+1.0.1
+read DeleteMessage {"QueueUrl":"//a/jobs","ReceiptHandle":"0123456789abcdeffedcba987654321000000000000003e8","VisibilityTimeout":43200}
+81985529216486895.18364758544493064720.1000
+read DeleteMessage {"VisibilityTimeout":60,"ReceiptHandle":"000000000000000000000000000000000000000000000000","QueueUrl":"jobs"}
+0.0.0
+read ChangeMessageVisibility {"QueueUrl":"jobs","ReceiptHandle":"000000000000000100000000000000000000000000000001","VisibilityTimeout":0}
+1.0.1 0
+read ChangeMessageVisibility {"QueueUrl":"//a/jobs","ReceiptHandle":"0123456789abcdeffedcba987654321000000000000003e8","VisibilityTimeout":43200}
+81985529216486895.18364758544493064720.1000 43200
+read ChangeMessageVisibility {"VisibilityTimeout":60,"ReceiptHandle":"000000000000000000000000000000000000000000000000","QueueUrl":"jobs"}
+0.0.0 60
+"#;
 
-/// Asserts what the requests of a text are told. Its lines are by turns what stands in the template
-/// at `<>`, and what is told of that.
-fn agrees(
-    rt: &impl Abort,
-    alloc: Global,
-    ticks: &mut Ticks,
-    template: &str,
-    text: &str,
-) -> Result<(), Fail> {
+/// Each line of [`LINES`] is told as it says. A call whose allocation is refused answers
+/// `OutOfMemory`, and the same call gives its value after it. The gate runs this with ample memory,
+/// where the first calls answer; `rt try --test --fail-alloc N -- refused_memory` refuses the Nth
+/// allocation.
+#[test]
+fn refused_memory(rt: HostRuntime) -> Result<(), Fail> {
+    let ticks = &mut Ticks::new(&rt);
     let mut asked = None;
-    for line in text.lines() {
+    for line in LINES.lines() {
         match asked {
             None => asked = Some(line),
             Some(request) => {
-                let told = told_again(alloc, ticks, template, request)?;
-                assert_eq!(rt; told.as_str(), line, "{template} {request}");
+                let told = told_again(rt.alloc(), ticks, request)?;
+                assert_eq!(rt; told.as_str(), line, "{request}");
                 asked = None;
             }
         }
@@ -40,49 +114,202 @@ fn agrees(
     Ok(())
 }
 
-/// Asserts that each line of a text, at `<>` in the template, is told this.
-fn all_agree(
-    rt: &impl Abort,
-    alloc: Global,
-    ticks: &mut Ticks,
-    template: &str,
-    answer: &str,
-    text: &str,
-) -> Result<(), Fail> {
-    for line in text.lines() {
-        let told = told(alloc, ticks, template, line)?;
-        assert_eq!(rt; told.as_str(), answer, "{template} {line}");
+/// What is told of a line, where a call whose memory is refused is made again.
+fn told_again(alloc: Global, ticks: &mut Ticks, line: &str) -> Result<String, Fault> {
+    match told(alloc, ticks, line) {
+        Err(Fault::OutOfMemory) => told(alloc, ticks, line),
+        told => told,
+    }
+}
+
+/// What is told of a line.
+fn told(alloc: Global, ticks: &mut Ticks, line: &str) -> Result<String, Fault> {
+    match line.split_once(' ') {
+        Some(("read", request)) => told_request(alloc, request),
+        Some(("names", body)) => told_queue(alloc, body),
+        Some((action, body)) => {
+            let shape = shape_of(alloc, parse(alloc, action, body.as_bytes())?, ticks)?;
+            reply_text(alloc, &shape)
+        }
+        None => reply_text(alloc, &ReplyShape::Batch(BatchAnswers::new(alloc))),
+    }
+}
+
+/// Tells which queue a body names, or that it names none.
+fn told_queue(alloc: Global, body: &str) -> Result<String, Fault> {
+    match read_queue(alloc, body.as_bytes())? {
+        Some(queue) => Ok(String::from_str(alloc, queue.as_text())?),
+        None => Ok(String::from_str(alloc, "none")?),
+    }
+}
+
+/// Tells what is read of an action and a body.
+fn told_request(alloc: Global, request: &str) -> Result<String, Fault> {
+    let (action, body) = request.split_once(' ').ok_or(Fault::InvalidParameterValue)?;
+    let mut text = String::new(alloc);
+    let request = parse(alloc, action, body.as_bytes())?;
+    tell_request(&mut text, &request)?;
+    Ok(text)
+}
+
+/// Tells what of a request no reply shows.
+fn tell_request(text: &mut String, request: &Request) -> Result<(), Fault> {
+    match request {
+        Request::CreateQueue { wish, .. } => tell_wish(text, wish),
+        Request::SetQueueAttributes { wish, .. } => tell_wish(text, wish),
+        Request::ListQueues { prefix } => Ok(write!(text, "{:?}", prefix.as_text())?),
+        Request::ReceiveMessage { .. } => tell_receive(text, request),
+        Request::DeleteMessage { handle, .. } => tell_handle(text, *handle),
+        Request::ChangeMessageVisibility {
+            handle,
+            timeout,
+            ..
+        } => tell_change(text, *handle, *timeout),
+        _ => Err(Fault::UnsupportedOperation),
+    }
+}
+
+/// Tells the delay and the timeout that a queue of the defaults gets, and its policy.
+fn tell_wish(text: &mut String, wish: &Wish) -> Result<(), Fault> {
+    let settings = Settings::default().with(wish, 0);
+    write!(
+        text,
+        "{} {}",
+        settings.delay_seconds, settings.visibility_timeout
+    )?;
+    match settings.redrive_policy {
+        Some(policy) => {
+            let (name, count) = (policy.name, policy.max_receive_count);
+            Ok(write!(text, " {} {count}", name.as_text())?)
+        }
+        None => Ok(()),
+    }
+}
+
+/// Tells a handle's three numbers.
+fn tell_handle(text: &mut String, handle: Handle) -> Result<(), Fault> {
+    Ok(write!(text, "{}.{}.{}", handle.uid, handle.number, handle.receipt)?)
+}
+
+/// Tells a handle and a timeout.
+fn tell_change(text: &mut String, handle: Handle, timeout: Timeout) -> Result<(), Fault> {
+    tell_handle(text, handle)?;
+    Ok(write!(text, " {}", timeout.seconds())?)
+}
+
+/// Tells how many messages, the timeout and the wait, and the two sorts of attributes.
+fn tell_receive(text: &mut String, request: &Request) -> Result<(), Fault> {
+    let Request::ReceiveMessage {
+        maximum,
+        timeout,
+        wait,
+        names,
+        attributes,
+        ..
+    } = request
+    else {
+        return Ok(());
+    };
+    let timeout = timeout.map(|timeout: Timeout| timeout.seconds());
+    write!(text, "{} {timeout:?} {wait:?}", maximum.messages())?;
+    write!(text, " {:?}", names.asked.as_slice())?;
+    tell_patterns(text, attributes)
+}
+
+/// Tells the names of message attributes, as they are given.
+fn tell_patterns(text: &mut String, patterns: &Patterns) -> Result<(), Fault> {
+    for pattern in patterns.as_slice() {
+        write!(text, " {:?}", pattern.as_text())?;
     }
     Ok(())
 }
 
-/// What is told of a line: of an action and a body, what is read of them; of the same after `reply`,
-/// the text of the reply; of entries after `batch`, the text of the reply to a batch; of names and
-/// the body of a receive after `asks`, those that it asks for; of a body after `names`, the queue
-/// that it names.
-fn told(alloc: Global, ticks: &mut Ticks, template: &str, line: &str) -> Result<String, Fault> {
-    let line = template.replace(alloc, "<>", line)?;
-    match line.as_str().split_once(' ') {
-        Some(("reply", request)) => replies::told_reply(alloc, request, ticks),
-        Some(("batch", entries)) => replies::told_batch(alloc, entries),
-        Some(("asks", asked)) => replies::told_asked(alloc, asked),
-        Some(("names", body)) => requests::told_queue(alloc, body),
-        Some((action, body)) => requests::told_request(alloc, action, body),
-        None => Err(Fault::InvalidParameterValue),
+/// What a request is answered here: a list of queues by [`listed`], a send by an id of many digits, a
+/// request for attributes by [`look`], a receive by [`offered`], a batch by [`answers_of`], and
+/// others as if they were done.
+fn shape_of(alloc: Global, request: Request, ticks: &mut Ticks) -> Result<ReplyShape, Fault> {
+    match request {
+        Request::CreateQueue { name, .. } => Ok(ReplyShape::QueueUrl(name)),
+        Request::GetQueueUrl { name } => Ok(ReplyShape::QueueUrl(name)),
+        Request::ListQueues { prefix } => {
+            Ok(ReplyShape::QueueUrls(listed(alloc, prefix.as_text())?))
+        }
+        Request::ListDeadLetterSourceQueues { queue } => {
+            let names = listed(alloc, queue.as_text())?;
+            Ok(ReplyShape::SourceQueueUrls(names))
+        }
+        Request::SendMessage { content, .. } => {
+            let id = MessageId {
+                uid: 0x0123456789ABCDEF,
+                number: 0xFEDCBA9876543210,
+            };
+            Ok(ReplyShape::Sent { content, id })
+        }
+        Request::GetQueueAttributes { queue, names } => {
+            let look = look()?;
+            Ok(ReplyShape::Attributes { names, queue, look })
+        }
+        Request::ReceiveMessage {
+            names,
+            attributes,
+            ..
+        } => {
+            let offers = offered(alloc, ticks)?;
+            Ok(ReplyShape::Messages {
+                uid: 1,
+                names,
+                attributes,
+                offers,
+            })
+        }
+        Request::Batch { entries, .. } => Ok(ReplyShape::Batch(answers_of(alloc, entries)?)),
+        _ => Ok(ReplyShape::Nothing),
     }
 }
 
-/// The same, where a call whose memory is refused is made again.
-fn told_again(
-    alloc: Global,
-    ticks: &mut Ticks,
-    template: &str,
-    line: &str,
-) -> Result<String, Fault> {
-    match told(alloc, ticks, template, line) {
-        Err(Fault::OutOfMemory) => told(alloc, ticks, template, line),
-        told => told,
+/// The queues whose names a text is, with commas between them, in this order.
+fn listed(alloc: Global, text: &str) -> Result<QueueNames, Fault> {
+    let mut names = Vec::new(alloc);
+    for name in text.split(',') {
+        names.push(QueueName::read(name)?)?;
     }
+    Ok(QueueNames::new(names))
+}
+
+/// A moment of so many milliseconds.
+fn moment(milliseconds: u64) -> Result<Moment, Fault> {
+    Moment::new(milliseconds).ok_or(Fault::InvalidParameterValue)
+}
+
+/// A look at a queue of 7 visible messages, none delayed, and the most in flight that a count can
+/// say, whose other numbers are all different.
+fn look() -> Result<Look, Fault> {
+    let redrive_policy = Some(RedrivePolicy {
+        target: 1,
+        name: QueueName::read("alpha")?,
+        max_receive_count: 3,
+    });
+    Ok(Look {
+        gauges: Gauges {
+            visible: 7,
+            delayed: 0,
+            in_flight: u64::MAX,
+            age: 8,
+        },
+        settings: Settings {
+            delay_seconds: 1,
+            visibility_timeout: 2,
+            retention_seconds: 61,
+            wait_seconds: 3,
+            maximum_message_size: 1025,
+            redrive_policy,
+        },
+        created: moment(4999)?,
+        modified: moment(5000)?,
+        lines: 6,
+        clock: moment(7000)?,
+        closed: false,
+    })
 }
 
 /// What is sent by a request of this body.
@@ -93,72 +320,97 @@ fn content_of(alloc: Global, body: &str) -> Result<Content, Fault> {
     }
 }
 
-/// Calls whose allocation is refused answer `OutOfMemory`, and the same calls give their values
-/// after it. The gate runs this with ample memory, where the first calls answer;
-/// `rt try --test --fail-alloc N -- refused_memory` refuses the Nth allocation.
-#[test]
-fn refused_memory(rt: HostRuntime) -> Result<(), Fail> {
-    let ticks = &mut Ticks::new(&rt);
-    agrees(&rt, rt.alloc(), ticks, "<>", EACH_ACTION)
+/// A dead letter that the queue `jobs` of the uid 2 lost to the queue of the uid 1.
+fn dead_letter(alloc: Global) -> Result<Parcel, Fault> {
+    let origin = Origin {
+        uid: 2,
+        number: 0,
+        name: QueueName::read("jobs")?,
+        id: MessageId { uid: 2, number: 0 },
+        sent: moment(1000)?,
+    };
+    let content = content_of(alloc, r#"{"QueueUrl":"jobs","MessageBody":"a"}"#)?;
+    Ok(Parcel {
+        origin,
+        target: 1,
+        content,
+    })
 }
 
-/// Each action once, and each reply.
-const EACH_ACTION: &str = r#"CreateQueue {"QueueName":"jobs","Attributes":{"VisibilityTimeout":"5"}}
-jobs 0 5 345600 0 262144
-CreateQueue {"QueueName":"jobs","Attributes":{"VisibilityTimeout":"1","RedrivePolicy":"{\"deadLetterTargetArn\":\"arn:aws:sqs:elasticmq:000000000000:dead\",\"maxReceiveCount\":1}"}}
-jobs 0 1 345600 0 262144 dead 1
-SetQueueAttributes {"QueueUrl":"jobs","Attributes":{"DelaySeconds":"5"}}
-jobs 5 30 345600 0 262144
-SetQueueAttributes {"QueueUrl":"beta","Attributes":{"RedrivePolicy":"{\"deadLetterTargetArn\":\"arn:aws:sqs:elasticmq:000000000000:alpha\",\"maxReceiveCount\":3}"}}
-beta 0 30 345600 0 262144 alpha 3
-PurgeQueue {"QueueUrl":"jobs"}
-jobs
-DeleteQueue {"QueueUrl":"jobs"}
-jobs
-GetQueueUrl {"QueueName":"jobs"}
-jobs
-ListQueues {"QueueNamePrefix":"jo"}
-"jo"
-ListDeadLetterSourceQueues {"QueueUrl":"alpha"}
-alpha
-GetQueueAttributes {"QueueUrl":"jobs","AttributeNames":["ApproximateNumberOfMessages"]}
-jobs [Visible]
-ReceiveMessage {"QueueUrl":"jobs","MaxNumberOfMessages":2,"AttributeNames":["SenderId"],"MessageAttributeNames":["b","foo.*"]}
-jobs 2 None None [Sender] "b" "foo.*"
-DeleteMessage {"QueueUrl":"jobs","ReceiptHandle":"000000000000000100000000000000020000000000000003"}
-jobs 1.2.3
-ChangeMessageVisibility {"QueueUrl":"jobs","ReceiptHandle":"000000000000000100000000000000020000000000000003","VisibilityTimeout":4}
-jobs 1.2.3 4
-SendMessage {"QueueUrl":"jobs","MessageBody":"hello","DelaySeconds":7}
-jobs "hello" Some(7) []
-SendMessage {"QueueUrl":"jobs","MessageBody":"hello","MessageAttributes":{"b":{"DataType":"String","StringValue":"x"},"a":{"DataType":"Binary","BinaryValue":"AA=="}}}
-jobs "hello" None [Attribute { name: "a", kind: "Binary", value: Binary([0]) }, Attribute { name: "b", kind: "String", value: Text("x") }]
-SendMessageBatch {"QueueUrl":"jobs","Entries":[{"Id":"a","MessageBody":"hello","MessageAttributes":{"b":{"DataType":"String","StringValue":"x"},"a":{"DataType":"Binary","BinaryValue":"AA=="}}},{"Id":"b","MessageBody":"\u0001"}]}
-jobs [a "hello" None [Attribute { name: "a", kind: "Binary", value: Binary([0]) }, Attribute { name: "b", kind: "String", value: Text("x") }]] [b InvalidMessageContents]
-DeleteMessageBatch {"QueueUrl":"jobs","Entries":[{"Id":"a","ReceiptHandle":"z"},{"Id":"b","ReceiptHandle":"000000000000000100000000000000020000000000000003"}]}
-jobs [a ReceiptHandleIsInvalid] [b 1.2.3]
-ChangeMessageVisibilityBatch {"QueueUrl":"jobs","Entries":[{"Id":"a","ReceiptHandle":"000000000000000100000000000000020000000000000003","VisibilityTimeout":4},{"Id":"b","ReceiptHandle":"z","VisibilityTimeout":4}]}
-jobs [a 1.2.3 4] [b ReceiptHandleIsInvalid]
-names {"QueueUrl":"jobs"}
-jobs
-reply GetQueueUrl {"QueueName":"jobs"}
-{"QueueUrl":"http://localhost:9324/000000000000/jobs"}
-reply ListQueues {"QueueNamePrefix":"b,A-1"}
-{"QueueUrls":["http://localhost:9324/000000000000/b","http://localhost:9324/000000000000/A-1"]}
-reply ListDeadLetterSourceQueues {"QueueUrl":"alpha"}
-{"queueUrls":["http://localhost:9324/000000000000/beta"]}
-reply PurgeQueue {"QueueUrl":"jobs"}
-{}
-reply SendMessage {"QueueUrl":"jobs","MessageBody":"hello"}
-{"MD5OfMessageBody":"5d41402abc4b2a76b9719d911017c592","MessageId":"01234567-89ab-cdef-fedc-ba9876543210"}
-reply SendMessage {"QueueUrl":"jobs","MessageBody":"hello","MessageAttributes":{"b":{"DataType":"String","StringValue":"x"},"a":{"DataType":"Binary","BinaryValue":"AA=="}}}
-{"MD5OfMessageAttributes":"2cc23ebbcef47291d79349d5c0a33a94","MD5OfMessageBody":"5d41402abc4b2a76b9719d911017c592","MessageId":"01234567-89ab-cdef-fedc-ba9876543210"}
-reply GetQueueAttributes {"QueueUrl":"beta","AttributeNames":["All"]}
-{"Attributes":{"ApproximateNumberOfMessages":"7","ApproximateNumberOfMessagesDelayed":"0","ApproximateNumberOfMessagesNotVisible":"18446744073709551615","CreatedTimestamp":"4","DelaySeconds":"1","LastModifiedTimestamp":"5","MaximumMessageSize":"1025","MessageRetentionPeriod":"61","QueueArn":"arn:aws:sqs:elasticmq:000000000000:beta","ReceiveMessageWaitTimeSeconds":"3","RedrivePolicy":"{\"deadLetterTargetArn\":\"arn:aws:sqs:elasticmq:000000000000:alpha\",\"maxReceiveCount\":3}","VisibilityTimeout":"2"}}
-reply ReceiveMessage {"QueueUrl":"three","AttributeNames":["All"],"MessageAttributeNames":["foo"]}
-{"Messages":[{"Attributes":{"ApproximateFirstReceiveTimestamp":"2000","ApproximateReceiveCount":"1","SenderId":"000000000000","SentTimestamp":"1000"},"Body":"hi","MD5OfBody":"49f68a5c8493ec2c0bf489821c21fc3b","MD5OfMessageAttributes":"3cab606b9fbddd7cbcfb9e1d3a60f028","MessageAttributes":{"foo":{"DataType":"String","StringValue":"1"}},"MessageId":"00000000-0000-0001-0000-000000000000","ReceiptHandle":"000000000000000100000000000000000000000000000001"}]}
-reply ReceiveMessage {"QueueUrl":"dead","AttributeNames":["All"]}
-{"Messages":[{"Attributes":{"ApproximateFirstReceiveTimestamp":"6000","ApproximateReceiveCount":"1","DeadLetterQueueSourceArn":"arn:aws:sqs:elasticmq:000000000000:jobs","SenderId":"000000000000","SentTimestamp":"1000"},"Body":"a","MD5OfBody":"0cc175b9c0f1b6a831c399e269772661","MessageId":"00000000-0000-0002-0000-000000000000","ReceiptHandle":"000000000000000100000000000000000000000000000001"}]}
-batch a {"QueueUrl":"jobs","MessageBody":"hello","MessageAttributes":{"b":{"DataType":"String","StringValue":"x"},"a":{"DataType":"Binary","BinaryValue":"AA=="}}}; b JournalFull; c Done
-{"Failed":[{"Code":"JournalFull","Id":"b","Message":"The journal of the queue is full.","SenderFault":false}],"Successful":[{"Id":"a","MD5OfMessageAttributes":"2cc23ebbcef47291d79349d5c0a33a94","MD5OfMessageBody":"5d41402abc4b2a76b9719d911017c592","MessageId":"00000000-0000-0001-0000-000000000000"},{"Id":"c"}]}
+/// What was sent to the queue `dead`.
+const SENT: &str =
+    r#"{"QueueUrl":"dead","MessageBody":"hi","MessageAttributes":{"foo":{"DataType":"String","StringValue":"1"},"foobar":{"DataType":"Number","StringValue":"2"},"b.c":{"DataType":"Binary","BinaryValue":"AA=="}}}"#;
+
+/// What the first receive at 6000 offers of the queue `dead` of the uid 1, to which a message was sent
+/// at 1000, and where a dead letter arrived at 5000.
+fn offered(alloc: Global, ticks: &mut Ticks) -> Result<Offers, Fault> {
+    let name = QueueName::read("dead")?;
+    let settings = Settings::default();
+    let limits = Limits::default();
+    let mut state = QueueState::open(
+        alloc,
+        1,
+        name,
+        settings,
+        limits,
+        Vec::new(alloc),
+        Moment::zero(),
+    )?;
+    state.send(alloc, moment(1000)?, content_of(alloc, SENT)?, None, ticks)?;
+    state.arrive(alloc, moment(5000)?, dead_letter(alloc)?, ticks)?;
+    state.receive(alloc, moment(6000)?, 10, None, ticks)
+}
+
+/// The answers to entries: a send as sent, any other command as done. Behind them stand one that
+/// was done and one that found the journal full.
+fn answers_of(alloc: Global, entries: Entries) -> Result<BatchAnswers, Fault> {
+    let mut answers = BatchAnswers::new(alloc);
+    for entry in entries.into_vec() {
+        let BatchEntry { id, command } = entry;
+        let answer = answer_of(command);
+        answers.push(alloc, BatchAnswer { id, answer })?;
+    }
+    let id = QueueName::read("z")?;
+    let answer = Ok(EntryReply::Done);
+    answers.push(alloc, BatchAnswer { id, answer })?;
+    let id = QueueName::read("a-_9")?;
+    let answer = Err(Fault::JournalFull);
+    answers.push(alloc, BatchAnswer { id, answer })?;
+    Ok(answers)
+}
+
+/// The answer to a command, where there is one.
+fn answer_of(command: Result<Command, Fault>) -> Result<EntryReply, Fault> {
+    match command? {
+        Command::Send { content, .. } => {
+            let id = MessageId { uid: 1, number: 0 };
+            Ok(EntryReply::Sent { content, id })
+        }
+        _ => Ok(EntryReply::Done),
+    }
+}
+
+/// The refusals that no stored run is answered, each with its status and text, in the order of the
+/// table in docs/PROFILE.md.
+const REFUSALS: &str =
+    r#"400 {"__type":"com.amazonaws.sqs#BatchRequestTooLong","message":"The batch is too long."}
+500 {"__type":"com.amazonaws.sqs#OutOfMemory","message":"Out of memory."}
+500 {"__type":"com.amazonaws.sqs#Spent","message":"The desk is spent."}
+500 {"__type":"com.amazonaws.sqs#ActorGone","message":"The queue has stopped."}
 "#;
+
+#[test]
+fn refusals(rt: HostRuntime) -> Result<(), Fail> {
+    let faults = [
+        Fault::BatchRequestTooLong,
+        Fault::OutOfMemory,
+        Fault::Spent,
+        Fault::ActorGone,
+    ];
+    let mut told = String::new(rt.alloc());
+    for fault in &faults {
+        write!(told, "{} {}\n", status(*fault), fault_text(*fault))?;
+    }
+    assert_eq!(rt; told.as_str(), REFUSALS);
+    Ok(())
+}
