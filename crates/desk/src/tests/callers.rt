@@ -13,9 +13,11 @@ pub struct Caller<'a> {
     pub sent: Vec<u64>,
     /// The number and the receipt of each message that it was offered, in its own order.
     pub offered: Vec<(u64, u64)>,
-    /// How many messages it saw at its last look, or how many turns at its last glance.
+    /// How many messages it saw at its last look.
     pub seen: u64,
-    /// How many of its calls were answered without a refusal.
+    /// How many turns had ended at its last glance.
+    pub glanced: u64,
+    /// How many of its calls were answered without a refusal, and told of.
     pub accepted: u64,
     /// The refusal that it met.
     pub failed: Option<Fault>,
@@ -33,6 +35,7 @@ fn new_caller<'a>(alloc: Global, desk: &'a Desk<NoPress>, pass: &mut Pass<NoPres
         sent: Vec::new(alloc),
         offered: Vec::new(alloc),
         seen: 0,
+        glanced: 0,
         accepted: 0,
         failed: None,
     }
@@ -56,7 +59,9 @@ pub fn callers<'a>(
 }
 
 impl Caller<'_> {
-    /// Asks through a gate, and counts the call where it was not refused.
+    /// Asks through a gate, and keeps what it is told: the number of the message that was sent, the offers,
+    /// or how many messages are visible. It counts the call where it was accepted and told of: where no
+    /// turn is printed, each call is told of all the same.
     pub fn ask<R: Wait>(
         &mut self,
         rt: &R,
@@ -64,45 +69,21 @@ impl Caller<'_> {
         at: u64,
         command: &Command,
         gate: &impl Gate,
-    ) -> Result<Reply, Fault> {
+    ) -> Result<(), Fault> {
         let at = moment(at)?;
         let asked = self.desk.ask(rt, alloc, &mut self.pass, at, command, gate);
-        let reply = asked.reply?;
-        self.accepted = self.accepted.wrapping_add(1);
-        Ok(reply)
-    }
-
-    /// Sends a message, and keeps its number.
-    pub fn send<R: Wait>(
-        &mut self,
-        rt: &R,
-        alloc: Global,
-        at: u64,
-        gate: &impl Gate,
-    ) -> Result<(), Fault> {
-        match self.ask(rt, alloc, at, &send(alloc, "a")?, gate)? {
-            Reply::Sent(posted) => Ok(self.sent.push(posted.number)?),
-            _ => Err(Fault::UnsupportedOperation),
+        let Asked { reply, told } = asked;
+        match reply? {
+            Reply::Sent(posted) => self.sent.push(posted.number)?,
+            Reply::Received(offers) => self.keep(&offers)?,
+            Reply::Looked(look) => self.seen = look.gauges.visible,
+            Reply::Done => {}
+            _ => return Err(Fault::UnsupportedOperation),
         }
-    }
-
-    /// Receives messages for a time in seconds, and keeps what was offered.
-    pub fn receive<R: Wait>(
-        &mut self,
-        rt: &R,
-        alloc: Global,
-        at: u64,
-        timeout: u64,
-    ) -> Result<(), Fault> {
-        let timeout = u32::try_from(timeout).map_err(|_| Fault::InvalidParameterValue)?;
-        let command = Command::Receive {
-            maximum: Maximum::new(2).ok_or(Fault::InvalidParameterValue)?,
-            timeout: Timeout::new(timeout),
-        };
-        match self.ask(rt, alloc, at, &command, &NoGate)? {
-            Reply::Received(offers) => self.keep(&offers),
-            _ => Err(Fault::UnsupportedOperation),
+        if told.is_some() {
+            self.accepted = self.accepted.wrapping_add(1);
         }
+        Ok(())
     }
 
     /// Keeps the numbers and the receipts of what was offered.
@@ -111,6 +92,17 @@ impl Caller<'_> {
             self.offered.push((offer.number, offer.receipt))?;
         }
         Ok(())
+    }
+
+    /// Asks what a text says.
+    pub fn call<R: Wait>(
+        &mut self,
+        rt: &R,
+        alloc: Global,
+        at: u64,
+        text: &str,
+    ) -> Result<(), Fault> {
+        self.ask(rt, alloc, at, &command(alloc, text)?, &NoGate)
     }
 
     /// Deletes the message that it was offered last.
@@ -123,21 +115,11 @@ impl Caller<'_> {
             number,
             receipt,
         };
-        self.ask(rt, alloc, at, &Command::Delete { handle }, &NoGate)?;
-        Ok(())
-    }
-
-    /// Looks, and keeps how many messages are visible.
-    pub fn look<R: Wait>(&mut self, rt: &R, alloc: Global, at: u64) -> Result<(), Fault> {
-        match self.ask(rt, alloc, at, &Command::Look, &NoGate)? {
-            Reply::Looked(look) => self.seen = look.gauges.visible,
-            _ => return Err(Fault::UnsupportedOperation),
-        }
-        Ok(())
+        self.ask(rt, alloc, at, &Command::Delete { handle }, &NoGate)
     }
 
     /// Glances, and keeps how many turns had ended.
     pub fn glance(&mut self) {
-        self.seen = self.desk.glance(&mut self.pass);
+        self.glanced = self.desk.glance(&mut self.pass);
     }
 }

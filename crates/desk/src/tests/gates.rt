@@ -1,8 +1,9 @@
-//! Gates that hold a turn, and the turns that they are told of.
+//! A turn that is held, and threads that call meanwhile.
 
 ghost use Rattle.std.specs.Prelude.{◌≡◌};
 
 use super::callers::{Caller, callers};
+use super::threads::all_of;
 use super::*;
 use std::sync::atomic::{AtomicU64, Ordering};
 use std::thread;
@@ -53,60 +54,8 @@ impl Gate for Barrier {
     }
 }
 
-/// The first caller sends through the gate. The second waits until that turn is held, glances, and lets
-/// it go.
-fn hold_or_glance<R: Wait>(
-    rt: &R,
-    alloc: Global,
-    gate: &Barrier,
-    index: usize,
-    caller: &mut Caller<'_>,
-) -> Result<(), Fault> {
-    if index == 0 {
-        return caller.send(rt, alloc, 2000, gate);
-    }
-    gate.wait_for(&gate.held, 1);
-    caller.glance();
-    gate.let_go.store(1, Ordering::SeqCst);
-    Ok(())
-}
-
-/// A glance returns while a turn is held, and counts the turns that ended before it. The call whose
-/// turn it is gets its answer when it is let go, and its turn counts then.
-#[test]
-fn a_glance_waits_for_no_turn(rt: HostRuntime) -> Result<(), Fail> {
-    let alloc = rt.alloc();
-    let (desk, mut pass) = Desk::new(&rt, alloc, open(alloc)?, NoPress)?;
-    run(&rt, alloc, &desk, &mut pass, "1000 send a => sent 0")?;
-    let mut both = callers(alloc, &desk, &mut pass, 2)?;
-    let gate = Barrier::new();
-    thread::for_each_mut(
-        &rt,
-        both.as_mut_slice(),
-        2,
-        &|index, caller| {
-            caller.failed = hold_or_glance(&rt, alloc, &gate, index, caller).err();
-        },
-    );
-    assert_eq!(rt; gate.gave_up.load(Ordering::SeqCst), 0);
-    assert_eq!(rt; gate.held.load(Ordering::SeqCst), 2);
-    for (index, caller) in both.iter().enumerate() {
-        assert_eq!(rt; caller.failed, None);
-        if index == 0 {
-            assert_eq!(rt; caller.sent.as_slice(), [1].as_slice());
-        } else {
-            assert_eq!(rt; caller.seen, 1);
-        }
-    }
-    drop(both);
-    assert_eq!(rt; desk.glance(&mut pass), 2);
-    let look = "0 look => 2 visible, 3 entries at 2000";
-    run(&rt, alloc, &desk, &mut pass, look)?;
-    Ok(())
-}
-
-/// The first caller sends through the gate, the others behind it. The last of these lets the turn go
-/// once all of them are about to call.
+/// The first caller sends through the gate. The others wait until its turn is held, glance, and send
+/// behind it; the last of them that is about to do so lets the turn go. All look then.
 fn hold_or_follow<R: Wait>(
     rt: &R,
     alloc: Global,
@@ -115,20 +64,46 @@ fn hold_or_follow<R: Wait>(
     caller: &mut Caller<'_>,
 ) -> Result<(), Fault> {
     if index == 0 {
-        return caller.send(rt, alloc, 0, gate);
+        caller.ask(rt, alloc, 2000, &command(alloc, "send a")?, gate)?;
+    } else {
+        gate.wait_for(&gate.held, 1);
+        caller.glance();
+        if gate.behind.fetch_add(1, Ordering::SeqCst) == 2 {
+            gate.let_go.store(1, Ordering::SeqCst);
+        }
+        caller.call(rt, alloc, 2000, "send a")?;
     }
-    gate.wait_for(&gate.held, 1);
-    if gate.behind.fetch_add(1, Ordering::SeqCst) == 2 {
-        gate.let_go.store(1, Ordering::SeqCst);
-    }
-    caller.send(rt, alloc, 0, &NoGate)
+    caller.call(rt, alloc, 900, "look")
 }
 
-/// Three threads that call while a turn is held are all served once it is let go.
+/// Asserts that the first caller had the turn that was held, and that the others glanced meanwhile: they
+/// saw the one turn that had ended before it. Each looked behind its own message, and the last one saw all.
+fn went_by_turns(rt: &impl Abort, gate: &Barrier, callers: &[Caller<'_>]) {
+    assert_eq!(rt; gate.gave_up.load(Ordering::SeqCst), 0);
+    assert_eq!(rt; gate.held.load(Ordering::SeqCst), 2);
+    let mut most_seen = 0u64;
+    for (index, caller) in callers.iter().enumerate() {
+        if index == 0 {
+            assert_eq!(rt; caller.sent.as_slice(), [1].as_slice());
+        } else {
+            assert_eq!(rt; (caller.glanced, caller.sent.len()), (1, 1));
+        }
+        assert!(rt; caller.seen >= 2);
+        most_seen = most_seen.max(caller.seen);
+    }
+    assert_eq!(rt; most_seen, 5);
+}
+
+/// A glance returns while a turn is held, and counts the turns that ended before it. The call whose turn
+/// it is gets its answer when it is let go, and its turn counts then. Three threads that call while it is
+/// held are all served after it. Each thread sees its own message and those before, and who looks last
+/// sees all. After they met, each pass sees what all have done.
 #[test]
 fn threads_behind_a_turn_are_all_served(rt: HostRuntime) -> Result<(), Fail> {
     let alloc = rt.alloc();
     let (desk, mut pass) = Desk::new(&rt, alloc, open(alloc)?, NoPress)?;
+    let message = command(alloc, "send a")?;
+    desk.ask(&rt, alloc, &mut pass, moment(1000)?, &message, &NoGate);
     let mut four = callers(alloc, &desk, &mut pass, 4)?;
     let gate = Barrier::new();
     thread::for_each_mut(
@@ -139,49 +114,18 @@ fn threads_behind_a_turn_are_all_served(rt: HostRuntime) -> Result<(), Fail> {
             caller.failed = hold_or_follow(&rt, alloc, &gate, index, caller).err();
         },
     );
-    assert_eq!(rt; gate.gave_up.load(Ordering::SeqCst), 0);
-    for (index, caller) in four.iter().enumerate() {
-        assert_eq!(rt; (caller.failed, caller.sent.len()), (None, 1));
-        if index == 0 {
-            assert_eq!(rt; caller.sent.as_slice(), [0].as_slice());
-        }
+    went_by_turns(&rt, &gate, four.as_slice());
+    let (sent, _, _) = all_of(&rt, alloc, four.as_slice())?;
+    assert_eq!(rt; sent.as_slice(), [1, 2, 3, 4].as_slice());
+    for caller in four.iter_mut() {
+        caller.call(&rt, alloc, 0, "look")?;
+        assert_eq!(rt; caller.seen, 5);
     }
     drop(four);
-    let look = "0 look => 4 visible, 5 entries at 0";
-    run(&rt, alloc, &desk, &mut pass, look)?;
-    Ok(())
-}
-
-/// A gate that keeps the numbers of the turns that it was told of, in order, as the digits of a number.
-#[derive(Drop)]
-struct Digits {
-    told: AtomicU64,
-}
-
-impl Gate for Digits {
-    fn in_turn<R: Wait>(&self, _rt: &R, turn: u64) {
-        let before = self.told.load(Ordering::SeqCst);
-        let behind = before.wrapping_mul(10).wrapping_add(turn);
-        self.told.store(behind, Ordering::SeqCst);
-    }
-}
-
-/// A gate is told of each turn once, by the number of the turns before it. A turn of another pass and a
-/// refused call count like others.
-#[test]
-fn gates_are_told_of_each_turn(rt: HostRuntime) -> Result<(), Fail> {
-    let alloc = rt.alloc();
-    let (desk, mut p) = Desk::new(&rt, alloc, open(alloc)?, NoPress)?;
-    let mut q = desk.pass(&mut p);
-    let gate = Digits {
-        told: AtomicU64::new(7),
-    };
-    desk.ask(&rt, alloc, &mut p, moment(0)?, &Command::Look, &gate);
-    run(&rt, alloc, &desk, &mut q, "0 close => done")?;
-    let refused = desk.ask(&rt, alloc, &mut p, moment(0)?, &send(alloc, "a")?, &gate);
-    assert_eq!(rt; refused.reply.err(), Some(Fault::QueueDoesNotExist));
-    run(&rt, alloc, &desk, &mut q, "0 parcel => no parcel")?;
-    desk.ask(&rt, alloc, &mut p, moment(0)?, &Command::Look, &gate);
-    assert_eq!(rt; gate.told.load(Ordering::SeqCst), 7024);
+    assert_eq!(rt; desk.glance(&mut pass), 13);
+    let asked = desk.ask(&rt, alloc, &mut pass, moment(0)?, &Command::Look, &NoGate);
+    assert_eq!(rt; asked.told, Some(()));
+    let text = told(alloc, &asked.reply)?;
+    assert_eq!(rt; text.as_str(), "5 visible, 6 entries at 2000");
     Ok(())
 }

@@ -1,126 +1,42 @@
 //! What a refused allocation leaves of a desk.
 
-ghost use Rattle.std.specs.Prelude.{◌≡◌, IfOk};
-
+use super::cases::Talk;
 use super::*;
 
-/// A queue that was opened once more where memory was refused.
-fn open_again(alloc: Global) -> Result<QueueState, Fault> {
-    match open(alloc) {
-        Err(Fault::OutOfMemory) => open(alloc),
-        answer => answer,
-    }
-}
-
-/// A desk that was made once more where memory was refused.
-fn desk_again(rt: &HostRuntime, alloc: Global) -> Result<(Desk<NoPress>, Pass<NoPress>), Fault>
-    ensures { IfOk result (λ r. r.1.desk ≡ r.0) }
-{
-    match Desk::new(rt, alloc, open_again(alloc)?, NoPress) {
-        Err(Fault::OutOfMemory) => Desk::new(rt, alloc, open_again(alloc)?, NoPress),
-        answer => answer,
-    }
-}
-
 /// What a look sees.
-fn look<R: Wait>(
-    rt: &R,
-    alloc: Global,
-    desk: &Desk<NoPress>,
-    pass: &mut Pass<NoPress>,
-) -> Result<Look, Fault>
-    requires { pass.old.desk ≡ desk.now }
-    ensures { pass.new.desk ≡ pass.old.desk }
-{
-    let command = Command::Look;
-    match desk
-        .ask(rt, alloc, pass, Moment::zero(), &command, &NoGate)
-        .reply?
-    {
-        Reply::Looked(look) => Ok(look),
-        _ => Err(Fault::UnsupportedOperation),
+fn look<R: Wait>(rt: &R, talk: &mut Talk) -> Option<Look> {
+    let (at, command) = (Moment::zero(), Command::Look);
+    let reply = talk.ask(rt, "p", at, &command, &NoGate).reply;
+    match &reply {
+        Ok(Reply::Looked(look)) => Some(*look),
+        _ => None,
     }
 }
 
-/// Asks once more where memory was refused, after asserting that each turn has ended and that the clock
-/// alone has moved.
-fn answer<R: Wait + Abort>(
-    rt: &R,
-    alloc: Global,
-    desk: &Desk<NoPress>,
-    pass: &mut Pass<NoPress>,
-    at: Moment,
-    command: &Command,
-) -> Result<Result<Reply, Fault>, Fail>
-    requires { pass.old.desk ≡ desk.now }
-    ensures { pass.new.desk ≡ pass.old.desk }
-{
-    let before = look(rt, alloc, desk, pass)?;
-    let ended = desk.glance(pass);
-    let answer = desk.ask(rt, alloc, pass, at, command, &NoGate).reply;
-    assert_eq!(rt; Some(desk.glance(pass)), ended.checked_add(1));
-    if !matches!(answer, Err(Fault::OutOfMemory)) {
-        return Ok(answer);
-    }
-    let moved = Look {
-        clock: before.clock.later(at),
-        ..before
-    };
-    assert_eq!(rt; look(rt, alloc, desk, pass)?, moved);
-    Ok(desk.ask(rt, alloc, pass, at, command, &NoGate).reply)
-}
-
-/// The command that a text says, read once more where memory was refused.
-fn command_again(alloc: Global, call: &str) -> Result<Command, Fault> {
-    match command(alloc, call) {
-        Err(Fault::OutOfMemory) => command(alloc, call),
-        command => command,
-    }
-}
-
-/// An answer as a text, told once more where memory was refused.
-fn told_again(alloc: Global, answer: &Result<Reply, Fault>) -> Result<String, Fault> {
-    match told(alloc, answer) {
-        Err(Fault::OutOfMemory) => told(alloc, answer),
-        text => text,
-    }
-}
-
-/// Asks what a line says, a moment and a call, and asserts the answer behind the arrow.
+/// Asks what a line says, a moment and a call, and asserts the answer behind the arrow. Where memory is
+/// refused it asserts that each turn has ended and that the clock alone has moved, and asks once more.
 fn ask_again<R: Wait + Abort>(
     rt: &R,
     alloc: Global,
-    desk: &Desk<NoPress>,
-    pass: &mut Pass<NoPress>,
+    talk: &mut Talk,
     line: &str,
-) -> Result<(), Fail>
-    requires { pass.old.desk ≡ desk.now }
-    ensures { pass.new.desk ≡ pass.old.desk }
-{
+) -> Result<(), Fail> {
     let (asked, wanted) = line.split_once(" => ").ok_or("a call and its answer")?;
-    let (at, call) = asked.split_once(' ').ok_or("a moment and a call")?;
+    let (at, call) = first_word(asked);
     let at = moment(number(at)?)?;
-    let command = command_again(alloc, call)?;
-    let answer = answer(rt, alloc, desk, pass, at, &command)?;
-    let told = told_again(alloc, &answer)?;
-    assert_eq!(rt; told.as_str(), wanted, "{call}");
-    Ok(())
-}
-
-/// The same for each line of a text.
-fn ask_all<R: Wait + Abort>(
-    rt: &R,
-    alloc: Global,
-    desk: &Desk<NoPress>,
-    pass: &mut Pass<NoPress>,
-    text: &str,
-) -> Result<(), Fail>
-    requires { pass.old.desk ≡ desk.now }
-    ensures { pass.new.desk ≡ pass.old.desk }
-{
-    for line in text.lines() {
-        ask_again(rt, alloc, desk, pass, line)?;
+    let command = command(alloc, call).or_else(|_| command(alloc, call))?;
+    let before = look(rt, talk).ok_or("a look")?;
+    let ended = talk.turns("p");
+    let mut answer = talk.ask(rt, "p", at, &command, &NoGate).reply;
+    assert_eq!(rt; Some(talk.turns("p")), ended.checked_add(1), "{call}");
+    if matches!(answer, Err(Fault::OutOfMemory)) {
+        let clock = before.clock.later(at);
+        let moved = Look { clock, ..before };
+        assert_eq!(rt; look(rt, talk), Some(moved), "{call}");
+        answer = talk.ask(rt, "p", at, &command, &NoGate).reply;
     }
+    let told = told(alloc, &answer).or_else(|_| told(alloc, &answer))?;
+    assert_eq!(rt; told.as_str(), wanted, "{call}");
     Ok(())
 }
 
@@ -144,10 +60,15 @@ const CALLS: &str = "1000 send a => sent 0
 #[test]
 fn refused_memory(rt: HostRuntime) -> Result<(), Fail> {
     let alloc = rt.alloc();
-    let (desk, mut pass) = desk_again(&rt, alloc)?;
-    ask_all(&rt, alloc, &desk, &mut pass, CALLS)?;
-    let mut state = desk.close(&rt, pass)?;
-    let look = state.look(Moment::zero(), &mut Ticks::new(&rt));
+    let mut talk = match Talk::open(&rt) {
+        Err(Fault::OutOfMemory) => Talk::open(&rt)?,
+        talk => talk?,
+    };
+    for line in CALLS.lines() {
+        ask_again(&rt, alloc, &mut talk, line)?;
+    }
+    let mut queue = talk.close(&rt)?;
+    let look = queue.look(Moment::zero(), &mut Ticks::new(&rt));
     assert_eq!(rt; (look.lines, look.closed), (9, true));
     Ok(())
 }

@@ -6,42 +6,6 @@ use super::callers::{Caller, callers};
 use super::*;
 use std::thread;
 
-/// Sends once and looks.
-fn send_and_look<R: Wait>(rt: &R, alloc: Global, caller: &mut Caller<'_>) -> Result<(), Fault> {
-    caller.send(rt, alloc, 1000, &NoGate)?;
-    caller.look(rt, alloc, 900)
-}
-
-/// Each of two threads sees its own message, and who looks last sees both. The messages have the numbers
-/// 0 and 1. After they met, one pass sees what both have done.
-#[test]
-fn two_threads(rt: HostRuntime) -> Result<(), Fail> {
-    let alloc = rt.alloc();
-    let (desk, mut pass) = Desk::new(&rt, alloc, open(alloc)?, NoPress)?;
-    let mut both = callers(alloc, &desk, &mut pass, 2)?;
-    thread::for_each_mut(
-        &rt,
-        both.as_mut_slice(),
-        2,
-        &|_, caller| {
-            caller.failed = send_and_look(&rt, alloc, caller).err();
-        },
-    );
-    let all = all_of(&rt, alloc, both.as_slice())?;
-    assert_eq!(rt; all.sent.as_slice(), [0, 1].as_slice());
-    assert!(rt; all.least_seen >= 1);
-    assert_eq!(rt; all.most_seen, 2);
-    for caller in both.iter_mut() {
-        caller.look(&rt, alloc, 0)?;
-        assert_eq!(rt; caller.seen, 2);
-    }
-    drop(both);
-    assert_eq!(rt; desk.glance(&mut pass), 6);
-    let look = "0 look => 2 visible, 3 entries at 1000";
-    run(&rt, alloc, &desk, &mut pass, look)?;
-    Ok(())
-}
-
 /// How often each of the eight threads does its round.
 const ROUNDS: u64 = 3;
 
@@ -58,12 +22,12 @@ fn round<R: Wait>(
     at: u64,
 ) -> Result<(), Fault> {
     for _ in 0..SENDS {
-        caller.send(rt, alloc, at, &NoGate)?;
+        caller.call(rt, alloc, at, "send a")?;
     }
     if index % 4 == 0 {
-        return caller.receive(rt, alloc, at, 0);
+        return caller.call(rt, alloc, at, "receive 2 0");
     }
-    caller.receive(rt, alloc, at, 600)?;
+    caller.call(rt, alloc, at, "receive 2 600")?;
     caller.delete_last(rt, alloc, at)
 }
 
@@ -76,57 +40,25 @@ fn work<R: Wait>(rt: &R, alloc: Global, caller: &mut Caller<'_>, index: usize) {
     }
 }
 
-/// What all threads were told.
-#[derive(Drop)]
-struct All {
-    sent: Vec<u64>,
-    offered: Vec<(u64, u64)>,
-    /// The least and the most messages that one of them saw at its last look.
-    least_seen: u64,
-    most_seen: u64,
-    accepted: u64,
-}
-
-impl All {
-    /// Adds what one thread was told. The numbers of its own messages rise.
-    fn add(&mut self, rt: &impl Abort, caller: &Caller<'_>) -> Result<(), Fail> {
-        let mut least = 0;
-        for number in caller.sent.iter() {
-            assert!(rt; least <= *number, "{number} after {least}");
-            least = number.wrapping_add(1);
-            self.sent.push(*number)?;
-        }
-        self.keep(&caller.offered)?;
-        self.least_seen = self.least_seen.min(caller.seen);
-        self.most_seen = self.most_seen.max(caller.seen);
-        self.accepted = self.accepted.wrapping_add(caller.accepted);
-        Ok(())
-    }
-
-    fn keep(&mut self, offered: &Vec<(u64, u64)>) -> Result<(), Fail> {
-        for offer in offered.iter() {
-            self.offered.push(*offer)?;
-        }
-        Ok(())
-    }
-}
-
-/// What all threads were told, put together, and in order of number and receipt. None met a refusal.
-fn all_of(rt: &impl Abort, alloc: Global, callers: &[Caller<'_>]) -> Result<All, Fail> {
-    let mut all = All {
-        sent: Vec::new(alloc),
-        offered: Vec::new(alloc),
-        least_seen: u64::MAX,
-        most_seen: 0,
-        accepted: 0,
-    };
+/// What all threads were told: the numbers of what was sent, and the numbers and receipts of what was
+/// offered, both in order, and how many calls were accepted. None met a refusal, and the numbers of each
+/// one's own messages rise.
+pub(super) fn all_of(
+    rt: &impl Abort,
+    alloc: Global,
+    callers: &[Caller<'_>],
+) -> Result<(Vec<u64>, Vec<(u64, u64)>, u64), Fail> {
+    let (mut sent, mut offered, mut accepted) = (Vec::new(alloc), Vec::new(alloc), 0u64);
     for caller in callers {
         assert_eq!(rt; caller.failed, None);
-        all.add(rt, caller)?;
+        assert!(rt; caller.sent.as_slice().is_sorted());
+        sent.extend_from_slice(caller.sent.as_slice())?;
+        offered.extend_from_slice(caller.offered.as_slice())?;
+        accepted = accepted.wrapping_add(caller.accepted);
     }
-    all.sent.as_mut_slice().sort_unstable();
-    all.offered.as_mut_slice().sort_unstable();
-    Ok(all)
+    sent.as_mut_slice().sort_unstable();
+    offered.as_mut_slice().sort_unstable();
+    Ok((sent, offered, accepted))
 }
 
 /// Asserts that each number was given to one message, and none was left out.
@@ -140,12 +72,9 @@ fn have_no_gap(rt: &impl Abort, numbers: &[u64]) {
 fn receipts_have_no_gap(rt: &impl Abort, offered: &[(u64, u64)]) {
     let mut last = (u64::MAX, 0u64);
     for offer in offered {
-        let wanted = if offer.0 == last.0 {
-            Some(offer.1) == last.1.checked_add(1)
-        } else {
-            offer.1 == 1
-        };
-        assert!(rt; wanted, "{offer:?} after {last:?}");
+        let first = offer.0 != last.0;
+        let wanted = if first { 1 } else { last.1.wrapping_add(1) };
+        assert_eq!(rt; offer.1, wanted, "{offer:?} after {last:?}");
         last = *offer;
     }
 }
@@ -165,14 +94,11 @@ fn eight_threads(rt: HostRuntime) -> Result<(), Fail> {
             work(&rt, alloc, caller, index);
         },
     );
-    let all = all_of(&rt, alloc, eight.as_slice())?;
+    let (sent, offered, accepted) = all_of(&rt, alloc, eight.as_slice())?;
     drop(eight);
-    assert_eq!(rt;
-        (all.accepted, all.sent.len(), all.offered.len()),
-        (234, 192, 48)
-    );
-    have_no_gap(&rt, all.sent.as_slice());
-    receipts_have_no_gap(&rt, all.offered.as_slice());
+    assert_eq!(rt; (accepted, sent.len(), offered.len()), (234, 192, 48));
+    have_no_gap(&rt, sent.as_slice());
+    receipts_have_no_gap(&rt, offered.as_slice());
     assert_eq!(rt; desk.glance(&mut pass), 234);
     let mut state = desk.close(&rt, pass)?;
     let look = state.look(Moment::zero(), &mut Ticks::new(&rt));
