@@ -1,35 +1,14 @@
 -- How what an actor has done so far goes on, one step more at a time.
-use Rattle.std.proofs.Common.{◌≡◌, ℕ, ◌+◌, ◌<◌, ◌⊎◌, Bool, true, false, MatchBool, Option, Some, None, unwrap_or, rules, List, [], ◌∷◌, ◌++◌, length, refl, sym, ◌∙◌, ap, subst, inl, inr, append_assoc, append-nil, length-append, arith}
+use Rattle.std.proofs.Common.{◌≡◌, ℕ, ◌+◌, ◌<◌, ◌⊎◌, Bool, true, false, MatchBool, rules, List, [], ◌∷◌, ◌++◌, length, refl, sym, ◌∙◌, ap, subst, inl, inr, append_assoc, append-nil, length-append, arith}
 use Rattle.queue_core.specs.declared.parcel.Parcel.{Parcel}
 use Rattle.desk.specs.Views.{Knowledge}
 use Rattle.queue_actor.specs.declared.mail.Ask.{Ask}
 use Rattle.queue_actor.specs.Answered.{Answered}
 use Rattle.queue_actor.specs.declared.parcels.Delivery.{Delivery}
-use Rattle.queue_actor.specs.Course.{Event, gaves, GoesThrough, GivesAll}
-use Rattle.queue_actor.specs.Calling.{KeepsWaiting}
+use Rattle.queue_actor.specs.Course.{Event, GoesThrough}
 use Rattle.queue_actor.specs.declared.mail.Mail.{Mail}
-use Rattle.queue_actor.specs.declared.mail.Mail.TheVariants as mails
-use Rattle.queue_actor.specs.Serving.{may_wait, IsAnswerAt, AreAnswersAt, LooksOver, Admits, TakesIn, Goes, Ends, Serves}
-
--- ---- one thing behind another
-
-module _ {V S T : Type 0} (gives : V → S → T → V → Type 0) where
-  pub gives_both : (a b c : V) (xs ys : List (S × T)) → GivesAll gives a xs b → GivesAll gives b ys c → GivesAll gives a (xs ++ ys) c
-  gives_both a b c [] ys first second = subst (λ v. GivesAll gives v ys c) first second
-  gives_both a b c (x ∷ xs) ys first second = (first.0, first.1, gives_both first.0 b c xs ys first.2 second)
-
-module _ {V M S T : Type 0} (brings : V → M → V → Type 0) (is_over : V → V → Type 0) (gives : V → S → T → V → Type 0) where
-  pub through_both : (a b c : V) (xs ys : List (Event M S T)) → GoesThrough brings is_over gives a xs b → GoesThrough brings is_over gives b ys c
-      → GoesThrough brings is_over gives a (xs ++ ys) c
-  through_both a b c [] ys first second = subst (λ v. GoesThrough brings is_over gives v ys c) first second
-  through_both a b c (Event.Brought mail ∷ xs) ys first second = (first.0, first.1, through_both first.0 b c xs ys first.2 second)
-  through_both a b c (Event.Over ∷ xs) ys first second = (first.0, first.1, through_both first.0 b c xs ys first.2 second)
-  through_both a b c (Event.Gave slot answer ∷ xs) ys first second = (first.0, first.1, through_both first.0 b c xs ys first.2 second)
-
-  -- answers that are given are events
-  pub through_gives : (a b : V) (xs : List (S × T)) → GivesAll gives a xs b → GoesThrough brings is_over gives a (gaves xs) b
-  through_gives a b [] given = given
-  through_gives a b (x ∷ xs) given = (given.0, given.1, through_gives given.0 b xs given.2)
+use Rattle.queue_actor.specs.Serving.{is_receive, may_wait, IsAnswerAt, IsAnsweredAt, IsServedAt, AreServedAt, LooksAt, with_kept, LooksOver, Admits, TakesIn, Goes, Ends, Serves}
+use Rattle.queue_actor.specs.Waiting.{WaitsBehind, TakesAnswers, waiting_with, moment_with}
 
 -- equal lists have equal heads and equal tails
 head_of_or : {A : Type 0} → A → List A → A
@@ -52,80 +31,170 @@ pub nothing_left : {A : Type 0} (xs : List A) → length xs ≡ 0 → xs ≡ []
 nothing_left [] none = refl
 nothing_left (x ∷ xs) none = absurd (omega (arith, none))
 
-pub some_same : {A : Type 0} {x y : A} → Some x ≡ Some y → x ≡ y
-some_same {A} {x} same = ap (λ o. unwrap_or o x) same
+-- ---- who waits, behind one thing and then another
 
-pub none_some : {A : Type 0} {x : A} → ◌≡◌ {A = Option A} None (Some x) → ⊥
-none_some same = search (rules, same)
+module _ {P S Told : Type 0} where
+  pub waits_both : (asks : List (Ask P S Told)) (last : ℕ) (xs ys : List (Event (Mail P S Told) S Answered)) (mid left : List (Ask P S Told)) (between at : ℕ)
+      → WaitsBehind asks last xs mid between → WaitsBehind mid between ys left at → WaitsBehind asks last (xs ++ ys) left at
+  waits_both asks last [] ys mid left between at first second =
+      subst (λ a. WaitsBehind a last ys left at) first.0 (subst (λ t. WaitsBehind mid t ys left at) first.1 second)
+  waits_both asks last (Event.Brought mail ∷ xs) ys mid left between at first second =
+      waits_both (waiting_with asks mail) (moment_with last mail) xs ys mid left between at first second
+  waits_both asks last (Event.Over ∷ xs) ys mid left between at first second = waits_both asks last xs ys mid left between at first second
+  waits_both asks last (Event.Gave slot answer ∷ xs) ys mid left between at first second =
+      (first.0, first.1, waits_both first.0 last xs ys mid left between at first.2 second)
+  waits_both asks last (Event.Left slot ∷ xs) ys mid left between at first second =
+      (first.0, first.1, waits_both first.0 last xs ys mid left between at first.2 second)
 
-pub some_none : {A : Type 0} {x : A} → ◌≡◌ {A = Option A} (Some x) None → ⊥
-some_none same = search (rules, same)
+  -- who was served waits no longer
+  pub served_waits : (at last : ℕ) (r : Ask P S Told) (front back : List (Ask P S Told)) (happened : List (Event (Mail P S Told) S Answered))
+      → IsServedAt at r happened → WaitsBehind (front ++ r ∷ back) last happened (front ++ back) last
+  served_waits at last r front back happened (inl left) =
+      subst (λ es. WaitsBehind (front ++ r ∷ back) last es (front ++ back) last) (sym left)
+      (front ++ back, (front, back, r, refl, refl, refl), (refl, refl))
+  served_waits at last r front back happened (inr answered) =
+      subst (λ es. WaitsBehind (front ++ r ∷ back) last es (front ++ back) last) (sym answered.2)
+      (front ++ back, (front, back, r, refl, refl, refl), (refl, refl))
 
--- ---- the end of polls that wait
+  -- one that goes on waiting, behind others
+  abbrev pub with_last : List (Ask P S Told) → Bool → Ask P S Told → List (Ask P S Told)
+  with_last others true r = others ++ r ∷ []
+  with_last others false r = others
 
-module _ {P S Told V : Type 0} (gives : V → S → Answered → V → Type 0) where
-  -- of the polls that waited some are left to be asked, and the others were answered
+  with_last_before : (others : List (Ask P S Told)) (kept : Bool) (r : Ask P S Told) (left : List (Ask P S Told)) → with_last others kept r ++ left ≡ others ++ with_kept kept r left
+  with_last_before others true r left = append_assoc others (r ∷ []) left
+  with_last_before others false r left = refl
+
+  with_last_behind : (others kept : List (Ask P S Told)) (is_kept : Bool) (r : Ask P S Told) → with_last (others ++ kept) is_kept r ≡ others ++ with_last kept is_kept r
+  with_last_behind others kept true r = append_assoc others kept (r ∷ [])
+  with_last_behind others kept false r = refl
+
+  -- a poll that was looked at waits where it goes on waiting
+  pub looked_waits : (limit at last : ℕ) (quiet kept : Bool) (before after : Knowledge) (r : Ask P S Told) (front back : List (Ask P S Told)) (happened : List (Event (Mail P S Told) S Answered))
+      → LooksAt limit at quiet before r happened kept after → WaitsBehind (front ++ r ∷ back) last happened (front ++ with_kept kept r back) last
+  looked_waits limit at last quiet true before after r front back happened looks =
+      subst (λ es. WaitsBehind (front ++ r ∷ back) last es (front ++ r ∷ back) last) (sym looks.0) (refl, refl)
+  looked_waits limit at last quiet false before after r front back happened (inl left) = served_waits at last r front back happened (inl left.0)
+  looked_waits limit at last quiet false before after r front back happened (inr answered) = served_waits at last r front back happened (inr answered.1)
+
+module _ {V P S Told : Type 0} (brings : V → Mail P S Told → V → Type 0) (is_over : V → V → Type 0) (gives : V → S → Answered → V → Type 0) (was_left : V → S → Type 0) where
+  pub through_both : (a b c : V) (xs ys : List (Event (Mail P S Told) S Answered)) → GoesThrough brings is_over gives was_left a xs b → GoesThrough brings is_over gives was_left b ys c
+      → GoesThrough brings is_over gives was_left a (xs ++ ys) c
+  through_both a b c [] ys first second = subst (λ v. GoesThrough brings is_over gives was_left v ys c) first second
+  through_both a b c (Event.Brought mail ∷ xs) ys first second = (first.0, first.1, through_both first.0 b c xs ys first.2 second)
+  through_both a b c (Event.Over ∷ xs) ys first second = (first.0, first.1, through_both first.0 b c xs ys first.2 second)
+  through_both a b c (Event.Gave slot answer ∷ xs) ys first second = (first.0, first.1, through_both first.0 b c xs ys first.2 second)
+  through_both a b c (Event.Left slot ∷ xs) ys first second = (first.0, through_both a b c xs ys first.1 second)
+
+module _ {V P S Told : Type 0} (brings : V → Mail P S Told → V → Type 0) (is_over : V → V → Type 0)
+    (may_give : V → S → Answered → Type 0) (gives : V → S → Answered → V → Type 0) (was_left : V → S → Type 0) where
+  -- ---- a mailbox takes answers
+
+  -- what it takes behind something it takes
+  pub takes_behind : (asks left : List (Ask P S Told)) (last at : ℕ) (a b : V) (happened : List (Event (Mail P S Told) S Answered))
+      → TakesAnswers brings is_over may_give gives was_left asks last a → GoesThrough brings is_over gives was_left a happened b
+      → WaitsBehind asks last happened left at → TakesAnswers brings is_over may_give gives was_left left at b
+  takes_behind asks left last at a b happened takes goes waits events then front back time r answer more later is =
+      takes (happened ++ events) then front back time r answer (through_both brings is_over gives was_left a b then happened events goes more)
+      (waits_both asks last happened events left (front ++ r ∷ back) at time waits later) is
+
+  -- at once it takes the answer to each that waits
+  pub takes_now : (asks front back : List (Ask P S Told)) (at : ℕ) (now : V) (r : Ask P S Told)
+      → TakesAnswers brings is_over may_give gives was_left asks at now → asks ≡ front ++ r ∷ back
+      → (answer : Answered) → IsAnswerAt at r answer → may_give now r.reply answer
+  takes_now asks front back at now r takes same answer is = takes [] now front back at r answer refl (sym same, refl) is
+
+  -- a mail comes
+  pub takes_brought : (asks : List (Ask P S Told)) (last : ℕ) (a b : V) (mail : Mail P S Told)
+      → TakesAnswers brings is_over may_give gives was_left asks last a → brings a mail b
+      → TakesAnswers brings is_over may_give gives was_left (waiting_with asks mail) (moment_with last mail) b
+  takes_brought asks last a b mail takes brought =
+      takes_behind asks (waiting_with asks mail) last (moment_with last mail) a b (Event.Brought mail ∷ []) takes (b, brought, refl) (refl, refl)
+
+  -- no mail will come any more
+  pub takes_over : (asks : List (Ask P S Told)) (last : ℕ) (a b : V)
+      → TakesAnswers brings is_over may_give gives was_left asks last a → is_over a b → TakesAnswers brings is_over may_give gives was_left asks last b
+  takes_over asks last a b takes over = takes_behind asks asks last last a b (Event.Over ∷ []) takes (b, over, refl) (refl, refl)
+
+  -- an ask was served
+  pub takes_served : (at last : ℕ) (a b : V) (r : Ask P S Told) (front back : List (Ask P S Told)) (happened : List (Event (Mail P S Told) S Answered))
+      → TakesAnswers brings is_over may_give gives was_left (front ++ r ∷ back) last a → IsServedAt at r happened → GoesThrough brings is_over gives was_left a happened b
+      → TakesAnswers brings is_over may_give gives was_left (front ++ back) last b
+  takes_served at last a b r front back happened takes is goes =
+      takes_behind (front ++ r ∷ back) (front ++ back) last last a b happened takes goes (served_waits at last r front back happened is)
+
+  -- ---- the end of polls that wait
+
+  -- of the polls that waited some are left to be served, and the others were
   pub record Answering (at : ℕ) (parked : List (Ask P S Told)) (mailbox : V) (left : List (Ask P S Told)) (now : V) : Type 0 where
-    pub given : List (S × Answered)
-    pub adds : GivesAll gives mailbox given now
-    pub so_far : (more : List (S × Answered)) → AreAnswersAt at left more → AreAnswersAt at parked (given ++ more)
+    pub happened : List (Event (Mail P S Told) S Answered)
+    pub goes : GoesThrough brings is_over gives was_left mailbox happened now
+    pub waits : WaitsBehind parked at happened left at
+    pub so_far : (more : List (Event (Mail P S Told) S Answered)) → AreServedAt at left more → AreServedAt at parked (happened ++ more)
 
   pub answering_begins : (at : ℕ) (parked : List (Ask P S Told)) (mailbox : V) → Answering at parked mailbox parked mailbox
-  answering_begins at parked mailbox = record { given = []; adds = refl; so_far = λ more h. h }
+  answering_begins at parked mailbox = record { happened = []; goes = refl; waits = (refl, refl); so_far = λ more h. h }
 
-  pub answering_goes : (at : ℕ) (parked : List (Ask P S Told)) (mailbox : V) (r : Ask P S Told) (left : List (Ask P S Told)) (now next : V) (answer : Answered)
-      → Answering at parked mailbox (r ∷ left) now → IsAnswerAt at r answer → GivesAll gives now ((r.reply, answer) ∷ []) next
+  pub answering_goes : (at : ℕ) (parked : List (Ask P S Told)) (mailbox : V) (r : Ask P S Told) (left : List (Ask P S Told)) (now next : V) (first : List (Event (Mail P S Told) S Answered))
+      → Answering at parked mailbox (r ∷ left) now → IsServedAt at r first → GoesThrough brings is_over gives was_left now first next
       → Answering at parked mailbox left next
-  answering_goes at parked mailbox r left now next answer h is adds = record {
-    given = h.given ++ (r.reply, answer) ∷ [];
-    adds = gives_both gives mailbox now next h.given ((r.reply, answer) ∷ []) h.adds adds;
-    so_far = λ more m. subst (λ g. AreAnswersAt at parked g) (sym (append_assoc h.given ((r.reply, answer) ∷ []) more))
-        (h.so_far ((r.reply, answer) ∷ more) (answer, more, is, refl, m));
+  answering_goes at parked mailbox r left now next first h is goes = record {
+    happened = h.happened ++ first;
+    goes = through_both brings is_over gives was_left mailbox now next h.happened first h.goes goes;
+    waits = waits_both parked at h.happened first (r ∷ left) left at at h.waits (served_waits at at r [] left first is);
+    so_far = λ more m. subst (λ es. AreServedAt at parked es) (sym (append_assoc h.happened first more)) (h.so_far (first ++ more) (first, more, is, refl, m));
   }
 
   pub answering_ends : (at : ℕ) (parked : List (Ask P S Told)) (mailbox now : V) → Answering at parked mailbox [] now
-      → (given : List (S × Answered)) × AreAnswersAt at parked given × GivesAll gives mailbox given now
-  answering_ends at parked mailbox now h = (h.given ++ [], h.so_far [] refl, subst (λ g. GivesAll gives mailbox g now) (sym (append-nil h.given)) h.adds)
+      → (happened : List (Event (Mail P S Told) S Answered)) × AreServedAt at parked happened × GoesThrough brings is_over gives was_left mailbox happened now
+  answering_ends at parked mailbox now h =
+      (h.happened ++ [], h.so_far [] refl, subst (λ es. GoesThrough brings is_over gives was_left mailbox es now) (sym (append-nil h.happened)) h.goes)
 
   -- ---- looking over polls that wait
 
-  -- of the polls that waited some are still to be looked at, and the others wait behind them or were answered
+  -- of the polls that waited some are still to be looked at, and the others wait behind them, were answered, or were dropped
   pub record Looking (limit at : ℕ) (before : Knowledge) (parked : List (Ask P S Told)) (mailbox : V)
       (quiet : Bool) (pass : Knowledge) (polls : List (Ask P S Told)) (now : V) (turns : ℕ) : Type 0 where
     pub rest : List (Ask P S Told)
     pub kept : List (Ask P S Told)
-    pub given : List (S × Answered)
+    pub happened : List (Event (Mail P S Told) S Answered)
     pub parts : polls ≡ rest ++ kept
     pub count : length rest ≡ turns
-    pub adds : GivesAll gives mailbox given now
-    pub so_far : (more : List (S × Answered)) (after : Knowledge) (left : List (Ask P S Told))
-        → LooksOver limit at quiet pass rest more after left → LooksOver limit at false before parked (given ++ more) after (kept ++ left)
+    pub goes : GoesThrough brings is_over gives was_left mailbox happened now
+    pub waits : WaitsBehind parked at happened (kept ++ rest) at
+    pub so_far : (more : List (Event (Mail P S Told) S Answered)) (after : Knowledge) (left : List (Ask P S Told))
+        → LooksOver limit at quiet pass rest more after left → LooksOver limit at false before parked (happened ++ more) after (kept ++ left)
 
   pub looking_begins : (limit at : ℕ) (before : Knowledge) (parked : List (Ask P S Told)) (mailbox : V) (turns : ℕ) → length parked ≡ turns
       → Looking limit at before parked mailbox false before parked mailbox turns
   looking_begins limit at before parked mailbox turns count = record {
     rest = parked;
     kept = [];
-    given = [];
+    happened = [];
     parts = sym (append-nil parked);
     count = count;
-    adds = refl;
+    goes = refl;
+    waits = (refl, refl);
     so_far = λ more after left h. h;
   }
 
   pub looking_ends : (limit at : ℕ) (before : Knowledge) (parked : List (Ask P S Told)) (mailbox : V) (quiet : Bool) (pass : Knowledge) (polls : List (Ask P S Told)) (now : V)
       → Looking limit at before parked mailbox quiet pass polls now 0
-      → (given : List (S × Answered)) × LooksOver limit at false before parked given pass polls × GivesAll gives mailbox given now
+      → (happened : List (Event (Mail P S Told) S Answered)) × LooksOver limit at false before parked happened pass polls
+      × GoesThrough brings is_over gives was_left mailbox happened now × WaitsBehind parked at happened polls at
   looking_ends limit at before parked mailbox quiet pass polls now h =
       let done : h.rest ≡ [] = nothing_left h.rest h.count in
       let nobody : LooksOver limit at quiet pass h.rest [] pass [] = subst (λ rest. LooksOver limit at quiet pass rest [] pass []) (sym done) (refl, refl, refl) in
-      let whole : LooksOver limit at false before parked (h.given ++ []) pass (h.kept ++ []) = h.so_far [] pass [] nobody in
-      let given : LooksOver limit at false before parked h.given pass (h.kept ++ []) =
-      subst (λ given. LooksOver limit at false before parked given pass (h.kept ++ [])) (append-nil h.given) whole in
-      let left : h.kept ++ [] ≡ polls = append-nil h.kept ∙ sym (h.parts ∙ ap (λ rest. rest ++ h.kept) done) in (
-        h.given,
-        subst (λ left. LooksOver limit at false before parked h.given pass left) left given,
-        h.adds,
+      let whole : LooksOver limit at false before parked (h.happened ++ []) pass (h.kept ++ []) = h.so_far [] pass [] nobody in
+      let happened : LooksOver limit at false before parked h.happened pass (h.kept ++ []) =
+      subst (λ es. LooksOver limit at false before parked es pass (h.kept ++ [])) (append-nil h.happened) whole in
+      let kept : h.kept ≡ polls = sym (h.parts ∙ ap (λ rest. rest ++ h.kept) done) in
+      let left : h.kept ++ [] ≡ polls = append-nil h.kept ∙ kept in
+      let waiting : h.kept ++ h.rest ≡ polls = ap (λ rest. h.kept ++ rest) done ∙ left in (
+        h.happened,
+        subst (λ left. LooksOver limit at false before parked h.happened pass left) left happened,
+        h.goes,
+        subst (λ left. WaitsBehind parked at h.happened left at) waiting h.waits,
       )
 
   -- the first of the polls that are still to be looked at, and what is left behind it
@@ -146,173 +215,159 @@ module _ {P S Told V : Type 0} (gives : V → S → Answered → V → Type 0) w
   one_is_left limit at before parked mailbox quiet pass polls now turns h some =
       omega (arith, some, h.count, ap length h.parts, length-append h.rest h.kept)
 
-  -- the poll that is looked at goes on waiting, behind those that were looked at
-  pub looking_keeps : (limit at : ℕ) (before : Knowledge) (parked : List (Ask P S Told)) (mailbox : V) (quiet : Bool) (pass between : Knowledge)
+  -- the mailbox takes the answer to the poll that is looked at next
+  pub looking_takes : (limit at : ℕ) (before : Knowledge) (parked : List (Ask P S Told)) (mailbox : V) (quiet : Bool) (pass : Knowledge)
       (polls others : List (Ask P S Told)) (now : V) (turns : ℕ) (r : Ask P S Told)
-      → Looking limit at before parked mailbox quiet pass polls now (turns + 1) → polls ≡ r ∷ others → KeepsWaiting limit at quiet r.wait_until true pass between
-      → Looking limit at before parked mailbox true between (others ++ r ∷ []) now turns
-  looking_keeps limit at before parked mailbox quiet pass between polls others now turns r h popped keeps =
+      → TakesAnswers brings is_over may_give gives was_left parked at mailbox
+      → Looking limit at before parked mailbox quiet pass polls now (turns + 1) → polls ≡ r ∷ others
+      → (answer : Answered) → IsAnswerAt at r answer → may_give now r.reply answer
+  looking_takes limit at before parked mailbox quiet pass polls others now turns r takes h popped =
       let f = first_of_the_rest polls others h.rest h.kept r turns popped h.parts h.count in
-      record {
-        rest = f.0;
-        kept = h.kept ++ r ∷ [];
-        given = h.given;
-        parts = ap (λ xs. xs ++ r ∷ []) f.2 ∙ append_assoc f.0 h.kept (r ∷ []);
-        count = f.3;
-        adds = h.adds;
-        so_far = λ more after left m.
-            subst (λ left. LooksOver limit at false before parked (h.given ++ more) after left) (sym (append_assoc h.kept (r ∷ []) left))
-            (h.so_far more after (r ∷ left) (subst (λ rest. LooksOver limit at quiet pass rest more after (r ∷ left)) (sym f.1) (inl (between, left, keeps, refl, m))));
-      }
+      takes_now (h.kept ++ h.rest) h.kept f.0 at now r (takes_behind parked (h.kept ++ h.rest) at at mailbox now h.happened takes h.goes h.waits)
+      (ap (λ rest. h.kept ++ rest) f.1)
 
-  -- the poll that is looked at is answered
-  pub looking_answers : (limit at : ℕ) (before : Knowledge) (parked : List (Ask P S Told)) (mailbox : V) (quiet : Bool) (pass between : Knowledge)
-      (polls others : List (Ask P S Told)) (now next : V) (turns : ℕ) (r : Ask P S Told) (answer : Answered)
-      → Looking limit at before parked mailbox quiet pass polls now (turns + 1) → polls ≡ r ∷ others → KeepsWaiting limit at quiet r.wait_until false pass between
-      → IsAnswerAt at r answer → GivesAll gives now ((r.reply, answer) ∷ []) next
-      → Looking limit at before parked mailbox false between others next turns
-  looking_answers limit at before parked mailbox quiet pass between polls others now next turns r answer h popped keeps is adds =
+  -- the poll that is looked at goes on waiting, behind those that were looked at, or it is served
+  pub looking_goes : (limit at : ℕ) (before : Knowledge) (parked : List (Ask P S Told)) (mailbox : V) (quiet is_kept : Bool) (pass between : Knowledge)
+      (polls others : List (Ask P S Told)) (now next : V) (turns : ℕ) (r : Ask P S Told) (first : List (Event (Mail P S Told) S Answered))
+      → Looking limit at before parked mailbox quiet pass polls now (turns + 1) → polls ≡ r ∷ others
+      → LooksAt limit at quiet pass r first is_kept between → GoesThrough brings is_over gives was_left now first next
+      → Looking limit at before parked mailbox is_kept between (with_last others is_kept r) next turns
+  looking_goes limit at before parked mailbox quiet is_kept pass between polls others now next turns r first h popped looks goes =
       let f = first_of_the_rest polls others h.rest h.kept r turns popped h.parts h.count in
       record {
         rest = f.0;
-        kept = h.kept;
-        given = h.given ++ (r.reply, answer) ∷ [];
-        parts = f.2;
+        kept = with_last h.kept is_kept r;
+        happened = h.happened ++ first;
+        parts = ap (λ xs. with_last xs is_kept r) f.2 ∙ with_last_behind f.0 h.kept is_kept r;
         count = f.3;
-        adds = gives_both gives mailbox now next h.given ((r.reply, answer) ∷ []) h.adds adds;
+        goes = through_both brings is_over gives was_left mailbox now next h.happened first h.goes goes;
+        waits = waits_both parked at h.happened first (h.kept ++ r ∷ f.0) (with_last h.kept is_kept r ++ f.0) at at
+            (subst (λ rest. WaitsBehind parked at h.happened (h.kept ++ rest) at) f.1 h.waits)
+            (subst (λ left. WaitsBehind (h.kept ++ r ∷ f.0) at first left at) (sym (with_last_before h.kept is_kept r f.0))
+            (looked_waits limit at at quiet is_kept pass between r h.kept f.0 first looks));
         so_far = λ more after left m.
-            subst (λ given. LooksOver limit at false before parked given after (h.kept ++ left)) (sym (append_assoc h.given ((r.reply, answer) ∷ []) more))
-            (h.so_far ((r.reply, answer) ∷ more) after left
-            (subst (λ rest. LooksOver limit at quiet pass rest ((r.reply, answer) ∷ more) after left) (sym f.1) (inr (between, answer, more, keeps, is, refl, m))));
+            subst (λ left. LooksOver limit at false before parked ((h.happened ++ first) ++ more) after left) (sym (with_last_before h.kept is_kept r left))
+            (subst (λ es. LooksOver limit at false before parked es after (h.kept ++ with_kept is_kept r left)) (sym (append_assoc h.happened first more))
+            (h.so_far (first ++ more) after (with_kept is_kept r left)
+            (subst (λ rest. LooksOver limit at quiet pass rest (first ++ more) after (with_kept is_kept r left)) (sym f.1)
+            (is_kept, first, more, between, left, looks, refl, refl, m))));
       }
 
   -- the same, told of equal values
   pub looking_same : (limit at : ℕ) (before : Knowledge) (parked : List (Ask P S Told)) (mailbox : V) (quiet : Bool) (pass : Knowledge) (polls : List (Ask P S Told)) (now : V) (turns : ℕ)
-      (quiet' : Bool) (polls' : List (Ask P S Told)) (now' : V) → quiet ≡ quiet' → polls ≡ polls' → now ≡ now'
-      → Looking limit at before parked mailbox quiet pass polls now turns → Looking limit at before parked mailbox quiet' pass polls' now' turns
-  looking_same limit at before parked mailbox quiet pass polls now turns quiet' polls' now' same_quiet same_polls same_now h =
-      subst (λ q. Looking limit at before parked mailbox q pass polls' now' turns) same_quiet
-      (subst (λ ps. Looking limit at before parked mailbox quiet pass ps now' turns) same_polls
-      (subst (λ n. Looking limit at before parked mailbox quiet pass polls n turns) same_now h))
+      (quiet' : Bool) (polls' : List (Ask P S Told)) → quiet ≡ quiet' → polls ≡ polls'
+      → Looking limit at before parked mailbox quiet pass polls now turns → Looking limit at before parked mailbox quiet' pass polls' now turns
+  looking_same limit at before parked mailbox quiet pass polls now turns quiet' polls' same_quiet same_polls h =
+      subst (λ q. Looking limit at before parked mailbox q pass polls' now turns) same_quiet
+      (subst (λ ps. Looking limit at before parked mailbox quiet pass ps now turns) same_polls h)
+
+-- ---- asks that come
+
+both_ways : (b : Bool) {A B : Type 0} → A → B → MatchBool b A B
+both_ways true a b = a
+both_ways false a b = b
 
 module _ {P S Told : Type 0} where
+  -- a receive that may not wait is answered at its moment, where somebody waits for that
+  pub admits_served : (r : Ask P S Told) (parked : List (Ask P S Told)) (happened : List (Event (Mail P S Told) S Answered))
+      → may_wait r ≡ false → is_receive r.command ≡ true → IsServedAt r.moment r happened → Admits r parked happened parked
+  admits_served r parked happened not_waiting receives is =
+      subst (λ b. MatchBool b ((happened ≡ []) × (parked ≡ parked ++ r ∷ [])) ((parked ≡ parked) × MatchBool (is_receive r.command) (IsServedAt r.moment r happened) (IsAnsweredAt r.moment r happened)))
+      (sym not_waiting) (refl, subst (λ b. MatchBool b (IsServedAt r.moment r happened) (IsAnsweredAt r.moment r happened)) (sym receives) is)
+
   -- an ask that may not wait is answered at its moment
-  pub admits_answer : (r : Ask P S Told) (parked : List (Ask P S Told)) (answer : Answered) → may_wait r ≡ false → IsAnswerAt r.moment r answer
-      → Admits r parked ((r.reply, answer) ∷ []) parked
-  admits_answer r parked answer not_waiting is =
-      let given : List (S × Answered) = (r.reply, answer) ∷ [] in
-      subst (λ b. MatchBool b ((given ≡ []) × (parked ≡ parked ++ r ∷ [])) ((parked ≡ parked) × ((a : Answered) × IsAnswerAt r.moment r a × (given ≡ (r.reply, a) ∷ []))))
-      (sym not_waiting) (refl, (answer, is, refl))
+  pub admits_answered : (r : Ask P S Told) (parked : List (Ask P S Told)) (happened : List (Event (Mail P S Told) S Answered))
+      → may_wait r ≡ false → IsAnsweredAt r.moment r happened → Admits r parked happened parked
+  admits_answered r parked happened not_waiting is =
+      subst (λ b. MatchBool b ((happened ≡ []) × (parked ≡ parked ++ r ∷ [])) ((parked ≡ parked) × MatchBool (is_receive r.command) (IsServedAt r.moment r happened) (IsAnsweredAt r.moment r happened)))
+      (sym not_waiting) (refl, both_ways (is_receive r.command) (inr is) is)
 
 -- ---- serving mails
 
-module _ {P S Told V T : Type 0} (told : ℕ → Parcel → Delivery T → Type 0)
-    (brings : V → Mail P S Told → V → Type 0) (is_over : V → V → Type 0) (gives : V → S → Answered → V → Type 0) where
+module _ {P S Told V T : Type 0} (told : ℕ → Parcel → Delivery T → Type 0) (taken_out : ℕ → Type 0) (retargeted : ℕ → ℕ → Type 0)
+    (brings : V → Mail P S Told → V → Type 0) (is_over : V → V → Type 0) (gives : V → S → Answered → V → Type 0) (was_left : V → S → Type 0) where
   -- what was served so far, where these polls wait now
-  pub record Serving (limit : ℕ) (before : Knowledge) (mailbox : V) (pass : Knowledge) (parked : List (Ask P S Told)) (last : ℕ) (now : V) : Type 0 where
+  pub record Serving (uid limit : ℕ) (before : Knowledge) (mailbox : V) (pass : Knowledge) (parked : List (Ask P S Told)) (last : ℕ) (now : V) : Type 0 where
     pub mails : List (Mail P S Told)
     pub events : List (Event (Mail P S Told) S Answered)
-    pub goes : GoesThrough brings is_over gives mailbox events now
+    pub goes : GoesThrough brings is_over gives was_left mailbox events now
     pub so_far : (ms : List (Mail P S Told)) (more : List (Event (Mail P S Told) S Answered)) (after : Knowledge)
-        → Serves told limit pass parked last ms more after → Serves told limit before [] 0 (mails ++ ms) (events ++ more) after
+        → Serves told taken_out retargeted uid limit pass parked last ms more after → Serves told taken_out retargeted uid limit before [] 0 (mails ++ ms) (events ++ more) after
 
-  pub serving_begins : (limit : ℕ) (before : Knowledge) (mailbox : V) (parked : List (Ask P S Told)) → parked ≡ []
-      → Serving limit before mailbox before parked 0 mailbox
-  serving_begins limit before mailbox parked none = record {
+  pub serving_begins : (uid limit : ℕ) (before : Knowledge) (mailbox : V) (parked : List (Ask P S Told)) → parked ≡ []
+      → Serving uid limit before mailbox before parked 0 mailbox
+  serving_begins uid limit before mailbox parked none = record {
     mails = [];
     events = [];
     goes = refl;
-    so_far = λ ms more after h. subst (λ ps. Serves told limit before ps 0 ms more after) none h;
+    so_far = λ ms more after h. subst (λ ps. Serves told taken_out retargeted uid limit before ps 0 ms more after) none h;
   }
 
+  -- what was served so far, and then a mail, and then what is served behind that
+  served_so_far : (uid limit : ℕ) (before : Knowledge) (mailbox : V) (pass : Knowledge) (parked : List (Ask P S Told)) (last : ℕ) (now : V)
+      (h : Serving uid limit before mailbox pass parked last now) (mail : Mail P S Told) (happened more : List (Event (Mail P S Told) S Answered)) (ms : List (Mail P S Told)) (after : Knowledge)
+      → Serves told taken_out retargeted uid limit pass parked last (mail ∷ ms) (happened ++ more) after
+      → Serves told taken_out retargeted uid limit before [] 0 ((h.mails ++ mail ∷ []) ++ ms) ((h.events ++ happened) ++ more) after
+  served_so_far uid limit before mailbox pass parked last now h mail happened more ms after s =
+      subst (λ es. Serves told taken_out retargeted uid limit before [] 0 ((h.mails ++ mail ∷ []) ++ ms) es after) (sym (append_assoc h.events happened more))
+      (subst (λ all. Serves told taken_out retargeted uid limit before [] 0 all (h.events ++ (happened ++ more)) after) (sym (append_assoc h.mails (mail ∷ []) ms))
+      (h.so_far (mail ∷ ms) (happened ++ more) after s))
+
   -- one mail more that does not end it
-  pub serving_goes : (limit : ℕ) (before : Knowledge) (mailbox : V) (pass : Knowledge) (parked : List (Ask P S Told)) (last : ℕ) (now : V)
-      (mail : Mail P S Told) (at : ℕ) (first second : List (S × Answered)) (wait left : List (Ask P S Told)) (between : Knowledge) (fetched taken next : V)
-      → Serving limit before mailbox pass parked last now
+  pub serving_goes : (uid limit : ℕ) (before : Knowledge) (mailbox : V) (pass : Knowledge) (parked : List (Ask P S Told)) (last : ℕ) (now : V)
+      (mail : Mail P S Told) (at : ℕ) (first second : List (Event (Mail P S Told) S Answered)) (wait left : List (Ask P S Told)) (between : Knowledge) (fetched taken next : V)
+      → Serving uid limit before mailbox pass parked last now
       → brings now mail fetched
-      → TakesIn mail parked first wait (Some at) → GivesAll gives fetched first taken
-      → Goes told limit at pass wait second between left → GivesAll gives taken second next
-      → Serving limit before mailbox between left at next
-  serving_goes limit before mailbox pass parked last now (mails.Ask r) at first second wait left between fetched taken next h brought takes adds goes more_adds =
-      let moment : r.moment ≡ at = some_same takes.0 in
-      let happened : List (Event (Mail P S Told) S Answered) = Event.Brought (mails.Ask r) ∷ gaves (first ++ second) in
+      → TakesIn taken_out retargeted uid mail last parked first wait at false → GoesThrough brings is_over gives was_left fetched first taken
+      → Goes told taken_out retargeted limit at pass wait second between left → GoesThrough brings is_over gives was_left taken second next
+      → Serving uid limit before mailbox between left at next
+  serving_goes uid limit before mailbox pass parked last now mail at first second wait left between fetched taken next h brought takes adds goes more_adds =
+      let happened : List (Event (Mail P S Told) S Answered) = Event.Brought mail ∷ (first ++ second) in
       record {
-        mails = h.mails ++ mails.Ask r ∷ [];
+        mails = h.mails ++ mail ∷ [];
         events = h.events ++ happened;
-        goes = through_both brings is_over gives mailbox now next h.events happened h.goes
-            (fetched, brought, through_gives brings is_over gives fetched next (first ++ second) (gives_both gives fetched taken next first second adds more_adds));
-        so_far = λ ms more after m.
-            subst (λ es. Serves told limit before [] 0 ((h.mails ++ mails.Ask r ∷ []) ++ ms) es after) (sym (append_assoc h.events happened more))
-            (subst (λ all. Serves told limit before [] 0 all (h.events ++ (happened ++ more)) after) (sym (append_assoc h.mails (mails.Ask r ∷ []) ms))
-            (h.so_far (mails.Ask r ∷ ms) (happened ++ more) after (
-              first,
-              second,
-              more,
-              between,
-              wait,
-              left,
-              refl,
-              takes.1,
-              subst (λ t. Goes told limit t pass wait second between left) (sym moment) goes,
-              subst (λ t. Serves told limit between left t ms more after) (sym moment) m,
-            )));
+        goes = through_both brings is_over gives was_left mailbox now next h.events happened h.goes
+            (fetched, brought, through_both brings is_over gives was_left fetched taken next first second adds more_adds);
+        so_far = λ ms more after m. served_so_far uid limit before mailbox pass parked last now h mail happened more ms after (
+          first,
+          second ++ more,
+          wait,
+          at,
+          false,
+          takes,
+          ap (λ es. Event.Brought mail ∷ es) (append_assoc first second more),
+          (second, more, between, left, goes, refl, m),
+        );
       }
-  serving_goes limit before mailbox pass parked last now (mails.Tick t) at first second wait left between fetched taken next h brought takes adds goes more_adds =
-      let moment : t ≡ at = some_same takes.0 in
-      let happened : List (Event (Mail P S Told) S Answered) = Event.Brought (mails.Tick t) ∷ gaves second in
-      let nothing : taken ≡ fetched = subst (λ g. GivesAll gives fetched g taken) takes.1 adds in
-      record {
-        mails = h.mails ++ mails.Tick t ∷ [];
-        events = h.events ++ happened;
-        goes = through_both brings is_over gives mailbox now next h.events happened h.goes
-            (fetched, brought, through_gives brings is_over gives fetched next second (subst (λ v. GivesAll gives v second next) nothing more_adds));
-        so_far = λ ms more after m.
-            subst (λ es. Serves told limit before [] 0 ((h.mails ++ mails.Tick t ∷ []) ++ ms) es after) (sym (append_assoc h.events happened more))
-            (subst (λ all. Serves told limit before [] 0 all (h.events ++ (happened ++ more)) after) (sym (append_assoc h.mails (mails.Tick t ∷ []) ms))
-            (h.so_far (mails.Tick t ∷ ms) (happened ++ more) after (
-              second,
-              more,
-              between,
-              left,
-              refl,
-              subst (λ t. Goes told limit t pass parked second between left) (sym moment) (subst (λ ps. Goes told limit at pass ps second between left) takes.2 goes),
-              subst (λ t. Serves told limit between left t ms more after) (sym moment) m,
-            )));
-      }
-  serving_goes limit before mailbox pass parked last now mails.End at first second wait left between fetched taken next h brought takes adds goes more_adds =
-      absurd (none_some takes.0)
 
   -- it ends, where no mail will come any more
-  pub serving_ends : (limit : ℕ) (before : Knowledge) (mailbox : V) (pass : Knowledge) (parked : List (Ask P S Told)) (last : ℕ) (now : V)
-      (given : List (S × Answered)) (after : Knowledge) (ended next : V)
-      → Serving limit before mailbox pass parked last now
-      → is_over now ended → Ends told last pass parked given after → GivesAll gives ended given next
-      → (ms : List (Mail P S Told)) × (events : List (Event (Mail P S Told) S Answered)) × Serves told limit before [] 0 ms events after
-      × GoesThrough brings is_over gives mailbox events next
-  serving_ends limit before mailbox pass parked last now given after ended next h over ends adds = (
+  pub serving_ends : (uid limit : ℕ) (before : Knowledge) (mailbox : V) (pass : Knowledge) (parked : List (Ask P S Told)) (last : ℕ) (now : V)
+      (happened : List (Event (Mail P S Told) S Answered)) (after : Knowledge) (ended next : V)
+      → Serving uid limit before mailbox pass parked last now
+      → is_over now ended → Ends told taken_out retargeted last pass parked happened after → GoesThrough brings is_over gives was_left ended happened next
+      → (ms : List (Mail P S Told)) × (events : List (Event (Mail P S Told) S Answered)) × Serves told taken_out retargeted uid limit before [] 0 ms events after
+      × GoesThrough brings is_over gives was_left mailbox events next
+  serving_ends uid limit before mailbox pass parked last now happened after ended next h over ends goes = (
     h.mails ++ [],
-    h.events ++ Event.Over ∷ gaves given,
-    h.so_far [] (Event.Over ∷ gaves given) after (given, refl, ends),
-    through_both brings is_over gives mailbox now next h.events (Event.Over ∷ gaves given) h.goes (ended, over, through_gives brings is_over gives ended next given adds),
+    h.events ++ Event.Over ∷ happened,
+    h.so_far [] (Event.Over ∷ happened) after (happened, refl, ends),
+    through_both brings is_over gives was_left mailbox now next h.events (Event.Over ∷ happened) h.goes (ended, over, goes),
   )
 
-  -- it ends, where a mail says so
-  pub serving_is_ended : (limit : ℕ) (before : Knowledge) (mailbox : V) (pass : Knowledge) (parked : List (Ask P S Told)) (last : ℕ) (now : V)
-      (mail : Mail P S Told) (first given : List (S × Answered)) (left : List (Ask P S Told)) (after : Knowledge) (fetched taken next : V)
-      → Serving limit before mailbox pass parked last now
+  -- it ends, where a mail says so, or the queue was closed
+  pub serving_is_ended : (uid limit : ℕ) (before : Knowledge) (mailbox : V) (pass : Knowledge) (parked : List (Ask P S Told)) (last : ℕ) (now : V)
+      (mail : Mail P S Told) (at : ℕ) (first rest : List (Event (Mail P S Told) S Answered)) (wait : List (Ask P S Told)) (after : Knowledge) (fetched taken next : V)
+      → Serving uid limit before mailbox pass parked last now
       → brings now mail fetched
-      → TakesIn mail parked first left None → GivesAll gives fetched first taken
-      → Ends told last pass left given after → GivesAll gives taken given next
-      → (ms : List (Mail P S Told)) × (events : List (Event (Mail P S Told) S Answered)) × Serves told limit before [] 0 ms events after
-      × GoesThrough brings is_over gives mailbox events next
-  serving_is_ended limit before mailbox pass parked last now (mails.Ask r) first given left after fetched taken next h brought takes adds ends more_adds = absurd (some_none takes.0)
-  serving_is_ended limit before mailbox pass parked last now (mails.Tick t) first given left after fetched taken next h brought takes adds ends more_adds = absurd (some_none takes.0)
-  serving_is_ended limit before mailbox pass parked last now mails.End first given left after fetched taken next h brought takes adds ends more_adds =
-      let happened : List (Event (Mail P S Told) S Answered) = Event.Brought mails.End ∷ gaves given in
-      let nothing : taken ≡ fetched = subst (λ g. GivesAll gives fetched g taken) takes.1 adds in (
-        h.mails ++ mails.End ∷ [],
+      → TakesIn taken_out retargeted uid mail last parked first wait at true → GoesThrough brings is_over gives was_left fetched first taken
+      → Ends told taken_out retargeted at pass wait rest after → GoesThrough brings is_over gives was_left taken rest next
+      → (ms : List (Mail P S Told)) × (events : List (Event (Mail P S Told) S Answered)) × Serves told taken_out retargeted uid limit before [] 0 ms events after
+      × GoesThrough brings is_over gives was_left mailbox events next
+  serving_is_ended uid limit before mailbox pass parked last now mail at first rest wait after fetched taken next h brought takes adds ends more_adds =
+      let happened : List (Event (Mail P S Told) S Answered) = Event.Brought mail ∷ (first ++ rest) in (
+        h.mails ++ mail ∷ [],
         h.events ++ happened,
-        h.so_far (mails.End ∷ []) happened after (refl, (given, refl, subst (λ ps. Ends told last pass ps given after) takes.2 ends)),
-        through_both brings is_over gives mailbox now next h.events happened h.goes
-            (fetched, brought, through_gives brings is_over gives fetched next given (subst (λ v. GivesAll gives v given next) nothing more_adds)),
+        h.so_far (mail ∷ []) happened after (first, rest, wait, at, true, takes, refl, (refl, ends)),
+        through_both brings is_over gives was_left mailbox now next h.events happened h.goes
+            (fetched, brought, through_both brings is_over gives was_left fetched taken next first rest adds more_adds),
       )

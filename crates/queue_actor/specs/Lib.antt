@@ -3,3 +3,4 @@ pub mod Asking
 pub mod Course
 pub mod Calling
 pub mod Serving
+pub mod Waiting

@@ -1,9 +1,13 @@
 -- What an actor does with its mail: which asks it answers at once, which polls wait, how long, and what each is answered.
-use Rattle.std.specs.Prelude.{◌≡◌, ◌⊎◌, ℕ, ◌&&◌, nat_lt, Bool, true, false, MatchBool, Option, Some, None, List, [], ◌∷◌, ◌++◌}
+use Rattle.std.specs.Prelude.{◌≡◌, ◌⊎◌, ℕ, ◌&&◌, nat_lt, Bool, true, false, MatchBool, Option, Some, None, IfSome, Result, Ok, Err, List, [], ◌∷◌, ◌++◌, option_map}
 use Rattle.std.specs.Arc.{arc_value}
+use Rattle.message.specs.declared.fault.Fault.{Fault}
+use Rattle.message.specs.declared.fault.Fault.TheVariants.{QueueDoesNotExist}
+use Rattle.queue_config.specs.Settings.{requested_target}
 use Rattle.queue_core.specs.declared.command.Command.{Command}
 use Rattle.queue_core.specs.declared.command.Command.TheVariants as commands
 use Rattle.queue_core.specs.declared.parcel.Parcel.{Parcel}
+use Rattle.queue_core.specs.declared.reply.Reply.{Reply}
 use Rattle.desk.specs.Views.{Knowledge, IsKnown}
 use Rattle.queue_actor.specs.declared.mail.Ask.{Ask}
 use Rattle.queue_actor.specs.declared.mail.Mail.{Mail}
@@ -11,12 +15,28 @@ use Rattle.queue_actor.specs.declared.mail.Mail.TheVariants as mails
 use Rattle.queue_actor.specs.declared.parcels.Delivery.{Delivery}
 use Rattle.queue_actor.specs.Answered.{Answered}
 use Rattle.queue_actor.specs.Calling.{HasAsked, KeepsWaiting, HasMoved}
-use Rattle.queue_actor.specs.Course.{Event, gaves, brought_in, given_in}
+use Rattle.queue_actor.specs.Course.{Event, brought_in, given_in, HasOver}
 
 -- whether a command is a receive
 abbrev pub is_receive : Command → Bool
 is_receive (commands.Receive maximum timeout) = true
 is_receive _ = false
+
+-- whether a reply to a command says that its queue is closed, now or from before
+abbrev pub has_closed : Command → Result Reply Fault → Bool
+has_closed commands.Close (Ok reply) = true
+has_closed commands.Close (Err QueueDoesNotExist) = true
+has_closed _ _ = false
+
+-- the target that an accepted command gives its queue, 0 for none, where it asks for one or clears it
+abbrev pub new_target : Command → Result Reply Fault → Option ℕ
+new_target (commands.Set wish target) (Ok reply) = option_map (λ _. target) (requested_target wish)
+new_target _ _ = None
+
+-- what is known of the directory behind an accepted command for the queue of a uid: that of a closed queue was taken out, and one that has another target has it there
+abbrev pub Enters : (ℕ → Type 0) → (ℕ → ℕ → Type 0) → ℕ → Command → Result Reply Fault → Type 0
+Enters taken_out retargeted uid command reply =
+    MatchBool (has_closed command reply) (taken_out uid) (IfSome (new_target command reply) (λ target. retargeted uid target))
 
 module _ {P S Told : Type 0} where
   -- a receive that has time to wait when it comes
@@ -28,61 +48,85 @@ module _ {P S Told : Type 0} where
   IsAnswerAt at r answer =
       (answer.desk ≡ arc_value r.desk) × (answer.command ≡ r.command) × HasAsked r.pass at r.command answer.reply answer.pass × IsKnown answer.pass
 
-  -- the answers to asks that were all asked at a moment, in order
-  abbrev pub AreAnswersAt : ℕ → List (Ask P S Told) → List (S × Answered) → Type 0
-  AreAnswersAt at [] given = given ≡ []
-  AreAnswersAt at (r ∷ rs) given =
-      (answer : Answered) × (rest : List (S × Answered)) × IsAnswerAt at r answer × (given ≡ (r.reply, answer) ∷ rest) × AreAnswersAt at rs rest
+  -- an ask is answered at a moment
+  abbrev pub IsAnsweredAt : ℕ → Ask P S Told → List (Event (Mail P S Told) S Answered) → Type 0
+  IsAnsweredAt at r happened = (answer : Answered) × IsAnswerAt at r answer × (happened ≡ Event.Gave r.reply answer ∷ [])
 
-  -- the polls that wait are looked at one after another at a moment, in the order in which they came: each goes on waiting, or is asked
-  abbrev pub LooksOver : ℕ → ℕ → Bool → Knowledge → List (Ask P S Told) → List (S × Answered) → Knowledge → List (Ask P S Told) → Type 0
-  LooksOver limit at quiet before [] given after left = (given ≡ []) × (after ≡ before) × (left ≡ [])
-  LooksOver limit at quiet before (r ∷ rs) given after left =
-      ((between : Knowledge) × (others : List (Ask P S Told)) × KeepsWaiting limit at quiet r.wait_until true before between
-      × (left ≡ r ∷ others) × LooksOver limit at true between rs given after others)
-      ⊎ ((between : Knowledge) × (answer : Answered) × (rest : List (S × Answered)) × KeepsWaiting limit at quiet r.wait_until false before between
-      × IsAnswerAt at r answer × (given ≡ (r.reply, answer) ∷ rest) × LooksOver limit at false between rs rest after left)
+  -- the same, or it is found that nobody waits for its answer any more: then nothing is asked
+  abbrev pub IsServedAt : ℕ → Ask P S Told → List (Event (Mail P S Told) S Answered) → Type 0
+  IsServedAt at r happened = (happened ≡ Event.Left r.reply ∷ []) ⊎ IsAnsweredAt at r happened
 
-  -- an ask that comes waits behind the other polls, or is answered at its moment
-  abbrev pub Admits : Ask P S Told → List (Ask P S Told) → List (S × Answered) → List (Ask P S Told) → Type 0
-  Admits r parked given left =
-      MatchBool (may_wait r) ((given ≡ []) × (left ≡ parked ++ r ∷ []))
-      ((left ≡ parked) × ((answer : Answered) × IsAnswerAt r.moment r answer × (given ≡ (r.reply, answer) ∷ [])))
+  -- the same of polls that wait, at the end, in order
+  abbrev pub AreServedAt : ℕ → List (Ask P S Told) → List (Event (Mail P S Told) S Answered) → Type 0
+  AreServedAt at [] happened = happened ≡ []
+  AreServedAt at (r ∷ rs) happened =
+      (first rest : List (Event (Mail P S Told) S Answered)) × IsServedAt at r first × (happened ≡ first ++ rest) × AreServedAt at rs rest
 
-  -- A mail is taken in: an ask waits or is answered. It comes at a moment, but for the last one
-  abbrev pub TakesIn : Mail P S Told → List (Ask P S Told) → List (S × Answered) → List (Ask P S Told) → Option ℕ → Type 0
-  TakesIn (mails.Ask r) parked given left at = (Some r.moment ≡ at) × Admits r parked given left
-  TakesIn (mails.Tick t) parked given left at = (Some t ≡ at) × (given ≡ []) × (left ≡ parked)
-  TakesIn mails.End parked given left at = (None ≡ at) × (given ≡ []) × (left ≡ parked)
+  -- A poll that waits is looked at, at a moment, and it is told whether it goes on waiting: it does not where nobody waits for its answer any more, and where it is asked
+  abbrev pub LooksAt : ℕ → ℕ → Bool → Knowledge → Ask P S Told → List (Event (Mail P S Told) S Answered) → Bool → Knowledge → Type 0
+  LooksAt limit at quiet before r happened true after = (happened ≡ []) × KeepsWaiting limit at quiet r.wait_until true before after
+  LooksAt limit at quiet before r happened false after =
+      ((happened ≡ Event.Left r.reply ∷ []) × (after ≡ before))
+      ⊎ (KeepsWaiting limit at quiet r.wait_until false before after × IsAnsweredAt at r happened)
+
+  -- one that goes on waiting, before others
+  abbrev pub with_kept : Bool → Ask P S Told → List (Ask P S Told) → List (Ask P S Told)
+  with_kept true r others = r ∷ others
+  with_kept false r others = others
+
+  -- the polls that wait are looked at one after another at a moment, in the order in which they came
+  abbrev pub LooksOver : ℕ → ℕ → Bool → Knowledge → List (Ask P S Told) → List (Event (Mail P S Told) S Answered) → Knowledge → List (Ask P S Told) → Type 0
+  LooksOver limit at quiet before [] happened after left = (happened ≡ []) × (after ≡ before) × (left ≡ [])
+  LooksOver limit at quiet before (r ∷ rs) happened after left =
+      (kept : Bool) × (first rest : List (Event (Mail P S Told) S Answered)) × (between : Knowledge) × (others : List (Ask P S Told))
+      × LooksAt limit at quiet before r first kept between × (happened ≡ first ++ rest) × (left ≡ with_kept kept r others)
+      × LooksOver limit at kept between rs rest after others
+
+  -- an ask that comes waits behind the other polls, or is answered at its moment; a receive only where somebody waits for its answer
+  abbrev pub Admits : Ask P S Told → List (Ask P S Told) → List (Event (Mail P S Told) S Answered) → List (Ask P S Told) → Type 0
+  Admits r parked happened left =
+      MatchBool (may_wait r) ((happened ≡ []) × (left ≡ parked ++ r ∷ []))
+      ((left ≡ parked) × MatchBool (is_receive r.command) (IsServedAt r.moment r happened) (IsAnsweredAt r.moment r happened))
+
+-- what is known of the directory once a queue was taken out of it, and once one was given another target
+module _ {P S Told : Type 0} (taken_out : ℕ → Type 0) (retargeted : ℕ → ℕ → Type 0) where
+  -- whether the actor of the queue of a uid ends behind what happened to an ask that came, and what is known of the directory then
+  abbrev pub Leads : ℕ → List (Event (Mail P S Told) S Answered) → Bool → Type 0
+  Leads uid (Event.Gave slot answer ∷ []) ends =
+      (ends ≡ has_closed answer.command answer.reply) × Enters taken_out retargeted uid answer.command answer.reply
+  Leads uid happened ends = ends ≡ false
+
+  -- A mail is taken in: an ask waits or is answered. The moment of the last mail is this one's, where it has one; and it is told whether the actor ends
+  abbrev pub TakesIn : ℕ → Mail P S Told → ℕ → List (Ask P S Told) → List (Event (Mail P S Told) S Answered) → List (Ask P S Told) → ℕ → Bool → Type 0
+  TakesIn uid (mails.Ask r) last parked happened left at ends = (at ≡ r.moment) × Admits r parked happened left × Leads uid happened ends
+  TakesIn uid (mails.Tick t) last parked happened left at ends = (at ≡ t) × (happened ≡ []) × (left ≡ parked) × (ends ≡ false)
+  TakesIn uid mails.End last parked happened left at ends = (at ≡ last) × (happened ≡ []) × (left ≡ parked) × (ends ≡ true)
 
 -- what deliveries of dead letters tell
-module _ {P S Told T : Type 0} (told : ℕ → Parcel → Delivery T → Type 0) where
+module _ {P S Told T : Type 0} (told : ℕ → Parcel → Delivery T → Type 0) (taken_out : ℕ → Type 0) (retargeted : ℕ → ℕ → Type 0) where
   -- what the actor does at the moment of each mail: it looks over the polls that wait, and moves its parcels
-  abbrev pub Goes : ℕ → ℕ → Knowledge → List (Ask P S Told) → List (S × Answered) → Knowledge → List (Ask P S Told) → Type 0
-  Goes limit at before parked given after left =
-      (between : Knowledge) × LooksOver limit at false before parked given between left × HasMoved told at between after
+  abbrev pub Goes : ℕ → ℕ → Knowledge → List (Ask P S Told) → List (Event (Mail P S Told) S Answered) → Knowledge → List (Ask P S Told) → Type 0
+  Goes limit at before parked happened after left =
+      (between : Knowledge) × LooksOver limit at false before parked happened between left × HasMoved told at between after
 
   -- at the end each poll that waits is asked, at the moment of the last mail
-  abbrev pub Ends : ℕ → Knowledge → List (Ask P S Told) → List (S × Answered) → Knowledge → Type 0
-  Ends last before parked given after = AreAnswersAt last parked given × HasMoved told last before after
+  abbrev pub Ends : ℕ → Knowledge → List (Ask P S Told) → List (Event (Mail P S Told) S Answered) → Knowledge → Type 0
+  Ends last before parked happened after = AreServedAt last parked happened × HasMoved told last before after
 
-  -- what an actor does with mails that come one after another, where these polls wait and the last mail came at a moment: all that happens at its mailbox, in order
-  abbrev pub Serves : ℕ → Knowledge → List (Ask P S Told) → ℕ → List (Mail P S Told) → List (Event (Mail P S Told) S Answered) → Knowledge → Type 0
-  Serves limit before parked last [] events after =
-      (given : List (S × Answered)) × (events ≡ Event.Over ∷ gaves given) × Ends last before parked given after
-  Serves limit before parked last (mails.End ∷ ms) events after =
-      (ms ≡ []) × ((given : List (S × Answered)) × (events ≡ Event.Brought mails.End ∷ gaves given) × Ends last before parked given after)
-  Serves limit before parked last (mails.Tick at ∷ ms) events after =
-      (given : List (S × Answered)) × (rest : List (Event (Mail P S Told) S Answered)) × (between : Knowledge) × (left : List (Ask P S Told))
-      × (events ≡ Event.Brought (mails.Tick at) ∷ (gaves given ++ rest)) × Goes limit at before parked given between left × Serves limit between left at ms rest after
-  Serves limit before parked last (mails.Ask r ∷ ms) events after =
-      (first second : List (S × Answered)) × (rest : List (Event (Mail P S Told) S Answered)) × (between : Knowledge) × (wait left : List (Ask P S Told))
-      × (events ≡ Event.Brought (mails.Ask r) ∷ (gaves (first ++ second) ++ rest)) × Admits r parked first wait
-      × Goes limit r.moment before wait second between left × Serves limit between left r.moment ms rest after
+  -- What the actor of the queue of a uid does with mails that come one after another, where these polls wait and the last mail came at a moment: all that happens at
+  -- its mailbox, in order. It ends where no mail will come any more, at the mail that says so, and behind a Close that was accepted.
+  abbrev pub Serves : ℕ → ℕ → Knowledge → List (Ask P S Told) → ℕ → List (Mail P S Told) → List (Event (Mail P S Told) S Answered) → Knowledge → Type 0
+  Serves uid limit before parked last [] events after =
+      (happened : List (Event (Mail P S Told) S Answered)) × (events ≡ Event.Over ∷ happened) × Ends last before parked happened after
+  Serves uid limit before parked last (m ∷ ms) events after =
+      (first rest : List (Event (Mail P S Told) S Answered)) × (wait : List (Ask P S Told)) × (at : ℕ) × (ends : Bool)
+      × TakesIn taken_out retargeted uid m last parked first wait at ends × (events ≡ Event.Brought m ∷ (first ++ rest))
+      × MatchBool ends ((ms ≡ []) × Ends at before wait rest after)
+      ((second more : List (Event (Mail P S Told) S Answered)) × (between : Knowledge) × (left : List (Ask P S Told))
+      × Goes limit at before wait second between left × (rest ≡ second ++ more) × Serves uid limit between left at ms more after)
 
-  -- mails that came one after another from the front of these, until one was the end or none was left, and all the answers that were given: those of a mailbox in memory
-  abbrev pub AllServed : ℕ → Knowledge → List (Mail P S Told) → List (S × Answered) → Knowledge → Type 0
-  AllServed limit before all given after =
-      (served left : List (Mail P S Told)) × (events : List (Event (Mail P S Told) S Answered)) × Serves limit before [] 0 served events after
-      × (all ≡ brought_in events ++ left) × (given ≡ given_in events)
-      × ((left ≡ []) ⊎ ((front : List (Mail P S Told)) × (served ≡ front ++ mails.End ∷ [])))
+  -- mails that came one after another from the front of these, until the actor ended, which it does where none is left, and all the answers that were given: those of a mailbox in memory
+  abbrev pub AllServed : ℕ → ℕ → Knowledge → List (Mail P S Told) → List (S × Answered) → Knowledge → Type 0
+  AllServed uid limit before all given after =
+      (served left : List (Mail P S Told)) × (events : List (Event (Mail P S Told) S Answered)) × Serves uid limit before [] 0 served events after
+      × (all ≡ brought_in events ++ left) × (given ≡ given_in events) × (HasOver events → left ≡ [])

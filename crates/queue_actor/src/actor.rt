@@ -1,19 +1,20 @@
 //! The actor of a queue: it takes the queue's mail, answers asks, and keeps polls that wait.
 
-ghost use Rattle.std.specs.Prelude.{◌≡◌, ◌<◌, false, [], ◌∷◌, List};
+ghost use Rattle.std.specs.Prelude.{◌≡◌, ◌<◌, false, [], ◌∷◌, ◌++◌, List, is_some};
 ghost use Rattle.std.specs.Arc.{arc_value};
 ghost use Rattle.std.specs.VecDeque.{deque_len, deque_capacity};
 ghost use Rattle.desk.specs.Views.{IsKnown};
-ghost use Rattle.queue_actor.specs.Course.{Event, GoesThrough, GivesAll};
+ghost use Rattle.queue_actor.specs.Course.{Event, GoesThrough};
 ghost use Rattle.queue_actor.specs.declared.mail.Mail.{Mail};
 ghost use Rattle.queue_actor.specs.Answered.{Answered};
 ghost use Rattle.queue_actor.specs.Calling.{HasAsked, KeepsWaiting, is_quiet};
-ghost use Rattle.queue_actor.specs.Serving.{may_wait, IsAnswerAt, AreAnswersAt, LooksOver, Admits, TakesIn, Ends, Serves};
+ghost use Rattle.queue_actor.specs.Serving.{is_receive, may_wait, has_closed, Enters, IsAnswerAt, IsServedAt, AreServedAt, LooksAt, LooksOver, Admits, Leads, TakesIn, Ends, Serves};
+ghost use Rattle.queue_actor.specs.Waiting.{TakesAnswers, waiting_with, moment_with};
 
 use crate::answer::Answer;
 use crate::inbox::Inbox;
 use crate::mail::{Ask, Mail};
-use crate::parcels::Targets;
+use crate::parcels::{Targets, enter};
 use desk::{Desk, Gate, Pass, Press};
 use journal::Moment;
 use message::Fault;
@@ -24,14 +25,16 @@ use std::collections::VecDeque;
 use std::sync::{Arc, Wait};
 use std::thread;
 
-/// The actor of a queue: the queue's desk, the pass that the actor calls with, and the limits of the
-/// queue. It looks with this pass whether polls have to wait, and moves the queue's dead letters with it.
+/// The actor of a queue: the queue's desk, the pass that the actor calls with, and the uid and the limits of
+/// the queue. It looks with this pass whether polls have to wait, and moves the queue's dead letters with it.
 #[derive(Drop)]
 pub struct Actor<P: Press> {
     pub desk: Arc<Desk<P>>,
     pub pass: Pass<P>,
+    pub uid: u64,
     pub limits: Limits,
     pub ghost together: { pass.desk ≡ arc_value desk },
+    pub ghost named: { pass.start.uid ≡ uid },
     pub ghost limited: { pass.start.limits ≡ limits },
 }
 
@@ -39,14 +42,22 @@ impl<P: Press> Actor<P>
 where
     P::Told: Drop,
 {
-    /// The actor of a desk, which calls with a pass of that desk, and knows the limits under which its
-    /// queue was opened.
-    pub fn new(desk: Arc<Desk<P>>, pass: Pass<P>, limits: Limits) -> Actor<P>
+    ghost use Rattle.std.specs.Prelude.{IfSome};
+
+    /// The actor of a desk, which calls with a pass of that desk, and knows the uid and the limits under which
+    /// its queue was opened.
+    pub fn new(desk: Arc<Desk<P>>, pass: Pass<P>, uid: u64, limits: Limits) -> Actor<P>
         requires desk { pass.desk ≡ arc_value desk }
+        requires uid { pass.start.uid ≡ uid }
         requires limits { pass.start.limits ≡ limits }
-        ensures { (result.desk ≡ desk) × (result.pass ≡ pass) × (result.limits ≡ limits) }
+        ensures { (result.desk ≡ desk) × (result.pass ≡ pass) × (result.uid ≡ uid) × (result.limits ≡ limits) }
     {
-        Actor { desk, pass, limits }
+        Actor {
+            desk,
+            pass,
+            uid,
+            limits,
+        }
     }
 
     /// Asks the actor's own desk with its own pass.
@@ -60,7 +71,6 @@ where
     ) -> Result<Reply, Fault>
         ensures call { HasAsked self.old.pass at command.now result self.new.pass }
         ensures known { IsKnown self.new.pass }
-        ensures same { self.new.limits ≡ self.old.limits }
     {
         self.desk
             .ask(rt, alloc, &mut self.pass, at, command, gate)
@@ -91,7 +101,35 @@ where
         is_quiet(&reply, limit)
     }
 
-    /// Looks over the polls that wait, in the order in which they came. Each goes on waiting, or is asked.
+    /// Looks at a poll that waits, and gives it back where it goes on waiting. One whose client waits no longer
+    /// is dropped, and nothing is asked.
+    fn look_at<S: Drop, I: Inbox<Mail<P, S>, S, Answer<P>>, R: Wait, G: Gate>(
+        &mut self,
+        rt: &R,
+        alloc: Global,
+        at: Moment,
+        limit: u32,
+        quiet: bool,
+        poll: Ask<P, S>,
+        mailbox: &mut I,
+        gate: &G,
+    ) -> Option<Ask<P, S>>
+        requires may { (given : Answered) → IsAnswerAt at poll given → I.may_give mailbox.old poll.reply given }
+        ensures looked { (happened : List (Event (Mail P S P.Told) S Answered)) × LooksAt limit at quiet self.old.pass poll happened (is_some result) self.new.pass × GoesThrough I.brings I.is_over I.gives I.was_left mailbox.old happened mailbox.new }
+        ensures same { IfSome result (λ kept. kept ≡ poll) }
+    {
+        if mailbox.is_left(&poll.reply) {
+            return None;
+        }
+        if self.keeps_waiting(rt, alloc, at, limit, quiet, poll.wait_until, gate) {
+            return Some(poll);
+        }
+        answer(rt, alloc, at, poll, mailbox, gate);
+        None
+    }
+
+    /// Looks over the polls that wait, in the order in which they came. Each goes on waiting, or is asked, or
+    /// is dropped where its client waits no longer.
     fn look_over<S: Drop, I: Inbox<Mail<P, S>, S, Answer<P>>, R: Wait, G: Gate>(
         &mut self,
         rt: &R,
@@ -102,24 +140,25 @@ where
         mailbox: &mut I,
         gate: &G,
     )
-        ensures { (given : List (S × Answered)) × LooksOver limit at false self.old.pass parked.old.items given self.new.pass parked.new.items × GivesAll I.gives mailbox.old given mailbox.new }
+        requires may { TakesAnswers I.brings I.is_over I.may_give I.gives I.was_left parked.old.items at mailbox.old }
+        ensures looked { (happened : List (Event (Mail P S P.Told) S Answered)) × LooksOver limit at false self.old.pass parked.old.items happened self.new.pass parked.new.items × GoesThrough I.brings I.is_over I.gives I.was_left mailbox.old happened mailbox.new }
+        ensures may { TakesAnswers I.brings I.is_over I.may_give I.gives I.was_left parked.new.items at mailbox.new }
     {
         let mut quiet = false;
         for _ in 0..parked.len() {
             let Some(poll) = parked.pop_front() else {
                 unreachable!()
             };
-            quiet = self.keeps_waiting(rt, alloc, at, limit, quiet, poll.wait_until, gate);
-            if quiet {
+            let kept = self.look_at(rt, alloc, at, limit, quiet, poll, mailbox, gate);
+            quiet = kept.is_some();
+            if let Some(poll) = kept {
                 parked.push_back_reserved(poll);
-            } else {
-                answer(rt, alloc, at, poll, mailbox, gate);
             }
         }
     }
 
-    /// Serves the mails of a mailbox one after another, until it is told to end or no mail will come any
-    /// more.
+    /// Serves the mails of a mailbox one after another, until it is told to end, its queue is closed, or no
+    /// mail will come any more. A mailbox has to take the answer to each ask that it brought, once.
     pub fn run<S: Drop, I: Inbox<Mail<P, S>, S, Answer<P>>, D: Targets, R: Wait, G: Gate>(
         &mut self,
         rt: &R,
@@ -128,22 +167,36 @@ where
         directory: &D,
         gate: &G,
     )
+        requires may { TakesAnswers {S = S} I.brings I.is_over I.may_give I.gives I.was_left [] 0 mailbox.old }
         ensures served { (mails : List (Mail P S P.Told)) × (events : List (Event (Mail P S P.Told) S Answered))
-            × Serves (D.was_told directory.now) self.old.limits.in_flight self.old.pass [] 0 mails events self.new.pass
-            × GoesThrough I.brings I.is_over I.gives mailbox.old events mailbox.new }
+            × Serves (D.was_told directory.now) (D.was_taken_out directory.now) (D.was_retargeted directory.now) self.old.uid self.old.limits.in_flight self.old.pass [] 0 mails events self.new.pass
+            × GoesThrough I.brings I.is_over I.gives I.was_left mailbox.old events mailbox.new }
         ensures known { IsKnown self.new.pass }
     {
+        let uid = self.uid;
         let limits = self.limits;
         let limit = limits.in_flight;
         let mut parked = VecDeque::new(alloc);
         let mut last = Moment::zero();
         for _ in rt.forever() {
+            make_room(rt, &mut parked);
             let Some(mail) = mailbox.next(rt) else {
                 return self.end(rt, alloc, last, parked, mailbox, directory, gate);
             };
-            let Some(at) = take_in(rt, alloc, mail, &mut parked, mailbox, gate) else {
-                return self.end(rt, alloc, last, parked, mailbox, directory, gate);
-            };
+            let (at, is_last) = take_in(
+                rt,
+                alloc,
+                uid,
+                mail,
+                last,
+                &mut parked,
+                mailbox,
+                directory,
+                gate,
+            );
+            if is_last {
+                return self.end(rt, alloc, at, parked, mailbox, directory, gate);
+            }
             last = at;
             self.look_over(rt, alloc, at, limit, &mut parked, mailbox, gate);
             self.move_parcels(rt, alloc, at, directory, gate);
@@ -162,7 +215,8 @@ where
         directory: &D,
         gate: &G,
     )
-        ensures served { (given : List (S × Answered)) × Ends (D.was_told directory.now) last self.old.pass parked.items given self.new.pass × GivesAll I.gives mailbox.old given mailbox.new }
+        requires may { TakesAnswers I.brings I.is_over I.may_give I.gives I.was_left parked.items last mailbox.old }
+        ensures served { (happened : List (Event (Mail P S P.Told) S Answered)) × Ends (D.was_told directory.now) (D.was_taken_out directory.now) (D.was_retargeted directory.now) last self.old.pass parked.items happened self.new.pass × GoesThrough I.brings I.is_over I.gives I.was_left mailbox.old happened mailbox.new }
         ensures known { IsKnown self.new.pass }
     {
         answer_all(rt, alloc, last, parked, mailbox, gate);
@@ -182,28 +236,33 @@ fn is_quiet(reply: &Result<Reply, Fault>, limit: u32) -> bool
     }
 }
 
+/// Whether a command is a receive.
+fn is_receive(command: &Command) -> bool
+    ensures { result ≡ is_receive command.now }
+{
+    matches!(command, Command::Receive { .. })
+}
+
 /// Whether an ask is a receive that has time to wait when it comes.
 fn may_wait<P: Press, S: Drop>(ask: &Ask<P, S>) -> bool
     ensures { result ≡ may_wait ask.now }
 {
-    match ask.command {
-        Command::Receive { .. } => ask.moment.milliseconds() < ask.wait_until.milliseconds(),
-        _ => false,
-    }
+    is_receive(&ask.command) && ask.moment.milliseconds() < ask.wait_until.milliseconds()
 }
 
-/// Asks what an ask asks, at a moment, at its own desk and with its own pass, and gives the answer.
-fn answer<P: Press, S: Drop, I: Inbox<Mail<P, S>, S, Answer<P>>, R: Wait, G: Gate>(
+/// Asks what an ask asks, at a moment, at its own desk and with its own pass. The answer stands behind its
+/// slot.
+fn asked<P: Press, S: Drop, R: Wait, G: Gate>(
     rt: &R,
     alloc: Global,
     at: Moment,
     ask: Ask<P, S>,
-    mailbox: &mut I,
     gate: &G,
-)
+) -> (S, Answer<P>)
 where
     P::Told: Drop,
-    ensures { (given : Answered) × IsAnswerAt at ask given × GivesAll I.gives mailbox.old ((ask.reply, given) ∷ []) mailbox.new }
+    ensures slot { result.0 ≡ ask.reply }
+    ensures answer { IsAnswerAt at ask result.1 }
 {
     let Ask {
         desk,
@@ -214,10 +273,47 @@ where
         reply: slot,
     } = ask;
     let reply = desk.ask(rt, alloc, &mut pass, at, &command, gate).reply;
-    mailbox.give(slot, Answer::new(desk, pass, command, reply));
+    (slot, Answer::new(desk, pass, command, reply))
 }
 
-/// Makes room for one poll more. While memory is refused it tries again: no poll is turned away.
+/// Asks what an ask asks, at a moment, and gives the answer to its slot.
+fn answer<P: Press, S: Drop, I: Inbox<Mail<P, S>, S, Answer<P>>, R: Wait, G: Gate>(
+    rt: &R,
+    alloc: Global,
+    at: Moment,
+    ask: Ask<P, S>,
+    mailbox: &mut I,
+    gate: &G,
+)
+where
+    P::Told: Drop,
+    requires may { (given : Answered) → IsAnswerAt at ask given → I.may_give mailbox.old ask.reply given }
+    ensures { (given : Answered) × IsAnswerAt at ask given × I.gives mailbox.old ask.reply given mailbox.new }
+{
+    let (slot, answer) = asked(rt, alloc, at, ask, gate);
+    mailbox.give(slot, answer);
+}
+
+/// The same, unless nobody waits for the answer any more: then nothing is asked.
+fn answer_awaited<P: Press, S: Drop, I: Inbox<Mail<P, S>, S, Answer<P>>, R: Wait, G: Gate>(
+    rt: &R,
+    alloc: Global,
+    at: Moment,
+    ask: Ask<P, S>,
+    mailbox: &mut I,
+    gate: &G,
+)
+where
+    P::Told: Drop,
+    requires may { (given : Answered) → IsAnswerAt at ask given → I.may_give mailbox.old ask.reply given }
+    ensures { (happened : List (Event (Mail P S P.Told) S Answered)) × IsServedAt at ask happened × GoesThrough I.brings I.is_over I.gives I.was_left mailbox.old happened mailbox.new }
+{
+    if !mailbox.is_left(&ask.reply) {
+        answer(rt, alloc, at, ask, mailbox, gate);
+    }
+}
+
+/// Makes room for one poll more. While memory is refused it tries again, and no mail is taken.
 fn make_room<T, R: Wait>(rt: &R, parked: &mut VecDeque<T>)
     ensures same { parked.new.items ≡ parked.old.items }
     ensures room { deque_len parked.new < deque_capacity parked.new }
@@ -231,48 +327,91 @@ fn make_room<T, R: Wait>(rt: &R, parked: &mut VecDeque<T>)
     unreachable!()
 }
 
-/// An ask that may wait is kept behind the polls that wait. Every other is answered at its moment.
-fn admit<P: Press, S: Drop, I: Inbox<Mail<P, S>, S, Answer<P>>, R: Wait, G: Gate>(
+/// Answers an ask at its moment. What the command changes in the directory is entered there before its
+/// answer is given. It is told whether the queue is closed.
+fn answer_now<P: Press, S: Drop, I: Inbox<Mail<P, S>, S, Answer<P>>, D: Targets, R: Wait, G: Gate>(
     rt: &R,
     alloc: Global,
+    uid: u64,
+    ask: Ask<P, S>,
+    mailbox: &mut I,
+    directory: &D,
+    gate: &G,
+) -> bool
+where
+    P::Told: Drop,
+    requires may { (given : Answered) → IsAnswerAt ask.moment ask given → I.may_give mailbox.old ask.reply given }
+    ensures { (given : Answered) × IsAnswerAt ask.moment ask given
+        × (result ≡ has_closed given.command given.reply) × Enters (D.was_taken_out directory.now) (D.was_retargeted directory.now) uid given.command given.reply
+        × I.gives mailbox.old ask.reply given mailbox.new }
+{
+    let (slot, answer) = asked(rt, alloc, ask.moment, ask, gate);
+    let is_closed = enter(rt, directory, uid, answer.command(), answer.reply());
+    mailbox.give(slot, answer);
+    is_closed
+}
+
+/// An ask that may wait is kept behind the polls that wait. Every other is answered at its moment, unless it
+/// is a receive whose client waits no longer. It is told whether the queue is closed.
+fn admit<P: Press, S: Drop, I: Inbox<Mail<P, S>, S, Answer<P>>, D: Targets, R: Wait, G: Gate>(
+    rt: &R,
+    alloc: Global,
+    uid: u64,
     ask: Ask<P, S>,
     parked: &mut VecDeque<Ask<P, S>>,
     mailbox: &mut I,
+    directory: &D,
     gate: &G,
-)
+) -> bool
 where
     P::Told: Drop,
-    ensures { (given : List (S × Answered)) × Admits ask parked.old.items given parked.new.items × GivesAll I.gives mailbox.old given mailbox.new }
+    requires room { deque_len parked.old < deque_capacity parked.old }
+    requires may { TakesAnswers I.brings I.is_over I.may_give I.gives I.was_left (parked.old.items ++ ask ∷ []) ask.moment mailbox.old }
+    ensures admitted { (happened : List (Event (Mail P S P.Told) S Answered)) × Admits ask parked.old.items happened parked.new.items
+        × Leads (D.was_taken_out directory.now) (D.was_retargeted directory.now) uid happened result
+        × GoesThrough I.brings I.is_over I.gives I.was_left mailbox.old happened mailbox.new }
+    ensures may { TakesAnswers I.brings I.is_over I.may_give I.gives I.was_left parked.new.items ask.moment mailbox.new }
 {
     if may_wait(&ask) {
-        make_room(rt, parked);
         parked.push_back_reserved(ask);
-    } else {
-        answer(rt, alloc, ask.moment, ask, mailbox, gate);
+        return false;
     }
+    if is_receive(&ask.command) && mailbox.is_left(&ask.reply) {
+        return false;
+    }
+    answer_now(rt, alloc, uid, ask, mailbox, directory, gate)
 }
 
-/// Takes a mail in: an ask waits or is answered. The answer is the mail's moment; the last mail has none.
-fn take_in<P: Press, S: Drop, I: Inbox<Mail<P, S>, S, Answer<P>>, R: Wait, G: Gate>(
+/// Takes a mail in: an ask waits or is answered. It is told which moment the last mail had, and whether the
+/// actor ends.
+fn take_in<P: Press, S: Drop, I: Inbox<Mail<P, S>, S, Answer<P>>, D: Targets, R: Wait, G: Gate>(
     rt: &R,
     alloc: Global,
+    uid: u64,
     mail: Mail<P, S>,
+    last: Moment,
     parked: &mut VecDeque<Ask<P, S>>,
     mailbox: &mut I,
+    directory: &D,
     gate: &G,
-) -> Option<Moment>
+) -> (Moment, bool)
 where
     P::Told: Drop,
-    ensures { (given : List (S × Answered)) × TakesIn mail parked.old.items given parked.new.items result × GivesAll I.gives mailbox.old given mailbox.new }
+    requires room { deque_len parked.old < deque_capacity parked.old }
+    requires may { TakesAnswers I.brings I.is_over I.may_give I.gives I.was_left (waiting_with parked.old.items mail) (moment_with last mail) mailbox.old }
+    ensures taken { (happened : List (Event (Mail P S P.Told) S Answered))
+        × TakesIn (D.was_taken_out directory.now) (D.was_retargeted directory.now) uid mail last parked.old.items happened parked.new.items result.0 result.1
+        × GoesThrough I.brings I.is_over I.gives I.was_left mailbox.old happened mailbox.new }
+    ensures may { TakesAnswers I.brings I.is_over I.may_give I.gives I.was_left parked.new.items result.0 mailbox.new }
 {
     match mail {
         Mail::Ask(ask) => {
             let at = ask.moment;
-            admit(rt, alloc, ask, parked, mailbox, gate);
-            Some(at)
+            let is_closed = admit(rt, alloc, uid, ask, parked, mailbox, directory, gate);
+            (at, is_closed)
         }
-        Mail::Tick(at) => Some(at),
-        Mail::End => None,
+        Mail::Tick(at) => (at, false),
+        Mail::End => (last, true),
     }
 }
 
@@ -287,9 +426,10 @@ fn answer_all<P: Press, S: Drop, I: Inbox<Mail<P, S>, S, Answer<P>>, R: Wait, G:
 )
 where
     P::Told: Drop,
-    ensures { (given : List (S × Answered)) × AreAnswersAt at parked.items given × GivesAll I.gives mailbox.old given mailbox.new }
+    requires may { TakesAnswers I.brings I.is_over I.may_give I.gives I.was_left parked.items at mailbox.old }
+    ensures { (happened : List (Event (Mail P S P.Told) S Answered)) × AreServedAt at parked.items happened × GoesThrough I.brings I.is_over I.gives I.was_left mailbox.old happened mailbox.new }
 {
     while let Some(poll) = parked.pop_front() {
-        answer(rt, alloc, at, poll, mailbox, gate);
+        answer_awaited(rt, alloc, at, poll, mailbox, gate);
     }
 }

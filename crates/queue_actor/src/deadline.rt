@@ -16,8 +16,10 @@ pub trait Beat {
     fn next(&mut self) -> Option<Moment>;
 }
 
-/// Sends each moment of a clock to every mailbox of the directory, for as long as the clock goes. An
-/// actor that has ended is left out, and so are all where memory is refused: they get the next tick.
+/// Sends each moment of a clock to every mailbox of the directory that is empty, for as long as the clock
+/// goes: where mail waits its actor is told the time by that, and ticks must not pile up before one that is
+/// slower than the clock. An actor that has ended is left out, and so are all where memory is refused: they
+/// get the next tick.
 pub fn deadline_loop<P: Press, S: Drop, B: Beat, R: Wait>(
     rt: &R,
     alloc: Global,
@@ -32,7 +34,9 @@ pub fn deadline_loop<P: Press, S: Drop, B: Beat, R: Wait>(
             continue;
         };
         for mailbox in mailboxes {
-            let _ = mailbox.send(rt, Mail::Tick(at));
+            if mailbox.is_empty() {
+                let _ = mailbox.send(rt, Mail::Tick(at));
+            }
         }
     }
     unreachable!()

@@ -1,6 +1,6 @@
 //! Where an actor's mail comes from, and where its answers go.
 
-ghost use Rattle.std.specs.Prelude.{IfSome, IfNone};
+ghost use Rattle.std.specs.Prelude.{IfSome, IfNone, MatchBool};
 
 use crossbeam_channel::Receiver;
 use futures::channel::oneshot::Sender;
@@ -15,8 +15,14 @@ pub trait Inbox<M, S, T> {
     // No mail will come any more.
     ghost is_over: { Self → Self → Type 0 };
 
+    // An answer may be given to a slot.
+    ghost may_give: { Self → S → T → Type 0 };
+
     // An answer is given to a slot.
     ghost gives: { Self → S → T → Self → Type 0 };
+
+    // Nobody waits at a slot any more.
+    ghost was_left: { Self → S → Type 0 };
 
     /// Waits for the next mail. `None` where there will be none.
     fn next<R: Wait>(&mut self, rt: &R) -> Option<M>
@@ -25,7 +31,12 @@ pub trait Inbox<M, S, T> {
 
     /// Gives an answer to a slot.
     fn give(&mut self, slot: S, answer: T)
+        requires { may_give self.old slot answer }
         ensures { gives self.old slot answer self.new };
+
+    /// Whether nobody waits for the answer to a slot any more.
+    fn is_left(&self, slot: &S) -> bool
+        ensures { MatchBool result (was_left self.now slot.now) (Unit {0}) };
 }
 
 /// Mail comes through a channel, and answers go through channels that carry one value each. An answer that
@@ -36,7 +47,11 @@ impl<M: Drop, T: Drop> Inbox<M, Sender<T>, T> for Receiver<M> {
 
     ghost is_over = { λ _ _. Unit {0} };
 
+    ghost may_give = { λ _ _ _. Unit {0} };
+
     ghost gives = { λ _ _ _ _. Unit {0} };
+
+    ghost was_left = { λ _ _. Unit {0} };
 
     fn next<R: Wait>(&mut self, rt: &R) -> Option<M> {
         self.recv(rt).ok()
@@ -44,5 +59,9 @@ impl<M: Drop, T: Drop> Inbox<M, Sender<T>, T> for Receiver<M> {
 
     fn give(&mut self, slot: Sender<T>, answer: T) {
         let _ = slot.send(answer);
+    }
+
+    fn is_left(&self, slot: &Sender<T>) -> bool {
+        slot.is_canceled()
     }
 }

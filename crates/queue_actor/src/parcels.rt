@@ -1,7 +1,9 @@
-//! Dead letters that go from the queue of one actor to another queue.
+//! What an actor does beside its queue: dead letters go to other queues, and the directory is told of a queue
+//! that is closed and of one that has another target.
 
 ghost use Rattle.std.specs.Prelude.{◌≡◌, ℕ};
 ghost use Rattle.queue_core.specs.declared.parcel.Parcel.{Parcel};
+ghost use Rattle.queue_actor.specs.Serving.{Enters, has_closed};
 ghost use Rattle.queue_actor.specs.Calling.{HasArrived, IfAccepted, is_gone, parcel_in};
 ghost use Rattle.queue_actor.specs.declared.parcels.Delivery.{Delivery};
 
@@ -26,7 +28,7 @@ pub enum Delivery<T> {
     Refused,
 }
 
-/// The queues that dead letters are for.
+/// The directory of the queues, as the actor of one of them sees it.
 pub trait Targets {
     /// What shows that a parcel was accepted.
     type Receipt: Drop;
@@ -44,6 +46,47 @@ pub trait Targets {
         gate: &G,
     ) -> Delivery<Self::Receipt>
         ensures { was_told self.now at parcel result };
+
+    // The queue of a uid was taken out.
+    ghost was_taken_out: { Self → ℕ → Type 0 };
+
+    /// Takes out the queue of a uid, which is closed.
+    fn take_out<R: Wait>(&self, rt: &R, uid: u64)
+        ensures { was_taken_out self.now uid };
+
+    // The queue of a uid was given another target.
+    ghost was_retargeted: { Self → ℕ → ℕ → Type 0 };
+
+    /// Gives the queue of a uid another target, 0 for none.
+    fn retarget<R: Wait>(&self, rt: &R, uid: u64, target: u64)
+        ensures { was_retargeted self.now uid target };
+}
+
+/// Enters what a command changes in the directory, for the queue of a uid: one that is closed is taken out, and
+/// one that has another target has it there too. It is told whether the queue is closed.
+pub(crate) fn enter<D: Targets, R: Wait>(
+    rt: &R,
+    directory: &D,
+    uid: u64,
+    command: &Command,
+    reply: &Result<Reply, Fault>,
+) -> bool
+    ensures closed { result ≡ has_closed command.now reply.now }
+    ensures entered { Enters (D.was_taken_out directory.now) (D.was_retargeted directory.now) uid command.now reply.now }
+{
+    match (command, reply) {
+        (Command::Close, Ok(_) | Err(Fault::QueueDoesNotExist)) => {
+            directory.take_out(rt, uid);
+            true
+        }
+        (Command::Set { wish, target }, Ok(_)) => {
+            if wish.target().is_some() {
+                directory.retarget(rt, uid, *target);
+            }
+            false
+        }
+        _ => false,
+    }
 }
 
 /// Whether a reply says that its queue is gone.
@@ -102,6 +145,19 @@ where
         } else {
             Delivery::Refused
         }
+    }
+
+    // What lies under the lock no contract sees.
+    ghost was_taken_out = { λ _ _. Unit {0} };
+
+    fn take_out<R: Wait>(&self, rt: &R, uid: u64) {
+        self.remove(rt, uid);
+    }
+
+    ghost was_retargeted = { λ _ _ _. Unit {0} };
+
+    fn retarget<R: Wait>(&self, rt: &R, uid: u64, target: u64) {
+        self.set_target(rt, uid, target);
     }
 }
 

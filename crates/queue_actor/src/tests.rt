@@ -1,15 +1,14 @@
-//! Asks and their answers, at desks of fresh queues. What is wanted was worked out by hand from what each
-//! command does, and never taken from the program.
+//! Actors, asks and the directory, at desks of fresh queues. What is wanted was worked out by hand from what
+//! each command does, and never taken from the program.
 
 ghost use Rattle.std.specs.Prelude.{◌≡◌, IfOk};
 ghost use Rattle.std.specs.Arc.{arc_value};
 
 mod asks;
 mod fakes;
-mod listing;
 mod memory;
-mod parcels;
-mod polls;
+mod scripts;
+mod stage;
 mod threads;
 
 use super::*;
@@ -19,7 +18,7 @@ use futures::channel::oneshot;
 use journal::Moment;
 use message::{Content, Fault, QueueName};
 use queue_config::{Limits, Settings};
-use queue_core::{Command, QueueState, Reply};
+use queue_core::{Command, Offer, QueueState, Reply};
 use std::alloc::Global;
 use std::sync::{Arc, Wait};
 use std::test::Fail;
@@ -27,6 +26,12 @@ use std::time::{Clock, Duration};
 
 /// A mail to an actor in these tests.
 type Letter = Mail<NoPress, oneshot::Sender<Answer<NoPress>>>;
+
+/// A directory whose actors answer through channels.
+type Shared = Directory<NoPress, oneshot::Sender<Answer<NoPress>>>;
+
+/// A queue that is served, as its callers have it.
+type Client = Served<NoPress, oneshot::Sender<Answer<NoPress>>>;
 
 /// A desk of a queue that was opened at 0 under a uid, to be shared, and its first pass.
 fn opened(
@@ -84,16 +89,36 @@ fn serve<R: Wait>(rt: &R, alloc: Global, letter: Letter) {
     let _gone = reply.send(Answer::new(desk, pass, command, asked.reply));
 }
 
-/// An answer as a text: the number of a message that was sent, what a look sees, or the refusal.
+/// Offers as a text: of each its number, its receipt, its body and when it was sent.
+fn told_offers(alloc: Global, offers: &[Offer]) -> Result<String, Fault> {
+    let mut text = String::from_str(alloc, "offered")?;
+    for offer in offers {
+        let one = format!(in alloc;
+            " {}.{} {} of {}",
+            offer.number,
+            offer.receipt,
+            offer.content.body(),
+            offer.sent.milliseconds()
+        )?;
+        text.push_str(one.as_str())?;
+    }
+    Ok(text)
+}
+
+/// An answer as a text: the number of a message that was sent, offers, what a look sees, that there is no
+/// parcel or that something is done, or the refusal.
 fn told(alloc: Global, reply: &Result<Reply, Fault>) -> Result<String, Fault> {
     match reply {
         Ok(Reply::Sent(posted)) => Ok(format!(in alloc; "sent {}", posted.number)?),
+        Ok(Reply::Received(offers)) => told_offers(alloc, offers.as_slice()),
         Ok(Reply::Looked(look)) => Ok(format!(in alloc;
             "{} visible, {} entries at {}",
             look.gauges.visible,
             look.lines,
             look.clock.milliseconds()
         )?),
+        Ok(Reply::Parcel(None)) => Ok(String::from_str(alloc, "no parcel")?),
+        Ok(Reply::Done) => Ok(String::from_str(alloc, "done")?),
         Ok(other) => Ok(format!(in alloc; "{other:?}")?),
         Err(fault) => Ok(format!(in alloc; "{fault:?}")?),
     }

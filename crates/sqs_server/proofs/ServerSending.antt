@@ -36,7 +36,6 @@ use Rattle.sqs_server.proofs.plan.Step.TheSendSync as step
 use Rattle.sqs_server.proofs.queues.Made.TheSendSync as made
 use Rattle.sqs_server.proofs.queues.Order.TheSendSync as order
 use Rattle.sqs_server.proofs.reply.Sent.TheSendSync as sent
-use Rattle.sqs_server.proofs.stage.Afterwards.TheSendSync as afterwards
 use Rattle.sqs_server.proofs.stage.Creation.TheSendSync as creation
 use Rattle.sqs_server.proofs.stage.Purpose.TheSendSync as purpose
 use Rattle.sqs_server.specs.contracts.answering.Answering as answering
@@ -84,10 +83,7 @@ stage_field_send =
             ),
             (
               (exchange_field_send, tt),
-              (
-                (search (mail_send, sendable, crosses) depth 40 fits 100000, (afterwards.the_field_send, tt)),
-                ((sent.the_field_send, tt), (tt, tt)),
-              ),
+              ((sent.the_field_send, tt), (tt, tt)),
             ),
           ),
         ),

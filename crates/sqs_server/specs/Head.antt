@@ -9,10 +9,14 @@ use Rattle.aws_json.specs.declared.request.Request.{Request}
 use Rattle.sqs_server.specs.declared.head.Denial.{Denial}
 use Rattle.sqs_server.specs.declared.head.Denial.TheVariants.{MethodNotAllowed, BodyTooLarge}
 
+-- how many bytes the body of a request may have
+abbrev pub body_limit : ℕ
+body_limit = 8_388_608
+
 -- why a request is not looked at, by its method and by the size of its body: the method is judged first
 abbrev pub denial_of : List ℕ → ℕ → Option Denial
 denial_of method size =
-    if bytes_eq method (codes "POST") then (if nat_lt 8_388_608 size then Some BodyTooLarge else None)
+    if bytes_eq method (codes "POST") then (if nat_lt body_limit size then Some BodyTooLarge else None)
     else Some MethodNotAllowed
 
 -- the action that bytes are, where they are a text

@@ -88,11 +88,9 @@ messages_shape uid told reply = shapes.Nothing
 abbrev pub messages_answer : ℕ → Told → Result Performed Fault → Result ReplyShape Fault
 messages_answer uid told outcome = result_map (λ p. messages_shape uid told p.reply) outcome
 
--- of an entry of a batch; only want of memory is a fault of the whole
-abbrev pub entry_answer : Result Performed Fault → Result (Result EntryReply Fault) Fault
-entry_answer (Ok p) = Ok (Ok (done_reply p.command p.reply))
-entry_answer (Err OutOfMemory) = Err OutOfMemory
-entry_answer (Err fault) = Ok (Err fault)
+-- of an entry of a batch
+abbrev pub entry_answer : Result Performed Fault → Result EntryReply Fault
+entry_answer outcome = result_map (λ p. done_reply p.command p.reply) outcome
 
 -- ---- what comes after a command that was asked of the queue of a uid
 
@@ -110,9 +108,9 @@ step_or next (Err fault) = Answer (Err fault)
 abbrev pub receive_after : ℕ → Option ℕ → Told → Result Performed Fault → Step
 receive_after maximum timeout told outcome = step_or (λ p. receive_looked maximum timeout told p.reply) outcome
 
--- the other entries of a batch
+-- the other entries of a batch, whatever became of this one
 abbrev pub after_entry : List ℕ → List BatchEntry → List BatchAnswer → Result Performed Fault → Step
-after_entry id es answers outcome = step_or (λ answer. next_entry es (answers ++ record { id = id; answer = answer } ∷ [])) (entry_answer outcome)
+after_entry id es answers outcome = next_entry es (answers ++ record { id = id; answer = entry_answer outcome } ∷ [])
 
 abbrev pub after : ℕ → Then → Result Performed Fault → Step
 after uid thens.Done outcome = Answer (done_answer outcome)

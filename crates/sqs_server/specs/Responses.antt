@@ -1,12 +1,20 @@
 -- What the future of a response gives: a request is judged by its head, its stages follow one another, and what the last one ends with is sent.
 use Rattle.std.specs.Prelude.{◌≡◌, ◌⊎◌, ⊤, ℕ, List, [], Bool, true, false, Option, Some, None, Result, Ok, Err}
+use Rattle.http.specs.Request as request
 use Rattle.http.specs.Response.{body_of, head_of}
 use Rattle.http.specs.StatusCode.{IsStatusCode}
 use Rattle.http.specs.declared.request.Parts.{Parts}
+use Rattle.http.specs.declared.request.Request.{Request}
 use Rattle.http.specs.declared.response.Response.{Response}
+use Rattle.http_body.specs.SizeHint.{exact, lower}
+use Rattle.http_body.specs.declared.size_hint.SizeHint.{SizeHint}
+use Rattle.http_body_util.specs.Collected.{IsCollectOf}
 use Rattle.http_body_util.specs.declared.full.Full.{Full}
+use Rattle.hyper.specs.Incoming.{size_left}
+use Rattle.hyper.specs.declared.body.incoming.Incoming.{Incoming}
 use Rattle.hyper.specs.declared.error.Error.{Error}
 use Rattle.message.specs.declared.fault.Fault.TheVariants.{OutOfMemory}
+use Rattle.tokio.specs.declared.net.stream.TcpStream.{TcpStream}
 use Rattle.sqs_server.specs.declared.arriving.Arriving.{Arriving}
 use Rattle.sqs_server.specs.declared.head.Denial.{Denial}
 use Rattle.sqs_server.specs.declared.reply.Sent.{Sent}
@@ -16,20 +24,24 @@ use Rattle.sqs_server.specs.declared.stage.Next.TheVariants.{On, Ends}
 use Rattle.sqs_server.specs.declared.stage.Stage.{Stage}
 use Rattle.sqs_server.specs.declared.stage.Stage.TheVariants as stages
 use Rattle.sqs_server.specs.declared.stage.Turn.TheVariants.{Goes, Waits}
-use Rattle.sqs_server.specs.Head.{denial_of}
+use Rattle.sqs_server.specs.Head.{body_limit, denial_of}
 use Rattle.sqs_server.specs.Sent.{HoldsBody, denied, refused, reply_headers}
 use Rattle.sqs_server.specs.Stages.{Turns}
 
 -- ---- how a request begins
 
--- denied by its head, or its body comes
-abbrev pub Judged : Parts → Option Denial → Stage → Type 0
-Judged head (Some denial) stage = stage ≡ stages.Sending (denied denial)
-Judged head None stage = (arriving : Arriving) × (stage ≡ stages.Collecting arriving) × (arriving.head ≡ head)
+-- denied by its head, or its body comes, under the limit
+abbrev pub Judged : Parts → Incoming TcpStream → Option Denial → Stage → Type 0
+Judged head body (Some denial) stage = stage ≡ stages.Sending (denied denial)
+Judged head body None stage =
+    (arriving : Arriving) × (stage ≡ stages.Collecting arriving) × (arriving.head ≡ head)
+    × IsCollectOf arriving.body record { remaining = body_limit; inner = body }
 
--- the same, by the method and by the least size that its body can have
-abbrev pub IsFirst : Parts → Stage → Type 0
-IsFirst head stage = (size : ℕ) × Judged head (denial_of head.method size) stage
+-- the same, by the method and by the least size that its body can have: the announced one, where there is one
+abbrev pub IsFirst : Request (Incoming TcpStream) → Stage → Type 0
+IsFirst asked stage =
+    (hint : SizeHint) × (exact hint ≡ size_left (request.body_of asked).kind)
+    × Judged (request.head_of asked) (request.body_of asked) (denial_of (request.head_of asked).method (lower hint)) stage
 
 -- ---- how it ends
 

@@ -1,22 +1,30 @@
 -- What comes of each stage of a request: what a client is told, or what is asked of which queue next, at which moment and for which purpose. Of the
 -- directory no clause says which queues it has, so one that was found is some queue; and a mailbox says nothing of what is put into it.
-use Rattle.std.specs.Prelude.{◌≡◌, ◌≢◌, ◌⊎◌, ⊤, ℕ, List, codes, Option, Some, None, Result, Ok, Err, IfOk, IfErr, MatchBool, option_map}
+use Rattle.std.specs.Prelude.{◌≡◌, ◌≢◌, ◌⊎◌, ⊤, ℕ, List, [], codes, Option, Some, None, Result, Ok, Err, IfOk, IfErr, IsSomeAnd, IsErrAnd, MatchBool, option_map}
 use Rattle.std.specs.Arc.{arc_value}
 use Rattle.aws_json.specs.Steps.{result_map}
 use Rattle.aws_json.specs.declared.reply.ReplyShape.{ReplyShape}
 use Rattle.aws_json.specs.declared.reply.ReplyShape.TheVariants as shapes
 use Rattle.aws_json.specs.declared.request.Request.{Request}
 use Rattle.desk.specs.declared.printing.NoPress.{NoPress}
-use Rattle.futures.specs.Channel.{canceled_source}
+use Rattle.futures.specs.Channel.{canceled_source, completed_source}
 use Rattle.futures.specs.declared.channel.oneshot.Receiver.{Receiver}
 use Rattle.futures.specs.declared.channel.oneshot.Sender.{Sender}
 use Rattle.http.specs.declared.request.Parts.{Parts}
+use Rattle.http_body_util.specs.Collected as gathering
 use Rattle.http_body_util.specs.Collected.{collected_bytes}
+use Rattle.http_body_util.specs.Limited.{Limits}
 use Rattle.http_body_util.specs.declared.collected.Collected.{Collected}
+use Rattle.http_body_util.specs.declared.combinators.collect.Collect.{Collect}
+use Rattle.http_body_util.specs.declared.limited.Limited.{Limited}
 use Rattle.http_body_util.specs.declared.limited.LimitedError.{LimitedError}
 use Rattle.http_body_util.specs.declared.limited.LimitedError.TheVariants as limits
 use Rattle.http_header.specs.HeaderMap.{get}
+use Rattle.hyper.specs.Error.{kind_of}
+use Rattle.hyper.specs.Incoming.{IncomingYields}
+use Rattle.hyper.specs.declared.body.incoming.Incoming.{Incoming}
 use Rattle.hyper.specs.declared.error.Error.{Error}
+use Rattle.hyper.specs.declared.error.Kind.TheVariants as kinds
 use Rattle.message.specs.Fault.{Meets}
 use Rattle.message.specs.declared.fault.Fault.{Fault}
 use Rattle.message.specs.declared.fault.Fault.TheVariants.{OutOfMemory, QueueDoesNotExist, QueueNameExists, InvalidAttributeValue, ActorGone}
@@ -24,13 +32,14 @@ use Rattle.queue_actor.specs.Answered.{Answered}
 use Rattle.queue_actor.specs.Asking.{Asking, IfSent, IfUnsent, IsAskOf, MayGive}
 use Rattle.queue_actor.specs.declared.fault.AskFault.{AskFault}
 use Rattle.queue_actor.specs.declared.mail.Ask.{Ask}
-use Rattle.queue_config.specs.Settings.{QueueSettings, RequestedAttributes, requested_target, same_settings, settings_with}
+use Rattle.queue_config.specs.Settings.{QueueSettings, RequestedAttributes, default_settings, requested_target, same_settings, settings_with}
 use Rattle.queue_core.specs.declared.command.Command.{Command}
 use Rattle.queue_core.specs.declared.command.Command.TheVariants as commands
 use Rattle.queue_core.specs.declared.reply.Reply.{Reply}
 use Rattle.queue_core.specs.declared.reply.Reply.TheVariants as replies
 use Rattle.redrive.specs.Catalog.{Directory, IsDirectory, names_listed}
 use Rattle.std.specs.Str.{bytes_eq}
+use Rattle.tokio.specs.declared.net.stream.TcpStream.{TcpStream}
 use Rattle.sqs_server.specs.declared.arriving.Arriving.{Arriving}
 use Rattle.sqs_server.specs.declared.head.Denial.TheVariants.{BodyTooLarge}
 use Rattle.sqs_server.specs.declared.plan.Performed.{Performed}
@@ -38,10 +47,9 @@ use Rattle.sqs_server.specs.declared.plan.Step.{Step}
 use Rattle.sqs_server.specs.declared.plan.Step.TheVariants as steps
 use Rattle.sqs_server.specs.declared.plan.Then.{Then}
 use Rattle.sqs_server.specs.declared.queues.Made.{Made}
+use Rattle.sqs_server.specs.declared.queues.Order.{Order}
 use Rattle.sqs_server.specs.declared.queues.Queue.{Queue}
 use Rattle.sqs_server.specs.declared.reply.Sent.{Sent}
-use Rattle.sqs_server.specs.declared.stage.Afterwards.{Afterwards}
-use Rattle.sqs_server.specs.declared.stage.Afterwards.TheVariants.{Tell, Create}
 use Rattle.sqs_server.specs.declared.stage.Creation.{Creation}
 use Rattle.sqs_server.specs.declared.stage.Exchange.{Exchange}
 use Rattle.sqs_server.specs.declared.stage.Next.{Next}
@@ -72,10 +80,11 @@ Tells answer next =
     (sent : Sent) × (next ≡ Ends (Ok sent)) × ((sent ≡ sent_for answer) ⊎ (sent ≡ refused OutOfMemory))
     × IfErr answer (λ fault. sent ≡ refused fault)
 
--- a body that did not come whole: one that is too long is denied, and where the connection failed nothing is sent
-abbrev pub sent_of_error : {E : Type 0} → LimitedError E → Result Sent E
-sent_of_error limits.LengthLimit = Ok (denied BodyTooLarge)
-sent_of_error (limits.Body error) = Err error
+-- a body that did not come whole: one that is too long is denied, want of memory is refused, and where the connection failed nothing is sent
+abbrev pub SentOfError : LimitedError Error → Result Sent Error → Type 0
+SentOfError limits.LengthLimit sent = sent ≡ Ok (denied BodyTooLarge)
+SentOfError (limits.Body error) sent =
+    ((kind_of error ≡ kinds.OutOfMemory) × (sent ≡ Ok (refused OutOfMemory))) ⊎ ((kind_of error ≢ kinds.OutOfMemory) × (sent ≡ Err error))
 
 -- ---- queues
 
@@ -98,8 +107,55 @@ abbrev pub Targets : List ℕ → RequestedAttributes → (ℕ → Type 0) → N
 Targets own wish P next =
     (found : Result ℕ Fault) × IsTarget own (requested_target wish) found × IfOk found P × IfErr found (λ fault. next ≡ refuses fault)
 
--- A command is sent to a queue at a moment, with its desk and its pass; the answer, for which it waits so many seconds at most, is for a purpose. A
--- mail that could not be put has left the pass where it was.
+-- ---- a command was answered
+
+-- one that closes a queue or gives it settings: what it changes beside the queue its actor does
+abbrev pub Changed : {T : Type 0} → Result T Fault → Next → Type 0
+Changed (Ok done) next = Tells (Ok shapes.Nothing) next
+Changed (Err fault) next = next ≡ refuses fault
+
+-- a look at a queue whose name another is to have: it is that one where it has the settings already
+abbrev pub Compared : Creation → QueueSettings → Next → Type 0
+Compared creation settings next =
+    Targets creation.name creation.wish (λ target.
+    MatchBool (same_settings (settings_with settings creation.wish target) settings)
+    (Tells (Ok (shapes.QueueUrl creation.name)) next) (next ≡ refuses QueueNameExists)) next
+
+-- the same; one that was closed is made anew
+abbrev pub Seen : Creation → Reply → Next → Type 0
+Seen creation (replies.Looked look) next =
+    MatchBool look.closed (next ≡ On (stages.Creating creation)) (Compared creation look.settings next)
+Seen creation reply next = Tells (Ok (shapes.QueueUrl creation.name)) next
+
+-- the same; one whose actor has ended is made anew
+abbrev pub Looked : Creation → Result Performed Fault → Next → Type 0
+Looked creation (Ok done) next = Seen creation done.reply next
+Looked creation (Err ActorGone) next = next ≡ On (stages.Creating creation)
+Looked creation (Err fault) next = next ≡ refuses fault
+
+-- what became of a command is for its purpose
+abbrev pub Resumes : ℕ → Option Queue → ℕ → Purpose → Result Performed Fault → Next → Type 0
+Resumes uid queue at (purposes.Plan then) outcome next =
+    (step : Step) × (next ≡ On (stages.Going uid queue at step)) × Follows then step (after uid then outcome)
+Resumes uid queue at purposes.Change outcome next = Changed outcome next
+Resumes uid queue at (purposes.Existing creation) outcome next = Looked creation outcome next
+
+-- what became of a command that was answered
+abbrev pub outcome : Command → Result Reply Fault → Result Performed Fault
+outcome command reply = result_map (λ told. record { command = command; reply = told }) reply
+
+-- It goes on with the queue that answered, at the moment and for the purpose of the exchange; where there is no answer, without a queue and with
+-- the fault.
+abbrev pub Returned : {P T : Type 0} → Exchange → Result Answered (AskFault P T) → Next → Type 0
+Returned exchange (Ok answer) next =
+    (queue : Queue) × (queue.uid ≡ exchange.uid) × (arc_value queue.desk ≡ answer.desk) × (queue.pass ≡ answer.pass)
+    × Resumes exchange.uid (Some queue) exchange.at exchange.purpose (outcome answer.command answer.reply) next
+Returned exchange (Err lost) next = Resumes exchange.uid None exchange.at exchange.purpose (Err lost.fault) next
+
+-- ---- a command is asked
+
+-- A command is sent to a queue at a moment, with its desk and its pass, and waits so many seconds at most for its answer. A mail that could not be put
+-- has left the pass where it was.
 abbrev pub Asks : Queue → ℕ → Command → ℕ → Asking → Type 0
 Asks queue at command seconds asking =
     IfSent asking (λ source.
@@ -107,11 +163,24 @@ Asks queue at command seconds asking =
     × (canceled_source ask.reply ≡ source))
     × IfUnsent asking (λ kept. kept ≡ queue.pass) × (asking ≢ Asking.Over)
 
+-- The same, for a purpose. Where there is no memory for the mail, that is what became of the command.
 abbrev pub Sends : Queue → ℕ → Command → ℕ → Purpose → Next → Type 0
 Sends queue at command seconds purpose next =
     ((exchange : Exchange) × (next ≡ On (stages.Asking exchange)) × (exchange.uid ≡ queue.uid) × (exchange.at ≡ at)
     × (exchange.purpose ≡ purpose) × Asks queue at command seconds exchange.future)
-    ⊎ (next ≡ refuses OutOfMemory)
+    ⊎ Resumes queue.uid None at purpose (Err OutOfMemory) next
+
+-- the queue of a uid is looked for, and asked; where it is not to be had, that is what became of the command
+abbrev pub AsksFound : ℕ → ℕ → Command → ℕ → Then → Next → Type 0
+AsksFound uid at command seconds then next =
+    ((queue : Queue) × (queue.uid ≡ uid) × Sends queue at command seconds (purposes.Plan then) next)
+    ⊎ ((fault : Fault) × IsMissed fault × Resumes uid None at (purposes.Plan then) (Err fault) next)
+
+-- a step of the queue of a uid, at a moment
+abbrev pub GoesOn : ℕ → Option Queue → ℕ → Step → Next → Type 0
+GoesOn uid queue at (steps.Answer answer) next = Tells answer next
+GoesOn uid (Some queue) at (steps.Ask command seconds then) next = Sends queue at command seconds (purposes.Plan then) next
+GoesOn uid None at (steps.Ask command seconds then) next = AsksFound uid at command seconds then next
 
 -- ---- a request begins
 
@@ -134,10 +203,10 @@ TellsSources next =
 -- what a task begins with at a moment
 abbrev pub Begun : Task → ℕ → Next → Type 0
 Begun (tasks.Create name wish) at next = next ≡ On (stages.Creating record { name = name; wish = wish; at = at })
-Begun (tasks.Delete name) at next = Opens (λ queue. Sends queue at commands.Close 0 purposes.Delete next) next
+Begun (tasks.Delete name) at next = Opens (λ queue. Sends queue at commands.Close 0 purposes.Change next) next
 Begun (tasks.Set name wish) at next =
     Opens (λ queue. Targets name wish (λ target.
-    Sends queue at (commands.Set wish target) 0 (purposes.Set (option_map (λ _. target) (requested_target wish))) next) next) next
+    Sends queue at (commands.Set wish target) 0 purposes.Change next) next) next
 Begun (tasks.Url name) at next = TellsUrl name next
 Begun (tasks.Urls prefix) at next = TellsUrls prefix next
 Begun (tasks.Sources name) at next = TellsSources next
@@ -162,9 +231,19 @@ IsRead head body next = IsJudged head (collected_bytes body) next ⊎ (next ≡ 
 
 -- ---- a queue is to be there
 
--- one is ordered
-abbrev pub Ordered : Creation → Next → Type 0
-Ordered creation next = ((made : Receiver Made) × (next ≡ On (stages.Making creation made))) ⊎ (next ≡ refuses OutOfMemory)
+-- what is ordered: a queue of the name without alarms, with what is wished in the place of the defaults, at the moment of the request
+pub record IsOrder (creation : Creation) (target : ℕ) (order : Order) : Type 0 where
+  pub name : order.new.name ≡ creation.name
+  pub settings : order.new.settings ≡ settings_with default_settings creation.wish target
+  pub rules : order.new.rules.items ≡ []
+  pub moment : order.at ≡ creation.at
+
+-- one is ordered, and what became of it is awaited where it is told
+abbrev pub Ordered : Creation → ℕ → Next → Type 0
+Ordered creation target next =
+    ((order : Order) × IsOrder creation target order
+    × ((made : Receiver Made) × (canceled_source order.made ≡ completed_source made) × (next ≡ On (stages.Making creation made))))
+    ⊎ (next ≡ refuses OutOfMemory)
 
 -- one was ordered: it is there, or one of its name came to be there meanwhile, which is looked for, or it is refused
 abbrev pub Makes : {T : Type 0} → Creation → Result T Fault → Next → Type 0
@@ -176,87 +255,8 @@ Makes creation (Err fault) next = next ≡ refuses fault
 abbrev pub Creates : Creation → Result Next Creation → Type 0
 Creates creation (Ok next) =
     Targets creation.name creation.wish (λ target.
-    Ordered creation next ⊎ Opens (λ queue. Sends queue creation.at commands.Look 0 (purposes.Existing creation) next) next) next
+    Ordered creation target next ⊎ Opens (λ queue. Sends queue creation.at commands.Look 0 (purposes.Existing creation) next) next) next
 Creates creation (Err back) = back ≡ creation
-
--- ---- a queue is taken out
-
--- its actor was told its end
-abbrev pub Concludes : Afterwards → Next → Type 0
-Concludes (Tell (Ok done)) next = Tells (Ok shapes.Nothing) next
-Concludes (Tell (Err fault)) next = next ≡ refuses fault
-Concludes (Create creation) next = next ≡ On (stages.Creating creation)
-
--- its actor is told its end next, where the queue is at hand
-abbrev pub Leaves : Option Queue → Afterwards → Next → Type 0
-Leaves (Some queue) then next = next ≡ On (stages.Ending queue.mailbox then)
-Leaves None then next = Concludes then next
-
--- ---- a command was answered
-
--- one that closes: the queue is taken out, also where it had been closed before, and then it was not there
-abbrev pub Deleted : {T : Type 0} → Option Queue → Result T Fault → Next → Type 0
-Deleted queue (Ok done) next = Leaves queue (Tell (Ok tt)) next
-Deleted queue (Err QueueDoesNotExist) next = Leaves queue (Tell (Err QueueDoesNotExist)) next
-Deleted queue (Err fault) next = next ≡ refuses fault
-
--- one that gives settings
-abbrev pub Settled : {T : Type 0} → Result T Fault → Next → Type 0
-Settled (Ok done) next = Tells (Ok shapes.Nothing) next
-Settled (Err fault) next = next ≡ refuses fault
-
--- a look at a queue whose name another is to have: it is that one where it has the settings already
-abbrev pub Compared : Creation → QueueSettings → Next → Type 0
-Compared creation settings next =
-    Targets creation.name creation.wish (λ target.
-    MatchBool (same_settings (settings_with settings creation.wish target) settings)
-    (Tells (Ok (shapes.QueueUrl creation.name)) next) (next ≡ refuses QueueNameExists)) next
-
--- the same; one that was closed is taken out, and made anew
-abbrev pub Seen : Option Queue → Creation → Reply → Next → Type 0
-Seen queue creation (replies.Looked look) next =
-    MatchBool look.closed (Leaves queue (Create creation) next) (Compared creation look.settings next)
-Seen queue creation reply next = Tells (Ok (shapes.QueueUrl creation.name)) next
-
--- the same; one whose actor has ended is made anew
-abbrev pub Looked : Option Queue → Creation → Result Performed Fault → Next → Type 0
-Looked queue creation (Ok done) next = Seen queue creation done.reply next
-Looked queue creation (Err ActorGone) next = next ≡ On (stages.Creating creation)
-Looked queue creation (Err fault) next = next ≡ refuses fault
-
--- what became of a command is for its purpose
-abbrev pub Resumes : ℕ → Option Queue → ℕ → Purpose → Result Performed Fault → Next → Type 0
-Resumes uid queue at (purposes.Plan then) outcome next =
-    (step : Step) × (next ≡ On (stages.Going uid queue at step)) × Follows then step (after uid then outcome)
-Resumes uid queue at purposes.Delete outcome next = Deleted queue outcome next
-Resumes uid queue at (purposes.Set target) outcome next = Settled outcome next
-Resumes uid queue at (purposes.Existing creation) outcome next = Looked queue creation outcome next
-
--- what became of a command that was answered
-abbrev pub outcome : Command → Result Reply Fault → Result Performed Fault
-outcome command reply = result_map (λ told. record { command = command; reply = told }) reply
-
--- It goes on with the queue that answered, at the moment and for the purpose of the exchange; where there is no answer, without a queue and with
--- the fault.
-abbrev pub Returned : {P T : Type 0} → Exchange → Result Answered (AskFault P T) → Next → Type 0
-Returned exchange (Ok answer) next =
-    (queue : Queue) × (queue.uid ≡ exchange.uid) × (arc_value queue.desk ≡ answer.desk) × (queue.pass ≡ answer.pass)
-    × Resumes exchange.uid (Some queue) exchange.at exchange.purpose (outcome answer.command answer.reply) next
-Returned exchange (Err lost) next = Resumes exchange.uid None exchange.at exchange.purpose (Err lost.fault) next
-
--- ---- a command is asked
-
--- the queue of a uid is looked for, and asked; where it is not to be had, that is what became of the command
-abbrev pub AsksFound : ℕ → ℕ → Command → ℕ → Then → Next → Type 0
-AsksFound uid at command seconds then next =
-    ((queue : Queue) × (queue.uid ≡ uid) × Sends queue at command seconds (purposes.Plan then) next)
-    ⊎ ((fault : Fault) × IsMissed fault × Resumes uid None at (purposes.Plan then) (Err fault) next)
-
--- a step of the queue of a uid, at a moment
-abbrev pub GoesOn : ℕ → Option Queue → ℕ → Step → Next → Type 0
-GoesOn uid queue at (steps.Answer answer) next = Tells answer next
-GoesOn uid (Some queue) at (steps.Ask command seconds then) next = Sends queue at command seconds (purposes.Plan then) next
-GoesOn uid None at (steps.Ask command seconds then) next = AsksFound uid at command seconds then next
 
 -- ---- all stages
 
@@ -265,11 +265,24 @@ abbrev pub Leads : (Next → Type 0) → (Stage → Type 0) → Turn → Type 0
 Leads goes waits (Goes next) = goes next
 Leads goes waits (Waits stage) = waits stage
 
--- a body comes: it has come, or it did not come whole, or it still comes, behind the same head
-abbrev pub Collects : Parts → Turn → Type 0
-Collects head =
-    Leads (λ next. ((body : Collected) × IsRead head body next) ⊎ ((error : LimitedError Error) × (next ≡ Ends (sent_of_error error))))
-    (λ stage. (left : Arriving) × (stage ≡ stages.Collecting left) × (left.head ≡ head))
+-- what may come of a body that is collected: the data of all its frames under its limit, or the first error, or want of memory
+abbrev pub MayCollect : Collect (Limited (Incoming TcpStream)) → Result Collected (LimitedError Error) → Type 0
+MayCollect body given =
+    IsSomeAnd body.collected (λ held.
+    gathering.Collects (λ piece bytes. bytes ≡ piece) (Limits (λ piece. piece) (IncomingYields body.body.inner) body.body.remaining) held given)
+    ⊎ IsErrAnd given (λ error. (cause : Error) × (error ≡ limits.Body cause) × (kind_of cause ≡ kinds.OutOfMemory))
+
+-- behind a head it has come, or it did not come whole
+abbrev pub IsCollected : Parts → Result Collected (LimitedError Error) → Next → Type 0
+IsCollected head (Ok body) next = IsRead head body next
+IsCollected head (Err error) next = (sent : Result Sent Error) × SentOfError error sent × (next ≡ Ends sent)
+
+-- a body comes, or still comes, behind the same head, and may give then only what it may give now
+abbrev pub Collects : Arriving → Turn → Type 0
+Collects arriving =
+    Leads (λ next. (given : Result Collected (LimitedError Error)) × MayCollect arriving.body given × IsCollected arriving.head given next)
+    (λ stage. (left : Arriving) × (stage ≡ stages.Collecting left) × (left.head ≡ arriving.head)
+    × ((given : Result Collected (LimitedError Error)) → MayCollect left.body given → MayCollect arriving.body given))
 
 -- a queue is to be there
 abbrev pub Names : Creation → Turn → Type 0
@@ -281,10 +294,6 @@ AwaitsQueue creation =
     Leads (λ next. ((outcome : Result ⊤ Fault) × Makes creation outcome next) ⊎ (next ≡ refuses OutOfMemory))
     (λ stage. (made : Receiver Made) × (stage ≡ stages.Making creation made))
 
--- an actor is told its end
-abbrev pub Closes : Afterwards → Turn → Type 0
-Closes then = Leads (Concludes then) (λ stage. stage ≡ stages.Ending tt then)
-
 -- a queue was asked
 abbrev pub AwaitsAnswer : Exchange → Turn → Type 0
 AwaitsAnswer exchange =
@@ -295,10 +304,9 @@ AwaitsAnswer exchange =
 
 -- what becomes of a stage that is looked at
 abbrev pub Turns : Stage → Turn → Type 0
-Turns (stages.Collecting arriving) turn = Collects arriving.head turn
+Turns (stages.Collecting arriving) turn = Collects arriving turn
 Turns (stages.Creating creation) turn = Names creation turn
 Turns (stages.Making creation made) turn = AwaitsQueue creation turn
-Turns (stages.Ending mailbox then) turn = Closes then turn
 Turns (stages.Asking exchange) turn = AwaitsAnswer exchange turn
 Turns (stages.Going uid queue at step) turn = (next : Next) × (turn ≡ Goes next) × GoesOn uid queue at step next
 Turns (stages.Sending sent) turn = turn ≡ Goes (Ends (Ok sent))

@@ -1,7 +1,6 @@
 //! The service of a connection: each request gets a future of its response.
 
 ghost use Rattle.std.specs.Prelude.{◌≡◌, Ok, None, is_some};
-ghost use Rattle.http.specs.Request.{head_of};
 ghost use Rattle.sqs_server.specs.Head as head_spec;
 ghost use Rattle.sqs_server.specs.Responses as response;
 ghost use Rattle.sqs_server.specs.Responses.{Gives, IsFirst, Judged, Responds};
@@ -60,7 +59,7 @@ fn respond(
 
 /// The stage of a request whose body comes behind a head.
 fn collecting(alloc: Global, head: Parts, body: Incoming) -> Stage
-    ensures { Judged head None result }
+    ensures { Judged head body None result }
 {
     let body = Limited::new(body, BODY_LIMIT as usize).collect(alloc);
     Stage::Collecting(Arriving { head, body })
@@ -68,7 +67,7 @@ fn collecting(alloc: Global, head: Parts, body: Incoming) -> Stage
 
 /// The stage that a request begins with, by its head and by the least size that its body can have.
 fn judged(alloc: Global, head: Parts, body: Incoming, size: u64) -> Stage
-    ensures { Judged head (head_spec.denial_of head.method size) result }
+    ensures { Judged head body (head_spec.denial_of head.method size) result }
 {
     match denial_of(head.method.as_str(), size) {
         Some(denial) => Stage::Sending(denied(denial)),
@@ -78,7 +77,7 @@ fn judged(alloc: Global, head: Parts, body: Incoming, size: u64) -> Stage
 
 /// The stage that a request begins with.
 fn first_stage(alloc: Global, request: Request<Incoming>) -> Stage
-    ensures { IsFirst (head_of request) result }
+    ensures { IsFirst request result }
 {
     let (head, body) = request.into_parts();
     let size = body.size_hint().lower();
@@ -112,7 +111,7 @@ impl<R: Wait + Clock + Copy + Drop> Service<Request<Incoming>> for Front<R> {
 
     type Future = Answering<R>;
 
-    ghost calls = { λ _ request answering. IsFirst (head_of request) answering.stage };
+    ghost calls = { λ _ request answering. IsFirst request answering.stage };
 
     fn call(&self, request: Request<Incoming>) -> Answering<R> {
         Answering {

@@ -10,7 +10,7 @@ ghost use Rattle.sqs_server.specs.declared.stage.Purpose.TheVariants as purposes
 ghost use Rattle.sqs_server.specs.declared.stage.Stage.TheVariants as stages;
 ghost use Rattle.sqs_server.specs.declared.task.Task.TheVariants as tasks;
 ghost use Rattle.sqs_server.specs.Responses.{Halts, OnHeld};
-ghost use Rattle.sqs_server.specs.Stages.{AsksFound, AwaitsAnswer, AwaitsQueue, Begun, Closes, Collects, Compared, Concludes, Creates, Deleted, GoesOn, IsJudged, IsMissed, IsRead, IsTarget, Leaves, Looked, Makes, Names, Ordered, Resumes, Returned, Seen, Sends, Settled, Tells, TellsSources, TellsUrl, TellsUrls, Turns};
+ghost use Rattle.sqs_server.specs.Stages.{AsksFound, AwaitsAnswer, AwaitsQueue, Begun, Changed, Collects, Compared, Creates, GoesOn, IsJudged, IsMissed, IsOrder, IsRead, IsTarget, Looked, Makes, Names, Ordered, Resumes, Returned, Seen, Sends, SentOfError, Tells, TellsSources, TellsUrl, TellsUrls, Turns};
 ghost use Rattle.sqs_server.specs.Stages as told;
 ghost use Rattle.sqs_server.specs.Task.{Begins};
 ghost use Rattle.sqs_server.specs.Turns.{OnWaits};
@@ -19,12 +19,12 @@ use crate::arriving::Arriving;
 use crate::clock::{moment_of_day, wait_limit};
 use crate::head::{Denial, asked_of};
 use crate::plan::{Outcome, Performed, Step, Then, after};
-use crate::queues::{Made, Mailbox, NewQueue, Order, Queue, Queues};
+use crate::queues::{Made, NewQueue, Order, Queue, Queues};
 use crate::reply::{Sent, denied, refused, sent_for};
-use crate::stage::{Afterwards, Creation, Exchange, Halt, Next, Purpose, Stage, Turn};
+use crate::stage::{Creation, Exchange, Halt, Next, Purpose, Stage, Turn};
 use crate::task::{Task, task_of};
 use aws_json::{Prefix, QueueNames, ReplyShape, Request};
-use crossbeam_channel::{SendError, Sender};
+use crossbeam_channel::Sender;
 use desk::NoPress;
 use futures::Future;
 use futures::channel::oneshot;
@@ -34,7 +34,7 @@ use http::request::Parts;
 use http_body_util::{Collected, LimitedError};
 use journal::Moment;
 use message::{Fault, QueueName};
-use queue_actor::{Answer, AskFault, AskFuture, Mail};
+use queue_actor::{Answer, AskFault, AskFuture};
 use queue_config::{Settings, Wish};
 use queue_core::{Command, Reply};
 use std::alloc::Global;
@@ -83,21 +83,28 @@ fn refuses(fault: Fault) -> Next
 
 /// What comes to be sent of a body that did not come whole.
 fn sent_of_error(error: LimitedError<hyper::Error>) -> Result<Sent, hyper::Error>
-    ensures { result ≡ told.sent_of_error error }
+    ensures { SentOfError error result }
 {
     match error {
         LimitedError::LengthLimit => Ok(denied(Denial::BodyTooLarge)),
+        LimitedError::Body(error) if error.is_out_of_memory() => Ok(refused(Fault::OutOfMemory)),
         LimitedError::Body(error) => Err(error),
     }
 }
 
-/// The new target of a queue that gets settings, where a policy is asked for or cleared.
-fn retargets(wish: &Wish, target: u64) -> Option<u64>
-    ensures { result ≡ option_map (λ _. target) (requested_target wish.now) }
+/// The order for a queue that is not there.
+fn order_of(alloc: Global, creation: &Creation, target: u64, made: oneshot::Sender<Made>) -> Order
+    ensures order { IsOrder creation.now target result }
+    ensures made { result.made ≡ made }
 {
-    match wish.target() {
-        Some(_) => Some(target),
-        None => None,
+    Order {
+        new: NewQueue {
+            name: creation.name,
+            settings: Settings::default().with(&creation.wish, target),
+            rules: Vec::new(alloc),
+        },
+        at: creation.at,
+        made,
     }
 }
 
@@ -178,7 +185,7 @@ impl<R: Wait + Clock> Front<R> {
         Ok(ReplyShape::SourceQueueUrls(QueueNames::new(names)))
     }
 
-    /// Sends a command to a queue. What cannot be sent is refused.
+    /// Sends a command to a queue. Where there is no memory for that, it goes on with that fault.
     fn ask(
         &self,
         queue: Queue,
@@ -207,7 +214,7 @@ impl<R: Wait + Clock> Front<R> {
                 purpose,
                 future,
             })),
-            Err(AskFault { fault, pass: _ }) => refuses(fault),
+            Err(unsent) => self.resume(uid, None, at, purpose, Err(unsent.fault)),
         }
     }
 
@@ -231,7 +238,7 @@ impl<R: Wait + Clock> Front<R> {
         ensures { Begun (tasks.Delete name.now) at result }
     {
         match self.find(name) {
-            Ok(queue) => self.ask(queue, at, Command::Close, 0, Purpose::Delete),
+            Ok(queue) => self.ask(queue, at, Command::Close, 0, Purpose::Change),
             Err(fault) => refuses(fault),
         }
     }
@@ -248,8 +255,7 @@ impl<R: Wait + Clock> Front<R> {
             Ok(target) => target,
             Err(fault) => return refuses(fault),
         };
-        let purpose = Purpose::Set(retargets(&wish, target));
-        self.ask(queue, at, Command::Set { wish, target }, 0, purpose)
+        self.ask(queue, at, Command::Set { wish, target }, 0, Purpose::Change)
     }
 
     /// Tells the URL of a queue that is there.
@@ -328,7 +334,7 @@ impl<R: Wait + Clock> Front<R> {
     fn await_body(&self, cx: &mut Context<'_>, arriving: Arriving) -> Turn
         ensures waits { OnWaits result (IsArmed cx.new) }
         ensures kept { Keeps cx.old cx.new }
-        ensures leads { Collects arriving.head result }
+        ensures leads { Collects arriving result }
     {
         let Arriving { head, mut body } = arriving;
         match body.poll(cx) {
@@ -340,21 +346,12 @@ impl<R: Wait + Clock> Front<R> {
 
     /// Orders a queue that is not there.
     fn order(&self, creation: Creation, target: u64) -> Next
-        ensures { Ordered creation result }
+        ensures { Ordered creation target result }
     {
         let Ok((tells, made)) = oneshot::channel(self.alloc) else {
             return refuses(Fault::OutOfMemory);
         };
-        let new = NewQueue {
-            name: creation.name,
-            settings: Settings::default().with(&creation.wish, target),
-            rules: Vec::new(self.alloc),
-        };
-        let order = Order {
-            new,
-            at: creation.at,
-            made: tells,
-        };
+        let order = order_of(self.alloc, &creation, target, tells);
         match self.orders.send(&self.rt, order) {
             Ok(()) => Next::On(Stage::Making { creation, made }),
             Err(_refused) => refuses(Fault::OutOfMemory),
@@ -427,44 +424,6 @@ impl<R: Wait + Clock> Front<R> {
         }
     }
 
-    /// Goes on once an actor was told its end.
-    fn ended(&self, then: Afterwards) -> Next
-        ensures { Concludes then result }
-    {
-        match then {
-            Afterwards::Tell(Ok(())) => self.answers(Ok(ReplyShape::Nothing)),
-            Afterwards::Tell(Err(fault)) => refuses(fault),
-            Afterwards::Create(creation) => Next::On(Stage::Creating(creation)),
-        }
-    }
-
-    /// Tells an actor its end, at which it answers the polls that wait. Without memory for that it is told
-    /// once others had a turn.
-    fn end(&self, cx: &mut Context<'_>, mailbox: Mailbox, then: Afterwards) -> Turn
-        ensures waits { OnWaits result (IsArmed cx.new) }
-        ensures kept { Keeps cx.old cx.new }
-        ensures leads { Closes then result }
-    {
-        match mailbox.send(&self.rt, Mail::End) {
-            Err(SendError::OutOfMemory(_)) => {
-                let _: Poll<()> = cx.yield_now();
-                Turn::Waits(Stage::Ending { mailbox, then })
-            }
-            _ => Turn::Goes(self.ended(then)),
-        }
-    }
-
-    /// Takes a queue out of the directory. Its actor is told its end next.
-    fn take_out(&self, uid: u64, queue: Option<Queue>, then: Afterwards) -> Next
-        ensures { Leaves queue then result }
-    {
-        self.queues.remove(&self.rt, uid);
-        match queue {
-            Some(Queue { mailbox, .. }) => Next::On(Stage::Ending { mailbox, then }),
-            None => self.ended(then),
-        }
-    }
-
     /// Asks a queue that is looked for by its uid, and goes on without it where it is not to be had.
     fn ask_found(&self, uid: u64, at: Moment, command: Command, seconds: u64, then: Then) -> Next
         ensures { AsksFound uid at command seconds then result }
@@ -504,32 +463,14 @@ impl<R: Wait + Clock> Front<R> {
         }
     }
 
-    /// Takes out a queue that was closed. One that had been closed before, by a request whose client went
-    /// away, is taken out too, and is not there any more.
-    fn deleted(&self, uid: u64, queue: Option<Queue>, outcome: Outcome) -> Next
-        ensures { Deleted queue outcome result }
+    /// Tells that a queue was closed, or that it was given settings.
+    fn changed(&self, outcome: Outcome) -> Next
+        ensures { Changed outcome result }
     {
         match outcome {
-            Ok(_) => self.take_out(uid, queue, Afterwards::Tell(Ok(()))),
-            Err(Fault::QueueDoesNotExist) => {
-                let then = Afterwards::Tell(Err(Fault::QueueDoesNotExist));
-                self.take_out(uid, queue, then)
-            }
+            Ok(_) => self.answers(Ok(ReplyShape::Nothing)),
             Err(fault) => refuses(fault),
         }
-    }
-
-    /// Enters the target of a queue that has settings.
-    fn settled(&self, uid: u64, target: Option<u64>, outcome: Outcome) -> Next
-        ensures { Settled outcome result }
-    {
-        if let Err(fault) = outcome {
-            return refuses(fault);
-        }
-        if let Some(target) = target {
-            self.queues.set_target(&self.rt, uid, target);
-        }
-        self.answers(Ok(ReplyShape::Nothing))
     }
 
     /// Answers for a queue that was there already, by its settings.
@@ -547,25 +488,23 @@ impl<R: Wait + Clock> Front<R> {
         }
     }
 
-    /// The same, by a look at it. One that was closed is taken out and made anew.
-    fn seen(&self, uid: u64, queue: Option<Queue>, creation: Creation, reply: Reply) -> Next
-        ensures { Seen queue creation reply result }
+    /// The same, by a look at it. One that was closed is made anew.
+    fn seen(&self, creation: Creation, reply: Reply) -> Next
+        ensures { Seen creation reply result }
     {
         match reply {
-            Reply::Looked(look) if look.closed => {
-                self.take_out(uid, queue, Afterwards::Create(creation))
-            }
+            Reply::Looked(look) if look.closed => Next::On(Stage::Creating(creation)),
             Reply::Looked(look) => self.compared(creation, look.settings),
             _ => self.answers(Ok(ReplyShape::QueueUrl(creation.name))),
         }
     }
 
     /// The same, by what became of the look. One that was taken out meanwhile is made anew.
-    fn looked(&self, uid: u64, queue: Option<Queue>, creation: Creation, outcome: Outcome) -> Next
-        ensures { Looked queue creation outcome result }
+    fn looked(&self, creation: Creation, outcome: Outcome) -> Next
+        ensures { Looked creation outcome result }
     {
         match outcome {
-            Ok(Performed { command: _, reply }) => self.seen(uid, queue, creation, reply),
+            Ok(Performed { command: _, reply }) => self.seen(creation, reply),
             Err(Fault::ActorGone) => Next::On(Stage::Creating(creation)),
             Err(fault) => refuses(fault),
         }
@@ -603,9 +542,8 @@ impl<R: Wait + Clock> Front<R> {
     {
         match purpose {
             Purpose::Plan(then) => self.planned(uid, queue, at, then, outcome),
-            Purpose::Delete => self.deleted(uid, queue, outcome),
-            Purpose::Set(target) => self.settled(uid, target, outcome),
-            Purpose::Existing(creation) => self.looked(uid, queue, creation, outcome),
+            Purpose::Change => self.changed(outcome),
+            Purpose::Existing(creation) => self.looked(creation, outcome),
         }
     }
 
@@ -656,7 +594,6 @@ impl<R: Wait + Clock> Front<R> {
             Stage::Collecting(arriving) => self.await_body(cx, arriving),
             Stage::Creating(creation) => self.await_name(cx, creation),
             Stage::Making { creation, made } => self.await_queue(cx, creation, made),
-            Stage::Ending { mailbox, then } => self.end(cx, mailbox, then),
             Stage::Asking(exchange) => self.await_answer(cx, exchange),
             Stage::Going {
                 uid,

@@ -294,18 +294,15 @@ fn receive_after(maximum: Maximum, timeout: Option<Timeout>, told: Told, outcome
     }
 }
 
-/// What a client is told of an entry of a batch. Only want of memory is a fault of the whole.
-fn entry_answer(outcome: Outcome) -> Result<Result<EntryReply, Fault>, Fault>
+/// What a client is told of an entry of a batch.
+fn entry_answer(outcome: Outcome) -> Result<EntryReply, Fault>
     ensures { result ≡ entry_answer outcome }
 {
-    match outcome {
-        Ok(Performed { command, reply }) => Ok(Ok(done_reply(command, &reply))),
-        Err(Fault::OutOfMemory) => Err(Fault::OutOfMemory),
-        Err(fault) => Ok(Err(fault)),
-    }
+    let Performed { command, reply } = outcome?;
+    Ok(done_reply(command, &reply))
 }
 
-/// Goes on behind an entry of a batch.
+/// Goes on behind an entry of a batch, whatever became of it.
 fn after_entry(
     alloc: Global,
     id: QueueName,
@@ -315,10 +312,7 @@ fn after_entry(
 ) -> Step
     ensures { Comes result (plan.after_entry id left answers outcome) }
 {
-    let answer = match entry_answer(outcome) {
-        Ok(answer) => answer,
-        Err(fault) => return Step::Answer(Err(fault)),
-    };
+    let answer = entry_answer(outcome);
     match answers.push(alloc, BatchAnswer { id, answer }) {
         Ok(()) => next_entry(alloc, left, answers),
         Err(fault) => Step::Answer(Err(fault)),

@@ -1,8 +1,11 @@
 //! How a queue comes to be served: it gets a uid, a desk, a mailbox, and an actor in a thread of its own.
 //! Queues that clients create are made by one thread, so that no poll has to start a thread.
 
-ghost use Rattle.std.specs.Prelude.{◌≡◌};
+ghost use Rattle.std.specs.Prelude.{◌≡◌, IfErr, IfOk};
 ghost use Rattle.std.specs.Arc.{arc_value};
+ghost use Rattle.desk.specs.Views.{first_knowledge};
+ghost use Rattle.message.specs.declared.fault.Fault.TheVariants.{OutOfMemory};
+ghost use Rattle.queue_core.specs.Kept.{opened_queue};
 
 use crate::clock::moment_of_day;
 use crossbeam_channel::{Receiver, Sender, unbounded};
@@ -11,7 +14,7 @@ use futures::channel::oneshot;
 use journal::Moment;
 use message::{Fault, QueueName};
 use queue_actor::{Actor, Answer, Beat, Directory, Mail, Served, TICK_MILLISECONDS, deadline_loop};
-use queue_config::{AlarmRule, Config, ConfiguredAlarm, Settings};
+use queue_config::{AlarmRule, Config, ConfiguredAlarm, Limits, Settings};
 use queue_core::QueueState;
 use std::alloc::Global;
 use std::sync::{Arc, Wait};
@@ -164,6 +167,22 @@ fn start_actor<R: Wait + Threads + Copy + Send + 'static>(
     }
 }
 
+/// Opens a queue at a moment, on a desk. `OutOfMemory` is the only refusal.
+fn open_desk(
+    host: &HostRuntime,
+    alloc: Global,
+    uid: u64,
+    new: NewQueue,
+    limits: Limits,
+    at: Moment,
+) -> Result<(Desk<NoPress>, Pass<NoPress>), Fault>
+    ensures ok { IfOk result (λ made. made.1 ≡ first_knowledge made.0 (opened_queue uid new.name new.settings limits new.rules.items at)) }
+    ensures errors { IfErr result (λ fault. fault ≡ OutOfMemory) }
+{
+    let state = QueueState::open(alloc, uid, new.name, new.settings, limits, new.rules, at)?;
+    Desk::new(host, alloc, state, NoPress)
+}
+
 /// Opens a queue at a moment under a uid that was entered, and serves it.
 fn start_queue<R: Wait + Threads + Copy + Send + 'static>(
     rt: &R,
@@ -176,12 +195,11 @@ fn start_queue<R: Wait + Threads + Copy + Send + 'static>(
 ) -> Result<(), Fault> {
     let target = target_of(&new.settings);
     let limits = queues.limits();
-    let state = QueueState::open(alloc, uid, new.name, new.settings, limits, new.rules, at)?;
-    let (desk, mut pass) = Desk::new(host, alloc, state, NoPress)?;
+    let (desk, mut pass) = open_desk(host, alloc, uid, new, limits, at)?;
     let own = desk.pass(&mut pass);
     let desk = Arc::new(alloc, desk)?;
     let (mailbox, mails) = unbounded::<Letter, Global>(alloc)?;
-    let actor = Actor::new(Arc::try_clone(&desk)?, own, limits);
+    let actor = Actor::new(Arc::try_clone(&desk)?, own, uid, limits);
     start_actor(rt, alloc, actor, mails, Arc::try_clone(queues)?)?;
     queues.serve(rt, Served::new(uid, desk, pass, mailbox), target)
 }

@@ -7,7 +7,7 @@ use crate::reply::Sent;
 use desk::NoPress;
 use futures::channel::oneshot::Receiver;
 use journal::Moment;
-use message::{Fault, QueueName};
+use message::QueueName;
 use queue_actor::AskFuture;
 use queue_config::Wish;
 
@@ -19,24 +19,13 @@ pub struct Creation {
     pub at: Moment,
 }
 
-/// What comes once an actor was told its end.
-#[derive(Debug, Drop)]
-pub enum Afterwards {
-    /// A client is told what became of the deletion that it asked for.
-    Tell(Result<(), Fault>),
-    /// A queue is made under the name that is free now.
-    Create(Creation),
-}
-
 /// What is made of the answer to a command.
 #[derive(Drop)]
 pub enum Purpose {
     /// It goes on as its request has it.
     Plan(Then),
-    /// The queue was closed, and is taken out.
-    Delete,
-    /// The queue has settings, and from now on this target, where one was asked for.
-    Set(Option<u64>),
+    /// The queue was closed, or has settings. What that changes beside the queue its actor does.
+    Change,
     /// The queue was looked at, since one of its name is to be there.
     Existing(Creation),
 }
@@ -72,11 +61,6 @@ pub enum Stage {
     },
     /// A queue was asked.
     Asking(Exchange),
-    /// A queue was taken out of the directory, and its actor is to be told its end.
-    Ending {
-        mailbox: Mailbox,
-        then: Afterwards,
-    },
     /// This is to be sent.
     Sending(Sent),
     /// All is done.

@@ -7,7 +7,7 @@ use crate::arguments::{Refusal, configuration_in};
 use crate::serving::{listen, serve};
 use crossbeam_channel::{Receiver, unbounded};
 use std::alloc::{AllocError, Global};
-use std::io::{Read, Write};
+use std::io::{ErrorKind, Read, Write};
 use std::net::{Ipv4Addr, Net, SocketAddr, TcpStream};
 use std::process::Abort;
 use std::random::RandomSource;
@@ -18,8 +18,8 @@ use std::time::{Clock, Duration};
 use std::{str, thread};
 use tokio::runtime::Runtime;
 
-/// How long a test waits for anything, in seconds.
-const PATIENCE: u64 = 20;
+/// How long a test waits for anything, in seconds: longer than a busy machine needs.
+const PATIENCE: u64 = 300;
 
 /// A server at a port of its own, in threads of its own.
 #[derive(Drop)]
@@ -76,6 +76,7 @@ fn has_ended<R: Wait + Clock>(rt: &R, server: &Started) -> bool {
 fn connect(rt: &HostRuntime, server: &Started) -> Result<TcpStream, Fail> {
     let stream = TcpStream::connect(rt, server.address)?;
     stream.set_read_timeout(Some(Duration::from_secs(PATIENCE)))?;
+    stream.set_write_timeout(Some(Duration::from_secs(PATIENCE)))?;
     stream.set_nodelay(true)?;
     Ok(stream)
 }
@@ -171,11 +172,25 @@ fn send_chunks(alloc: Global, stream: &mut TcpStream, chunks: u32) -> Result<(),
     Ok(())
 }
 
-/// Whether nothing comes for 300 milliseconds.
+/// Sends pieces of a body, 65,536 blanks each. One that cannot be sent any more is no fault.
+fn send_blanks(alloc: Global, stream: &mut TcpStream, pieces: u32) -> Result<(), Fail> {
+    let piece = Vec::from_elem(alloc, b' ', 65_536)?;
+    for _ in 0..pieces {
+        if stream.write_all(piece.as_slice()).is_err() {
+            break;
+        }
+    }
+    Ok(())
+}
+
+/// Whether nothing comes for 300 milliseconds. The end of the connection is something.
 fn is_silent(stream: &mut TcpStream) -> Result<bool, Fail> {
     stream.set_read_timeout(Some(Duration::from_millis(300)))?;
     let mut piece = [0u8; 1];
-    let is_silent = stream.read(&mut piece).is_err();
+    let is_silent = match stream.read(&mut piece) {
+        Ok(_) => false,
+        Err(error) => matches!(error.kind(), ErrorKind::WouldBlock | ErrorKind::TimedOut),
+    };
     stream.set_read_timeout(Some(Duration::from_secs(PATIENCE)))?;
     Ok(is_silent)
 }
@@ -198,10 +213,11 @@ fn act(
             stream.write_all(text.as_bytes())?;
         }
         "chunks" => send_chunks(alloc, stream, rest.parse::<u32>().ok().ok_or("a number")?)?,
-        "gets" | "begins" => return Ok(Some(next_reply(alloc, stream)?)),
+        "blanks" => send_blanks(alloc, stream, rest.parse::<u32>().ok().ok_or("a number")?)?,
+        "gets" | "begins" | "lacks" => return Ok(Some(next_reply(alloc, stream)?)),
         "waits" => {
             if !is_silent(stream)? {
-                return Err(Fail::from("something came"));
+                return Err(Fail::from("no silence"));
             }
         }
         _ => return Err(Fail::from("another word")),
@@ -219,6 +235,7 @@ fn talk(rt: &HostRuntime, server: &Started, steps: &str) -> Result<String, Fail>
         let (verb, rest) = rest.split_once(" ").ok_or("a thing")?;
         let place = place_of(rt, server, &mut clients, letter)?;
         if verb == "leaves" && place < clients.len() {
+            thread::sleep(rt, Duration::from_millis(rest.parse::<u64>().unwrap_or(0)));
             clients.remove(place);
             continue;
         }
@@ -235,6 +252,7 @@ fn talk(rt: &HostRuntime, server: &Started, steps: &str) -> Result<String, Fail>
 fn is_as_wanted(came: Option<&String>, verb: &str, wanted: &str) -> bool {
     match came {
         Some(came) if verb == "begins" => came.starts_with(wanted),
+        Some(came) if verb == "lacks" => !came.contains(wanted),
         Some(came) => came.as_str() == wanted,
         None => true,
     }

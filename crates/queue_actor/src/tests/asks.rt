@@ -4,10 +4,7 @@ ghost use Rattle.std.specs.Prelude.{◌≡◌, IfOk};
 ghost use Rattle.std.specs.Arc.{arc_value};
 
 use super::*;
-use futures::Future;
 use futures::executor::block_on;
-use futures::task::Poll;
-use futures::test::MockTask;
 use std::alloc::AllocGlobal;
 use std::process::Abort;
 use std::random::RandomSource;
@@ -36,57 +33,6 @@ fn ended_actor_returns_the_pass(rt: HostRuntime) -> Result<(), Fail> {
     let asked = own.ask(&rt, alloc, &mut pass, at, &Command::Look, &NoGate);
     let look = told(alloc, &asked.reply)?;
     assert_eq!(rt; look.as_str(), "0 visible, 1 entries at 1000");
-    Ok(())
-}
-
-/// A mail that is dropped in the mailbox takes its pass with it.
-#[test]
-fn dropped_mail_takes_the_pass(rt: HostRuntime) -> Result<(), Fail> {
-    let alloc = rt.alloc();
-    let (desk, pass) = desk(&rt, alloc)?;
-    let (mailbox, mails) = unbounded::<Letter, Global>(alloc)?;
-    let at = moment(1000)?;
-    let Ok(future) = AskFuture::new(&rt, alloc, &mailbox, desk, pass, at, send(alloc, "a")?, at)
-    else {
-        return Err(Fail::from("no memory"));
-    };
-    drop(mails);
-    let Err(AskFault { fault, pass }) = block_on(&rt, future)? else {
-        return Err(Fail::from("an answer of nobody"));
-    };
-    assert_eq!(rt; fault, Fault::ActorGone);
-    assert!(rt; pass.is_none());
-    Ok(())
-}
-
-/// A future that waits is not woken before the answer is there, and is woken by it. Polled again after
-/// that it has nothing more to give.
-#[test]
-fn pending_ask_is_woken_by_its_answer(rt: HostRuntime) -> Result<(), Fail> {
-    let alloc = rt.alloc();
-    let (desk, pass) = desk(&rt, alloc)?;
-    let (mailbox, mails) = unbounded::<Letter, Global>(alloc)?;
-    let at = moment(1000)?;
-    let Ok(mut future) = AskFuture::new(&rt, alloc, &mailbox, desk, pass, at, send(alloc, "a")?, at)
-    else {
-        return Err(Fail::from("no memory"));
-    };
-    let task = MockTask::new(&rt)?;
-    assert!(rt; matches!(task.poll(&mut future), Poll::Pending));
-    assert!(rt; !task.is_woken());
-    assert!(rt; matches!(task.poll(&mut future), Poll::Pending));
-    assert!(rt; !task.is_woken());
-    serve(&rt, alloc, mails.try_recv(&rt)?);
-    assert!(rt; task.is_woken());
-    let Poll::Ready(Ok(answer)) = task.poll(&mut future) else {
-        return Err(Fail::from("no answer"));
-    };
-    assert_eq!(rt; told(alloc, answer.reply())?.as_str(), "sent 0");
-    assert!(rt; matches!(answer.command(), Command::Send { .. }));
-    let Poll::Ready(Err(fault)) = task.poll(&mut future) else {
-        return Err(Fail::from("a second answer"));
-    };
-    assert!(rt; fault.pass.is_none());
     Ok(())
 }
 

@@ -1,14 +1,15 @@
-//! A mailbox and answers in memory, and scripts of what an actor is sent.
+//! A mailbox and answers in memory, and texts of what an actor is sent and answers.
 
 ghost use Rattle.std.specs.Prelude.{◌≡◌, true, [], ◌∷◌, ◌++◌, IfOk};
 ghost use Rattle.std.specs.Arc.{arc_value};
 ghost use Rattle.queue_actor.specs.Serving.{AllServed};
 
+use super::stage::POLICY;
 use super::*;
 use desk::Gate;
-use queue_core::{Maximum, Offer, Parcel};
+use queue_config::Wish;
+use queue_core::{Maximum, Parcel};
 use std::collections::VecDeque;
-use std::process::Abort;
 
 /// A mail whose answer goes to a numbered slot.
 pub(super) type Numbered = Mail<NoPress, u64>;
@@ -27,6 +28,10 @@ impl Inbox<Numbered, u64, Answer<NoPress>> for Script {
 
     ghost is_over = { λ before after. (before.mails.items ≡ []) × (after.mails.items ≡ before.mails.items) × (after.given.items ≡ before.given.items) × (after.is_whole ≡ before.is_whole) };
 
+    ghost may_give = { λ _ _ _. Unit {0} };
+
+    ghost was_left = { λ _ _. Unit {0} };
+
     ghost gives = { λ before slot answer after. (after.mails.items ≡ before.mails.items) × (after.is_whole ≡ true → (before.is_whole ≡ true) × (after.given.items ≡ before.given.items ++ (slot, answer) ∷ [])) };
 
     fn next<R: Wait>(&mut self, _rt: &R) -> Option<Numbered> {
@@ -37,6 +42,10 @@ impl Inbox<Numbered, u64, Answer<NoPress>> for Script {
         if self.given.push((slot, answer)).is_err() {
             self.is_whole = false;
         }
+    }
+
+    fn is_left(&self, _slot: &u64) -> bool {
+        false
     }
 }
 
@@ -49,7 +58,7 @@ pub(super) fn serve_all<D: Targets, R: Wait>(
     mails: VecDeque<Numbered>,
     targets: &D,
 ) -> Result<Vec<(u64, Answer<NoPress>)>, Fault>
-    ensures { IfOk result (λ given. AllServed (D.was_told targets.now) actor.old.limits.in_flight actor.old.pass mails.items given.items actor.new.pass) }
+    ensures { IfOk result (λ given. AllServed (D.was_told targets.now) (D.was_taken_out targets.now) (D.was_retargeted targets.now) actor.old.uid actor.old.limits.in_flight actor.old.pass mails.items given.items actor.new.pass) }
 {
     let mut script = Script {
         mails,
@@ -85,6 +94,14 @@ impl Targets for Everywhere {
     ) -> Delivery<()> {
         self.delivery
     }
+
+    ghost was_taken_out = { λ _ _. Unit {0} };
+
+    fn take_out<R: Wait>(&self, _rt: &R, _uid: u64) {}
+
+    ghost was_retargeted = { λ _ _ _. Unit {0} };
+
+    fn retarget<R: Wait>(&self, _rt: &R, _uid: u64, _target: u64) {}
 }
 
 /// A clock that ticks every 100 milliseconds up to a moment.
@@ -120,13 +137,22 @@ pub(super) fn receive(messages: u64) -> Result<Command, Fault> {
     })
 }
 
-/// The command that a text says: `send` a body, `receive` a number of messages at most, or `look`,
-/// `parcel`, `close`.
+/// A change of the policy alone: to the queue of a uid, or to none where that is 0.
+fn retarget(alloc: Global, target: u64) -> Result<Command, Fault> {
+    let mut wish = Wish::new();
+    let policy = if target == 0 { "" } else { POLICY };
+    wish.put(alloc, "RedrivePolicy", policy)?;
+    Ok(Command::Set { wish, target })
+}
+
+/// The command that a text says: `send` a body, `receive` a number of messages at most, `policy` with the uid
+/// of a target, or `look`, `parcel`, `close`.
 pub(super) fn command(alloc: Global, text: &str) -> Result<Command, Fault> {
     let (verb, rest) = text.split_once(' ').unwrap_or((text, ""));
     match verb {
         "send" => send(alloc, rest),
         "receive" => receive(number(rest)?),
+        "policy" => retarget(alloc, number(rest)?),
         "look" => Ok(Command::Look),
         "parcel" => Ok(Command::FirstParcel),
         "close" => Ok(Command::Close),
@@ -151,8 +177,19 @@ fn ask_of(
     Ok(Mail::Ask(Ask::new(shared, own, at, command, until, slot)))
 }
 
-/// The mail that a line says: `end`, `tick` and a moment, or a moment and a command, behind which stands
-/// `until` and a moment where the ask may wait. An ask's slot is the number of its line.
+/// What a text asks: a moment and a command, behind which stands `until` and a moment where the ask may
+/// wait. The last part is the moment until which it waits.
+pub(super) fn asked(alloc: Global, text: &str) -> Result<(Moment, Command, Moment), Fault> {
+    let (at, rest) = text.split_once(' ').ok_or(Fault::UnsupportedOperation)?;
+    let at = moment(number(at)?)?;
+    let (call, until) = match rest.split_once(" until ") {
+        Some((call, until)) => (call, moment(number(until)?)?),
+        None => (rest, at),
+    };
+    Ok((at, command(alloc, call)?, until))
+}
+
+/// The mail that a line says: `end`, `tick` and a moment, or an ask. An ask's slot is the number of its line.
 fn mail_of(
     alloc: Global,
     desk: &Arc<Desk<NoPress>>,
@@ -166,16 +203,11 @@ fn mail_of(
     if line == "end" {
         return Ok(Mail::End);
     }
-    let (first, rest) = line.split_once(' ').ok_or(Fault::UnsupportedOperation)?;
-    if first == "tick" {
-        return Ok(Mail::Tick(moment(number(rest)?)?));
+    if let Some(at) = line.strip_prefix("tick ") {
+        return Ok(Mail::Tick(moment(number(at)?)?));
     }
-    let at = moment(number(first)?)?;
-    let (call, until) = match rest.split_once(" until ") {
-        Some((call, until)) => (call, moment(number(until)?)?),
-        None => (rest, at),
-    };
-    ask_of(desk, pass, at, command(alloc, call)?, until, slot)
+    let (at, command, until) = asked(alloc, line)?;
+    ask_of(desk, pass, at, command, until, slot)
 }
 
 /// The mails that the lines of a text say.
@@ -197,86 +229,36 @@ fn mails_of(
     Ok(mails)
 }
 
-/// Offers as a text: of each its number, its receipt, its body and when it was sent.
-fn told_offers(alloc: Global, offers: &[Offer]) -> Result<String, Fault> {
-    let mut text = String::from_str(alloc, "offered")?;
-    for offer in offers {
-        let one = format!(in alloc;
-            " {}.{} {} of {}",
-            offer.number,
-            offer.receipt,
-            offer.content.body(),
-            offer.sent.milliseconds()
-        )?;
-        text.push_str(one.as_str())?;
+/// Adds a text to another, with a separator where something stands before it.
+pub(super) fn join(text: &mut String, separator: &str, one: &str) -> Result<(), Fault> {
+    if !text.is_empty() {
+        text.push_str(separator)?;
     }
-    Ok(text)
+    text.push_str(one)?;
+    Ok(())
 }
 
-/// An answer as a text, as `told` has it, with offers and parcels.
-pub(super) fn told_reply(alloc: Global, reply: &Result<Reply, Fault>) -> Result<String, Fault> {
-    match reply {
-        Ok(Reply::Received(offers)) => told_offers(alloc, offers.as_slice()),
-        Ok(Reply::Parcel(None)) => Ok(String::from_str(alloc, "no parcel")?),
-        Ok(Reply::Done) => Ok(String::from_str(alloc, "done")?),
-        _ => told(alloc, reply),
-    }
-}
-
-/// Answers as a text: a line for each, with its slot.
+/// Answers as a text: each behind its slot, in the order in which they were given.
 fn told_answers(alloc: Global, given: &[(u64, Answer<NoPress>)]) -> Result<String, Fault> {
     let mut text = String::new(alloc);
     for (slot, answer) in given {
-        let told = told_reply(alloc, answer.reply())?;
-        let line = format!(in alloc; "{}: {}\n", slot, told.as_str())?;
-        text.push_str(line.as_str())?;
+        let told = told(alloc, answer.reply())?;
+        let one = format!(in alloc; "{}: {}", slot, told.as_str())?;
+        join(&mut text, "; ", one.as_str())?;
     }
     Ok(text)
 }
 
-/// A directory of the limits.
-pub(super) type Listed = Directory<NoPress, u64>;
-
-/// Runs an actor of a queue under limits over the mails that a text says, and asserts its answers, in the
-/// order in which it gave them.
-pub(super) fn serve_script<D: Targets, R: Wait + Abort>(
+/// Runs an actor over the mails that the lines of a text say, and tells its answers.
+pub(super) fn serve_script<D: Targets, R: Wait>(
     rt: &R,
     alloc: Global,
+    actor: &mut Actor<NoPress>,
     targets: &D,
-    desk: &Arc<Desk<NoPress>>,
-    pass: &mut Pass<NoPress>,
-    limits: Limits,
     text: &str,
-    wanted: &str,
-) -> Result<(), Fail>
-    requires { (pass.old.desk ≡ arc_value desk.now) × (pass.old.start.limits ≡ limits) }
-    ensures { pass.new ≡ pass.old }
-{
-    let mails = mails_of(alloc, desk, pass, text)?;
-    let own = desk.pass(pass);
-    let mut actor = Actor::new(Arc::try_clone(desk)?, own, limits);
-    let given = serve_all(rt, alloc, &mut actor, mails, targets)?;
-    let given = told_answers(alloc, given.as_slice())?;
-    assert_eq!(rt; given.as_str(), wanted);
-    Ok(())
-}
-
-/// Asserts what a call of a desk is answered.
-pub(super) fn call_desk<R: Wait + Abort>(
-    rt: &R,
-    alloc: Global,
-    desk: &Arc<Desk<NoPress>>,
-    pass: &mut Pass<NoPress>,
-    at: u64,
-    call: &str,
-    wanted: &str,
-) -> Result<(), Fail>
-    requires { pass.old.desk ≡ arc_value desk.now }
-    ensures { (pass.new.desk ≡ pass.old.desk) × (pass.new.start ≡ pass.old.start) }
-{
-    let command = command(alloc, call)?;
-    let asked = desk.ask(rt, alloc, pass, moment(at)?, &command, &NoGate);
-    let given = told_reply(alloc, &asked.reply)?;
-    assert_eq!(rt; given.as_str(), wanted, "{call}");
-    Ok(())
+) -> Result<String, Fault> {
+    let mut pass = actor.desk.pass(&mut actor.pass);
+    let mails = mails_of(alloc, &actor.desk, &mut pass, text)?;
+    let given = serve_all(rt, alloc, actor, mails, targets)?;
+    told_answers(alloc, given.as_slice())
 }

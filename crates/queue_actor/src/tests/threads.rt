@@ -3,45 +3,20 @@
 ghost use Rattle.std.specs.Prelude.{◌≡◌, IfOk};
 ghost use Rattle.std.specs.Arc.{arc_value};
 
-use super::fakes::{Beats, receive, told_reply};
-use super::parcels::policy_settings;
+use super::fakes::receive;
+use super::stage::Stage;
 use super::*;
 use desk::Gate;
 use futures::task::Poll;
 use futures::test::MockTask;
 use queue_core::Offer;
 use std::alloc::AllocGlobal;
-use std::process::Abort;
 use std::random::RandomSource;
 use std::sync::atomic::{AtomicU64, Ordering};
 use std::thread;
 
-/// A directory whose actors answer through channels.
-type Shared = Directory<NoPress, oneshot::Sender<Answer<NoPress>>>;
-
-/// A queue that is served, as its callers have it.
-type Client = Served<NoPress, oneshot::Sender<Answer<NoPress>>>;
-
 /// How often a thread looks at what it waits for before it gives up.
 const MOST_TURNS: u64 = 10_000_000;
-
-/// Turns that are held until they are let go. Zero stands for no.
-#[derive(Drop)]
-struct Barrier {
-    held: AtomicU64,
-    let_go: AtomicU64,
-    gave_up: AtomicU64,
-}
-
-impl Barrier {
-    fn new() -> Barrier {
-        Barrier {
-            held: AtomicU64::new(0),
-            let_go: AtomicU64::new(0),
-            gave_up: AtomicU64::new(0),
-        }
-    }
-}
 
 /// Waits until a word is not zero. The answer is whether it came to that.
 fn wait_for(word: &AtomicU64) -> bool {
@@ -54,8 +29,49 @@ fn wait_for(word: &AtomicU64) -> bool {
     false
 }
 
+/// Holds the first turn of one queue until it is let go. Zero stands for no.
+#[derive(Drop)]
+pub(super) struct Barrier {
+    /// How many queues have a first turn before the one whose first turn is held.
+    before: u64,
+    first_turns: AtomicU64,
+    held: AtomicU64,
+    let_go: AtomicU64,
+    gave_up: AtomicU64,
+}
+
+impl Barrier {
+    pub(super) fn new(before: u64) -> Barrier {
+        Barrier {
+            before,
+            first_turns: AtomicU64::new(0),
+            held: AtomicU64::new(0),
+            let_go: AtomicU64::new(0),
+            gave_up: AtomicU64::new(0),
+        }
+    }
+
+    /// Waits until the turn is held. The answer is whether it came to that.
+    pub(super) fn is_held(&self) -> bool {
+        wait_for(&self.held)
+    }
+
+    /// Lets the turn go. The answer is whether nothing had let it go before.
+    pub(super) fn frees(&self) -> bool {
+        self.let_go.swap(1, Ordering::SeqCst) == 0
+    }
+
+    /// Whether the turn went on before it was let go.
+    pub(super) fn has_given_up(&self) -> bool {
+        self.gave_up.load(Ordering::SeqCst) != 0
+    }
+}
+
 impl Gate for Barrier {
-    fn in_turn<R: Wait>(&self, _rt: &R, _turn: u64) {
+    fn in_turn<R: Wait>(&self, _rt: &R, turn: u64) {
+        if turn != 0 || self.first_turns.fetch_add(1, Ordering::SeqCst) != self.before {
+            return;
+        }
         self.held.store(1, Ordering::SeqCst);
         if !wait_for(&self.let_go) {
             self.gave_up.store(1, Ordering::SeqCst);
@@ -65,27 +81,27 @@ impl Gate for Barrier {
 
 /// A fresh queue at a desk of its own under a uid: its actor, what the actor takes its mail from, and what
 /// callers have.
-fn place(rt: &HostRuntime, uid: u64) -> Result<(Actor<NoPress>, Receiver<Letter>, Client), Fail> {
-    place_under(rt, uid, Settings::default())
+fn place(rt: &HostRuntime, uid: u64) -> Result<(Actor<NoPress>, Receiver<Letter>, Client), Fault> {
+    place_under(rt, uid, Settings::default(), Limits::default())
 }
 
-/// The same under settings.
-fn place_under(
+/// The same under settings and limits.
+pub(super) fn place_under(
     rt: &HostRuntime,
     uid: u64,
     settings: Settings,
-) -> Result<(Actor<NoPress>, Receiver<Letter>, Client), Fail> {
+    limits: Limits,
+) -> Result<(Actor<NoPress>, Receiver<Letter>, Client), Fault> {
     let alloc = rt.alloc();
-    let limits = Limits::default();
     let (desk, mut pass) = opened(rt, alloc, uid, settings, limits)?;
     let (mailbox, mails) = unbounded::<Letter, Global>(alloc)?;
     let own = desk.pass(&mut pass);
-    let actor = Actor::new(Arc::try_clone(&desk)?, own, limits);
+    let actor = Actor::new(Arc::try_clone(&desk)?, own, uid, limits);
     Ok((actor, mails, Served::new(uid, desk, pass, mailbox)))
 }
 
 /// Serves a mailbox until it is told to end.
-fn serve_mails<R: Wait, G: Gate>(
+pub(super) fn serve_mails<R: Wait, G: Gate>(
     rt: &R,
     alloc: Global,
     actor: Actor<NoPress>,
@@ -99,29 +115,23 @@ fn serve_mails<R: Wait, G: Gate>(
 }
 
 /// Sends an ask, with a pass that is split off.
-fn begin<R: Wait>(
+pub(super) fn begin<R: Wait>(
     rt: &R,
     alloc: Global,
     client: &mut Client,
-    at: u64,
+    at: Moment,
     command: Command,
-    until: u64,
+    until: Moment,
 ) -> Result<AskFuture<NoPress>, Fault> {
     let desk = Arc::try_clone(&client.desk)?;
     let pass = client.desk.pass(&mut client.pass);
-    let (at, until) = (moment(at)?, moment(until)?);
     AskFuture::new(rt, alloc, &client.mailbox, desk, pass, at, command, until).map_err(
         |refused| refused.fault,
     )
 }
 
-/// How many turns of a queue have ended, by a glance.
-fn glance(client: &mut Client) -> u64 {
-    client.desk.glance(&mut client.pass)
-}
-
 /// Waits for an answer, as a text. `Spent` stands for one that was waited for too long.
-fn end<R: RandomSource + AllocGlobal>(
+pub(super) fn end<R: RandomSource + AllocGlobal>(
     rt: &R,
     alloc: Global,
     future: AskFuture<NoPress>,
@@ -130,63 +140,113 @@ fn end<R: RandomSource + AllocGlobal>(
     let task = MockTask::new(rt).map_err(|_| Fault::OutOfMemory)?;
     for _ in 0..MOST_TURNS {
         match task.poll(&mut future) {
-            Poll::Ready(Ok(answer)) => return told_reply(alloc, answer.reply()),
-            Poll::Ready(Err(refused)) => return told_reply(alloc, &Err(refused.fault)),
+            Poll::Ready(Ok(answer)) => return told(alloc, answer.reply()),
+            Poll::Ready(Err(refused)) => return told(alloc, &Err(refused.fault)),
             Poll::Pending => thread::yield_now(),
         }
     }
-    told_reply(alloc, &Err(Fault::Spent))
+    told(alloc, &Err(Fault::Spent))
 }
 
-/// A poll waits in an actor's thread while other asks are answered, and is woken by a send.
-#[test]
-fn a_poll_is_woken_in_another_thread(rt: HostRuntime) -> Result<(), Fail> {
-    let alloc = rt.alloc();
-    let directory = Arc::new(alloc, Shared::new(alloc, Limits::default())?)?;
-    let (actor, mails, mut client) = place(&rt, 1)?;
-    let serves = move || serve_mails(&rt, alloc, actor, mails, &directory, &NoGate);
-    let thread = thread::spawn(&rt, serves)?;
-    let poll = begin(&rt, alloc, &mut client, 0, receive(1)?, 5000)?;
-    let look = begin(&rt, alloc, &mut client, 500, Command::Look, 500)?;
-    let told = end(&rt, alloc, look)?;
-    assert_eq!(rt; told.as_str(), "0 visible, 1 entries at 500");
-    let sent = begin(&rt, alloc, &mut client, 1000, send(alloc, "a")?, 1000)?;
-    assert_eq!(rt; end(&rt, alloc, sent)?.as_str(), "sent 0");
-    assert_eq!(rt; end(&rt, alloc, poll)?.as_str(), "offered 0.1 a of 1000");
-    let _ = client.mailbox.send(&rt, Mail::End);
-    thread.join(&rt);
-    let late = begin(&rt, alloc, &mut client, 2000, Command::Look, 2000)?;
-    assert_eq!(rt; end(&rt, alloc, late)?.as_str(), "ActorGone");
-    Ok(())
-}
+/// Actors in threads of their own. A line `wait` waits for the answer to an ask. With `hold` the first turn
+/// of a queue is held, behind so many queues that have one, until a line `free`.
+const THREADS: &str =
+    "== a poll waits in an actor's thread while other asks are answered, and is woken by a send
+queue jobs => 1
+start 1
+ask 1 a: 0 receive 1 until 5000
+ask 1 b: 500 look
+wait b => 0 visible, 1 entries at 500
+ask 1 c: 1000 send a
+wait c => sent 0
+wait a => offered 0.1 a of 1000
+end 1
+join
+ask 1 d: 2000 look
+wait d => ActorGone
+== while a turn of one queue is held, another queue answers, and a glance at the first returns; the first queue answers once its turn is let go
+queue held => 1
+queue other => 2
+hold 0
+start 1
+start 2
+ask 1 a: 1000 send a
+held
+ask 2 b: 1000 send b
+wait b => sent 0
+glance 1 => 0
+free
+wait a => sent 0
+end 1
+end 2
+join
+join
+kept
+== a poll in an actor's thread ends at the tick of the clock at which its time is up
+queue jobs => 1
+start 1
+ask 1 a: 0 receive 1 until 100
+ask 1 b: 50 look
+wait b => 0 visible, 1 entries at 50
+clock 100
+wait a => offered
+end 1
+join
+== a client that leaves while its poll waits in an actor's thread takes no message
+queue jobs => 1
+start 1
+ask 1 a: 0 receive 1 until 5000
+ask 1 b: 500 look
+wait b => 0 visible, 1 entries at 500
+forget a
+ask 1 c: 1000 send a
+wait c => sent 0
+ask 1 d: 1000 look
+wait d => 1 visible, 2 entries at 1000
+end 1
+join
+== while an actor waits for another queue that a dead letter is for, the directory answers others; the dead letter then arrives
+queue dead => 1
+queue jobs 0 redriven => 2
+hold 1
+start 2
+ask 2 a: 1000 send a
+ask 2 b: 3000 receive 1
+ask 2 c: 5000 receive 1
+held
+uid dead => Some(1)
+find 1 => Some(1)
+free
+wait a => sent 0
+wait b => offered 0.1 a of 1000
+wait c => offered
+end 2
+join
+kept
+call 1: 5000 look => 1 visible, 2 entries at 5000";
 
-/// While a turn of one queue is held, another queue answers, and a glance at the first returns. The first
-/// queue answers once its turn is let go.
+/// Cases, whose actors are in threads of their own, one after another.
 #[test]
-fn queues_do_not_wait_for_one_another(rt: HostRuntime) -> Result<(), Fail> {
+fn scripts_in_threads(rt: HostRuntime) -> Result<(), Fail> {
     let alloc = rt.alloc();
-    let directory = Arc::new(alloc, Shared::new(alloc, Limits::default())?)?;
-    let gate = Arc::new(alloc, Barrier::new())?;
-    let (actor, mails, mut held) = place(&rt, 1)?;
-    let (shared, held_gate) = (Arc::try_clone(&directory)?, Arc::try_clone(&gate)?);
-    let serves = move || serve_mails(&rt, alloc, actor, mails, &shared, &*held_gate);
-    let first = thread::spawn(&rt, serves)?;
-    let (actor, mails, mut free) = place(&rt, 2)?;
-    let serves = move || serve_mails(&rt, alloc, actor, mails, &directory, &NoGate);
-    let second = thread::spawn(&rt, serves)?;
-    let sent = begin(&rt, alloc, &mut held, 1000, send(alloc, "a")?, 1000)?;
-    assert!(rt; wait_for(&gate.held));
-    let other = begin(&rt, alloc, &mut free, 1000, send(alloc, "b")?, 1000)?;
-    assert_eq!(rt; end(&rt, alloc, other)?.as_str(), "sent 0");
-    assert_eq!(rt; glance(&mut held), 0);
-    assert_eq!(rt; gate.let_go.load(Ordering::SeqCst), 0);
-    gate.let_go.store(1, Ordering::SeqCst);
-    assert_eq!(rt; end(&rt, alloc, sent)?.as_str(), "sent 0");
-    let _ = held.mailbox.send(&rt, Mail::End);
-    let _ = free.mailbox.send(&rt, Mail::End);
-    first.join(&rt);
-    second.join(&rt);
-    assert_eq!(rt; gate.gave_up.load(Ordering::SeqCst), 0);
+    for case in THREADS.split("== ") {
+        let (name, lines) = case.split_once('\n').unwrap_or((case, ""));
+        let mut stage = Stage::new(rt)?;
+        let mut threads = Vec::new(alloc);
+        for line in lines.lines() {
+            if let Some(uid) = line.strip_prefix("start ") {
+                let (actor, mails) = stage.take(uid)?;
+                let (directory, gate) = stage.shared()?;
+                let serves = move || serve_mails(&rt, alloc, actor, mails, &directory, &*gate);
+                threads.push(thread::spawn(&rt, serves)?)?;
+            } else if line == "join" {
+                let thread = threads.pop().ok_or("a thread")?;
+                thread.join(&rt);
+            } else {
+                stage.play(&rt, name, line)?;
+            }
+        }
+    }
     Ok(())
 }
 
@@ -202,8 +262,8 @@ fn send_five<R: Wait + RandomSource + AllocGlobal>(
     let mut numbers = Vec::new(alloc);
     let mut asked = Vec::new(alloc);
     for _ in 0..5 {
-        let command = send(alloc, body).ok()?;
-        let sent = begin(rt, alloc, &mut client, 1000, command, 1000).ok()?;
+        let (at, command) = (moment(1000).ok()?, send(alloc, body).ok()?);
+        let sent = begin(rt, alloc, &mut client, at, command, at).ok()?;
         asked.push(sent).ok()?;
     }
     for sent in asked {
@@ -251,117 +311,5 @@ fn callers_get_their_own_answers(rt: HostRuntime) -> Result<(), Fail> {
     for offer in offers.as_slice() {
         assert!(rt; is_told(offer, of_x.as_slice(), of_y.as_slice()));
     }
-    Ok(())
-}
-
-/// Whether the pass comes back of an ask whose actor has ended.
-fn gives_pass_back<R: RandomSource + AllocGlobal + Abort>(
-    rt: &R,
-    future: AskFuture<NoPress>,
-) -> Result<bool, Fail> {
-    let mut future = future;
-    let task = MockTask::new(rt)?;
-    let Poll::Ready(Err(refused)) = task.poll(&mut future) else {
-        return Err(Fail::from("an answer"));
-    };
-    assert_eq!(rt; refused.fault, Fault::ActorGone);
-    Ok(refused.pass.is_some())
-}
-
-/// An ask that stands behind the end is not taken, and its pass is lost with it. One that is sent when the
-/// mailbox is gone gives its pass back.
-#[test]
-fn mail_behind_the_end_is_dropped(rt: HostRuntime) -> Result<(), Fail> {
-    let alloc = rt.alloc();
-    let directory = Shared::new(alloc, Limits::default())?;
-    let (actor, mails, mut client) = place(&rt, 1)?;
-    let _ = client.mailbox.send(&rt, Mail::End);
-    let behind = begin(&rt, alloc, &mut client, 1000, Command::Look, 1000)?;
-    serve_mails(&rt, alloc, actor, mails, &directory, &NoGate);
-    assert!(rt; !gives_pass_back(&rt, behind)?);
-    let late = begin(&rt, alloc, &mut client, 1000, Command::Look, 1000)?;
-    assert!(rt; gives_pass_back(&rt, late)?);
-    // The actor asked for a parcel at its end, and nothing else was asked.
-    assert_eq!(rt; glance(&mut client), 1);
-    Ok(())
-}
-
-/// A poll in an actor's thread ends at the tick of the clock at which its time is up.
-#[test]
-fn the_clock_ends_a_poll_in_another_thread(rt: HostRuntime) -> Result<(), Fail> {
-    let alloc = rt.alloc();
-    let directory = Arc::new(alloc, Shared::new(alloc, Limits::default())?)?;
-    let uid = directory.enter(&rt, alloc, QueueName::read("jobs")?)?;
-    let (actor, mails, client) = place(&rt, uid)?;
-    directory.serve(&rt, client, 0)?;
-    let mut client = directory.find_uid(&rt, uid)?.ok_or("the queue")?;
-    let shared = Arc::try_clone(&directory)?;
-    let serves = move || serve_mails(&rt, alloc, actor, mails, &shared, &NoGate);
-    let thread = thread::spawn(&rt, serves)?;
-    let poll = begin(&rt, alloc, &mut client, 0, receive(1)?, 200)?;
-    let mut clock = Beats {
-        next: TICK_MILLISECONDS,
-        last: 300,
-    };
-    deadline_loop(&rt, alloc, &directory, &mut clock);
-    assert_eq!(rt; end(&rt, alloc, poll)?.as_str(), "offered");
-    let _ = client.mailbox.send(&rt, Mail::End);
-    thread.join(&rt);
-    Ok(())
-}
-
-/// Holds the first turn of the second queue that has one, until it is let go.
-#[derive(Drop)]
-struct SecondQueue {
-    first_turns: AtomicU64,
-    barrier: Barrier,
-}
-
-impl Gate for SecondQueue {
-    fn in_turn<R: Wait>(&self, rt: &R, turn: u64) {
-        if turn == 0 && self.first_turns.fetch_add(1, Ordering::SeqCst) == 1 {
-            self.barrier.in_turn(rt, turn);
-        }
-    }
-}
-
-/// While an actor waits for another queue that a dead letter is for, the directory answers others. The dead
-/// letter then arrives.
-#[test]
-fn the_directory_is_free_while_a_parcel_is_delivered(rt: HostRuntime) -> Result<(), Fail> {
-    let alloc = rt.alloc();
-    let directory = Arc::new(alloc, Shared::new(alloc, Limits::default())?)?;
-    let name = QueueName::read("dead")?;
-    assert_eq!(rt; directory.enter(&rt, alloc, name)?, 1);
-    let (_idle, _mails, dead) = place(&rt, 1)?;
-    directory.serve(&rt, dead, 0)?;
-    let (actor, mails, mut jobs) = place_under(&rt, 2, policy_settings(alloc)?)?;
-    let gate = SecondQueue {
-        first_turns: AtomicU64::new(0),
-        barrier: Barrier::new(),
-    };
-    let gate = Arc::new(alloc, gate)?;
-    let (shared, held) = (Arc::try_clone(&directory)?, Arc::try_clone(&gate)?);
-    let serves = move || serve_mails(&rt, alloc, actor, mails, &shared, &*held);
-    let thread = thread::spawn(&rt, serves)?;
-    let sent = begin(&rt, alloc, &mut jobs, 1000, send(alloc, "a")?, 1000)?;
-    let first = begin(&rt, alloc, &mut jobs, 3000, receive(1)?, 3000)?;
-    let second = begin(&rt, alloc, &mut jobs, 5000, receive(1)?, 5000)?;
-    assert!(rt; wait_for(&gate.barrier.held));
-    assert_eq!(rt; directory.uid_of(&rt, &name), Some(1));
-    let dead = directory.find_uid(&rt, 1)?.ok_or("the queue")?;
-    assert_eq!(rt; gate.barrier.let_go.load(Ordering::SeqCst), 0);
-    gate.barrier.let_go.store(1, Ordering::SeqCst);
-    assert_eq!(rt; end(&rt, alloc, sent)?.as_str(), "sent 0");
-    assert_eq!(rt; end(&rt, alloc, first)?.as_str(), "offered 0.1 a of 1000");
-    assert_eq!(rt; end(&rt, alloc, second)?.as_str(), "offered");
-    let _ = jobs.mailbox.send(&rt, Mail::End);
-    thread.join(&rt);
-    assert_eq!(rt; gate.barrier.gave_up.load(Ordering::SeqCst), 0);
-    let asked = dead.ask(&rt, alloc, moment(5000)?, Command::Look, &NoGate);
-    assert_eq!(rt;
-        told_reply(alloc, asked.reply())?.as_str(),
-        "1 visible, 2 entries at 5000"
-    );
     Ok(())
 }

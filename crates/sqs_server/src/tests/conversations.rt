@@ -4,7 +4,8 @@ use super::*;
 
 /// A conversation's first line says what it shows; then come the lines of its configuration. Behind `--` each line
 /// is what a client does: `asks` an action with a body; `sends` bytes, a tilde for the end of a line; sends so many
-/// `chunks`; `gets` a status and a body, or one that `begins` so; `waits`, and gets nothing; `leaves`.
+/// `chunks`, or pieces of `blanks`; `gets` a status and a body, or what `begins` so or `lacks` a text; `waits`, and
+/// gets nothing; `leaves`, at once or so many milliseconds later.
 const CONVERSATIONS: &str = r#"a creation, on a connection that its client asks to be closed
 --
 A sends POST / HTTP/1.1~Host: localhost~X-Amz-Target: AmazonSQS.CreateQueue~Content-Length: 20~Connection: close~~{"QueueName":"jobs"}
@@ -30,7 +31,75 @@ name = "jobs"
 A asks SendMessageBatch {"QueueUrl":"jobs","Entries":[{"Id":"x","MessageBody":"\u0001"},{"Id":"y","MessageBody":"b"}]}
 A gets 200 {"Failed":[{"Code":"InvalidMessageContents","Id":"x","Message":"Characters not allowed in the message.","SenderFault":true}],"Successful":[{"Id":"y","MD5OfMessageBody":"92eb5ffee6ae2fec3ad71c777531578f","MessageId":"00000000-0000-0001-0000-000000000000"}]}
 
-queues that are created, listed and deleted
+batches of which each entry is done or refused by itself, and what they leave
+[[queue]]
+name = "jobs"
+visibility_timeout = 600
+--
+A asks SendMessageBatch {"QueueUrl":"jobs","Entries":[{"Id":"x","MessageBody":"a"},{"Id":"y","MessageBody":"b"},{"Id":"z","MessageBody":"c"}]}
+A gets 200 {"Failed":[],"Successful":[{"Id":"x","MD5OfMessageBody":"0cc175b9c0f1b6a831c399e269772661","MessageId":"00000000-0000-0001-0000-000000000000"},{"Id":"y","MD5OfMessageBody":"92eb5ffee6ae2fec3ad71c777531578f","MessageId":"00000000-0000-0001-0000-000000000001"},{"Id":"z","MD5OfMessageBody":"4a8a08f09d37b73795649038408b5f33","MessageId":"00000000-0000-0001-0000-000000000002"}]}
+A asks ReceiveMessage {"QueueUrl":"jobs","MaxNumberOfMessages":10}
+A gets 200 {"Messages":[{"Body":"a","MD5OfBody":"0cc175b9c0f1b6a831c399e269772661","MessageId":"00000000-0000-0001-0000-000000000000","ReceiptHandle":"000000000000000100000000000000000000000000000001"},{"Body":"b","MD5OfBody":"92eb5ffee6ae2fec3ad71c777531578f","MessageId":"00000000-0000-0001-0000-000000000001","ReceiptHandle":"000000000000000100000000000000010000000000000001"},{"Body":"c","MD5OfBody":"4a8a08f09d37b73795649038408b5f33","MessageId":"00000000-0000-0001-0000-000000000002","ReceiptHandle":"000000000000000100000000000000020000000000000001"}]}
+A asks ChangeMessageVisibilityBatch {"QueueUrl":"jobs","Entries":[{"Id":"v","ReceiptHandle":"000000000000000100000000000000000000000000000001","VisibilityTimeout":0},{"Id":"w","ReceiptHandle":"none","VisibilityTimeout":0},{"Id":"x","ReceiptHandle":"000000000000000100000000000000010000000000000001","VisibilityTimeout":0},{"Id":"y","ReceiptHandle":"000000000000000100000000000000000000000000000001","VisibilityTimeout":0}]}
+A gets 200 {"Failed":[{"Code":"ReceiptHandleIsInvalid","Id":"w","Message":"The receipt handle is not valid.","SenderFault":true},{"Code":"MessageNotInflight","Id":"y","Message":"The message is not in flight.","SenderFault":true}],"Successful":[{"Id":"v"},{"Id":"x"}]}
+A asks GetQueueAttributes {"QueueUrl":"jobs","AttributeNames":["ApproximateNumberOfMessages","ApproximateNumberOfMessagesDelayed","ApproximateNumberOfMessagesNotVisible"]}
+A gets 200 {"Attributes":{"ApproximateNumberOfMessages":"2","ApproximateNumberOfMessagesDelayed":"0","ApproximateNumberOfMessagesNotVisible":"1"}}
+A asks DeleteMessageBatch {"QueueUrl":"jobs","Entries":[{"Id":"v","ReceiptHandle":"000000000000000100000000000000020000000000000001"},{"Id":"w","ReceiptHandle":"000000000000000100000000000000090000000000000001"},{"Id":"x","ReceiptHandle":"000000000000000100000000000000000000000000000001"}]}
+A gets 200 {"Failed":[{"Code":"ReceiptHandleIsInvalid","Id":"w","Message":"The receipt handle is not valid.","SenderFault":true}],"Successful":[{"Id":"v"},{"Id":"x"}]}
+A asks GetQueueAttributes {"QueueUrl":"jobs","AttributeNames":["ApproximateNumberOfMessages","ApproximateNumberOfMessagesDelayed","ApproximateNumberOfMessagesNotVisible"]}
+A gets 200 {"Attributes":{"ApproximateNumberOfMessages":"1","ApproximateNumberOfMessagesDelayed":"0","ApproximateNumberOfMessagesNotVisible":"0"}}
+A asks ReceiveMessage {"QueueUrl":"jobs","MaxNumberOfMessages":10}
+A gets 200 {"Messages":[{"Body":"b","MD5OfBody":"92eb5ffee6ae2fec3ad71c777531578f","MessageId":"00000000-0000-0001-0000-000000000001","ReceiptHandle":"000000000000000100000000000000010000000000000002"}]}
+A asks SendMessageBatch {"QueueUrl":"nosuch","Entries":[{"Id":"x","MessageBody":"a"},{"Id":"y","MessageBody":"b"},{"Id":"z","MessageBody":"c"}]}
+A gets 400 {"__type":"com.amazonaws.sqs#QueueDoesNotExist","message":"The specified queue does not exist."}
+
+settings that a creation gives, and that are read, compared and changed
+--
+A asks CreateQueue {"QueueName":"jobs","Attributes":{"VisibilityTimeout":"7","DelaySeconds":"600","MessageRetentionPeriod":"6000","ReceiveMessageWaitTimeSeconds":"2","MaximumMessageSize":"2048"}}
+A gets 200 {"QueueUrl":"http://localhost:9324/000000000000/jobs"}
+A asks GetQueueAttributes {"QueueUrl":"jobs","AttributeNames":["DelaySeconds","MaximumMessageSize","MessageRetentionPeriod","QueueArn","ReceiveMessageWaitTimeSeconds","VisibilityTimeout"]}
+A gets 200 {"Attributes":{"DelaySeconds":"600","MaximumMessageSize":"2048","MessageRetentionPeriod":"6000","QueueArn":"arn:aws:sqs:elasticmq:000000000000:jobs","ReceiveMessageWaitTimeSeconds":"2","VisibilityTimeout":"7"}}
+A asks GetQueueAttributes {"QueueUrl":"jobs","AttributeNames":["CreatedTimestamp"]}
+A begins 200 {"Attributes":{"CreatedTimestamp":"
+A asks GetQueueAttributes {"QueueUrl":"jobs","AttributeNames":["CreatedTimestamp"]}
+A lacks "0"
+A asks SendMessage {"QueueUrl":"jobs","MessageBody":"a"}
+A gets 200 {"MD5OfMessageBody":"0cc175b9c0f1b6a831c399e269772661","MessageId":"00000000-0000-0001-0000-000000000000"}
+A asks GetQueueAttributes {"QueueUrl":"jobs","AttributeNames":["ApproximateNumberOfMessages","ApproximateNumberOfMessagesDelayed","ApproximateNumberOfMessagesNotVisible"]}
+A gets 200 {"Attributes":{"ApproximateNumberOfMessages":"0","ApproximateNumberOfMessagesDelayed":"1","ApproximateNumberOfMessagesNotVisible":"0"}}
+A asks CreateQueue {"QueueName":"jobs","Attributes":{"VisibilityTimeout":"8"}}
+A gets 400 {"__type":"com.amazonaws.sqs#QueueNameExists","message":"A queue of this name exists with other attributes."}
+A asks CreateQueue {"QueueName":"jobs","Attributes":{"VisibilityTimeout":"7"}}
+A gets 200 {"QueueUrl":"http://localhost:9324/000000000000/jobs"}
+A asks SetQueueAttributes {"QueueUrl":"jobs","Attributes":{"VisibilityTimeout":"8"}}
+A gets 200 {}
+A asks CreateQueue {"QueueName":"jobs","Attributes":{"VisibilityTimeout":"7"}}
+A gets 400 {"__type":"com.amazonaws.sqs#QueueNameExists","message":"A queue of this name exists with other attributes."}
+
+limits that are configured: two messages in flight, and a journal of six entries that are all there
+[limits]
+in_flight = 2
+max_lines = 6
+[[queue]]
+name = "jobs"
+visibility_timeout = 600
+--
+A asks SendMessageBatch {"QueueUrl":"jobs","Entries":[{"Id":"x","MessageBody":"a"},{"Id":"y","MessageBody":"b"},{"Id":"z","MessageBody":"c"}]}
+A begins 200 {"Failed":[],
+A asks ReceiveMessage {"QueueUrl":"jobs","MaxNumberOfMessages":10}
+A gets 200 {"Messages":[{"Body":"a","MD5OfBody":"0cc175b9c0f1b6a831c399e269772661","MessageId":"00000000-0000-0001-0000-000000000000","ReceiptHandle":"000000000000000100000000000000000000000000000001"},{"Body":"b","MD5OfBody":"92eb5ffee6ae2fec3ad71c777531578f","MessageId":"00000000-0000-0001-0000-000000000001","ReceiptHandle":"000000000000000100000000000000010000000000000001"}]}
+A asks ReceiveMessage {"QueueUrl":"jobs"}
+A gets 400 {"__type":"com.amazonaws.sqs#OverLimit","message":"A limit is reached."}
+A asks SendMessage {"QueueUrl":"jobs","MessageBody":"d"}
+A gets 500 {"__type":"com.amazonaws.sqs#JournalFull","message":"The journal of the queue is full."}
+A asks SendMessageBatch {"QueueUrl":"jobs","Entries":[{"Id":"x","MessageBody":"d"},{"Id":"y","MessageBody":"e"}]}
+A gets 200 {"Failed":[{"Code":"JournalFull","Id":"x","Message":"The journal of the queue is full.","SenderFault":false},{"Code":"JournalFull","Id":"y","Message":"The journal of the queue is full.","SenderFault":false}],"Successful":[]}
+A asks GetQueueAttributes {"QueueUrl":"jobs","AttributeNames":["ApproximateNumberOfMessages","ApproximateNumberOfMessagesDelayed","ApproximateNumberOfMessagesNotVisible"]}
+A gets 200 {"Attributes":{"ApproximateNumberOfMessages":"1","ApproximateNumberOfMessagesDelayed":"0","ApproximateNumberOfMessagesNotVisible":"2"}}
+A asks DeleteQueue {"QueueUrl":"jobs"}
+A gets 200 {}
+
+queues that are created, found, listed and deleted
 [[queue]]
 name = "alpha"
 --
@@ -38,8 +107,14 @@ A asks CreateQueue {"QueueName":"beta","Attributes":{"RedrivePolicy":"{\"deadLet
 A gets 200 {"QueueUrl":"http://localhost:9324/000000000000/beta"}
 A asks CreateQueue {"QueueName":"beta","Attributes":{"VisibilityTimeout":"5"}}
 A gets 400 {"__type":"com.amazonaws.sqs#QueueNameExists","message":"A queue of this name exists with other attributes."}
+A asks GetQueueUrl {"QueueName":"beta"}
+A gets 200 {"QueueUrl":"http://localhost:9324/000000000000/beta"}
+A asks GetQueueUrl {"QueueName":"gamma"}
+A gets 400 {"__type":"com.amazonaws.sqs#QueueDoesNotExist","message":"The specified queue does not exist."}
 A asks ListQueues {}
 A gets 200 {"QueueUrls":["http://localhost:9324/000000000000/alpha","http://localhost:9324/000000000000/beta"]}
+A asks ListQueues {"QueueNamePrefix":"b"}
+A gets 200 {"QueueUrls":["http://localhost:9324/000000000000/beta"]}
 A asks ListDeadLetterSourceQueues {"QueueUrl":"http://localhost:9324/000000000000/alpha"}
 A gets 200 {"queueUrls":["http://localhost:9324/000000000000/beta"]}
 A asks SetQueueAttributes {"QueueUrl":"beta","Attributes":{"RedrivePolicy":""}}
@@ -141,6 +216,17 @@ B chunks 128
 B sends 0~~
 B gets 400 {"__type":"com.amazonaws.sqs#SerializationException","message":"The request cannot be read."}
 
+a body that is announced with as many bytes as there may be, and one that is announced with more and sent, which ends its connection alone
+--
+A sends POST / HTTP/1.1~Host: localhost~X-Amz-Target: Other.Nothing~Content-Length: 8388608~~
+A blanks 128
+A gets 400 {"__type":"com.amazonaws.sqs#UnsupportedOperation","message":"The action is not supported."}
+B sends POST / HTTP/1.1~Host: localhost~X-Amz-Target: AmazonSQS.ListQueues~Content-Length: 8389504~~
+B blanks 128
+B gets 413 {"message":"body too large"}
+C asks ListQueues {}
+C gets 200 {"QueueUrls":[]}
+
 bodies that are cut, that name a queue that is not there, and that are refused before it is looked for
 --
 A asks SendMessage {"QueueUrl":"jo
@@ -172,7 +258,7 @@ A gets 200 {"Messages":[{"Body":"a","MD5OfBody":"0cc175b9c0f1b6a831c399e26977266
 a receive that waits as its queue has it, and is then answered without messages
 [[queue]]
 name = "jobs"
-wait_seconds = 1
+wait_seconds = 5
 --
 A asks ReceiveMessage {"QueueUrl":"jobs"}
 A waits for nothing
@@ -189,17 +275,125 @@ B asks DeleteQueue {"QueueUrl":"jobs"}
 B gets 200 {}
 A gets 400 {"__type":"com.amazonaws.sqs#QueueDoesNotExist","message":"The specified queue does not exist."}
 
-a receive whose client left, and another request to its queue
+a consumer that leaves while it waits takes no message, so that the next one gets it where a message is received once at most
+[[queue]]
+name = "dead"
+[[queue]]
+name = "jobs"
+dead_letter_queue = "dead"
+max_receive_count = 1
+--
+A asks ReceiveMessage {"QueueUrl":"jobs","WaitTimeSeconds":20}
+A waits for nothing
+A leaves now
+B waits for nothing
+B asks SendMessage {"QueueUrl":"jobs","MessageBody":"a"}
+B begins 200 {
+B asks ReceiveMessage {"QueueUrl":"jobs"}
+B begins 200 {"Messages":[{"Body":"a"
+
+a consumer that gives up five times before its time to wait is over, and asks again, gets the message at its sixth time
 [[queue]]
 name = "jobs"
 --
-A asks ReceiveMessage {"QueueUrl":"jobs","WaitTimeSeconds":1}
+A asks ReceiveMessage {"QueueUrl":"jobs","WaitTimeSeconds":20}
 A waits for nothing
 A leaves now
-B asks GetQueueAttributes {"QueueUrl":"jobs","AttributeNames":["ApproximateNumberOfMessages"]}
-B gets 200 {"Attributes":{"ApproximateNumberOfMessages":"0"}}
+B asks ReceiveMessage {"QueueUrl":"jobs","WaitTimeSeconds":20}
+B waits for nothing
+B leaves now
+C asks ReceiveMessage {"QueueUrl":"jobs","WaitTimeSeconds":20}
+C waits for nothing
+C leaves now
+D asks ReceiveMessage {"QueueUrl":"jobs","WaitTimeSeconds":20}
+D waits for nothing
+D leaves now
+E asks ReceiveMessage {"QueueUrl":"jobs","WaitTimeSeconds":20}
+E waits for nothing
+E leaves now
+F asks ReceiveMessage {"QueueUrl":"jobs","WaitTimeSeconds":20}
+F waits for nothing
+G asks SendMessage {"QueueUrl":"jobs","MessageBody":"a"}
+G begins 200 {
+F gets 200 {"Messages":[{"Body":"a","MD5OfBody":"0cc175b9c0f1b6a831c399e269772661","MessageId":"00000000-0000-0001-0000-000000000000","ReceiptHandle":"000000000000000100000000000000000000000000000001"}]}
 
-eight connections that are open at once, each of which asks for one queue and is answered
+deletions whose connection is cut up to five milliseconds behind them: each name is free
+--
+A asks CreateQueue {"QueueName":"a0"}
+A gets 200 {"QueueUrl":"http://localhost:9324/000000000000/a0"}
+A asks CreateQueue {"QueueName":"a1"}
+A gets 200 {"QueueUrl":"http://localhost:9324/000000000000/a1"}
+A asks CreateQueue {"QueueName":"a2"}
+A gets 200 {"QueueUrl":"http://localhost:9324/000000000000/a2"}
+A asks CreateQueue {"QueueName":"a3"}
+A gets 200 {"QueueUrl":"http://localhost:9324/000000000000/a3"}
+A asks CreateQueue {"QueueName":"a4"}
+A gets 200 {"QueueUrl":"http://localhost:9324/000000000000/a4"}
+A asks CreateQueue {"QueueName":"a5"}
+A gets 200 {"QueueUrl":"http://localhost:9324/000000000000/a5"}
+B asks DeleteQueue {"QueueUrl":"a0"}
+B leaves 0
+C asks DeleteQueue {"QueueUrl":"a1"}
+C leaves 1
+D asks DeleteQueue {"QueueUrl":"a2"}
+D leaves 2
+E asks DeleteQueue {"QueueUrl":"a3"}
+E leaves 3
+F asks DeleteQueue {"QueueUrl":"a4"}
+F leaves 4
+G asks DeleteQueue {"QueueUrl":"a5"}
+G leaves 5
+A waits for nothing
+A asks ListQueues {}
+A gets 200 {"QueueUrls":[]}
+A asks CreateQueue {"QueueName":"a0"}
+A gets 200 {"QueueUrl":"http://localhost:9324/000000000000/a0"}
+A asks CreateQueue {"QueueName":"a1"}
+A gets 200 {"QueueUrl":"http://localhost:9324/000000000000/a1"}
+A asks CreateQueue {"QueueName":"a2"}
+A gets 200 {"QueueUrl":"http://localhost:9324/000000000000/a2"}
+A asks CreateQueue {"QueueName":"a3"}
+A gets 200 {"QueueUrl":"http://localhost:9324/000000000000/a3"}
+A asks CreateQueue {"QueueName":"a4"}
+A gets 200 {"QueueUrl":"http://localhost:9324/000000000000/a4"}
+A asks CreateQueue {"QueueName":"a5"}
+A gets 200 {"QueueUrl":"http://localhost:9324/000000000000/a5"}
+A asks SendMessage {"QueueUrl":"a3","MessageBody":"a"}
+A begins 200 {
+
+policies whose connection is cut up to five milliseconds behind them: the dead-letter queue has each source
+[[queue]]
+name = "dead"
+--
+A asks CreateQueue {"QueueName":"b0"}
+A gets 200 {"QueueUrl":"http://localhost:9324/000000000000/b0"}
+A asks CreateQueue {"QueueName":"b1"}
+A gets 200 {"QueueUrl":"http://localhost:9324/000000000000/b1"}
+A asks CreateQueue {"QueueName":"b2"}
+A gets 200 {"QueueUrl":"http://localhost:9324/000000000000/b2"}
+A asks CreateQueue {"QueueName":"b3"}
+A gets 200 {"QueueUrl":"http://localhost:9324/000000000000/b3"}
+A asks CreateQueue {"QueueName":"b4"}
+A gets 200 {"QueueUrl":"http://localhost:9324/000000000000/b4"}
+A asks CreateQueue {"QueueName":"b5"}
+A gets 200 {"QueueUrl":"http://localhost:9324/000000000000/b5"}
+B asks SetQueueAttributes {"QueueUrl":"b0","Attributes":{"RedrivePolicy":"{\"deadLetterTargetArn\":\"arn:aws:sqs:elasticmq:000000000000:dead\",\"maxReceiveCount\":2}"}}
+B leaves 0
+C asks SetQueueAttributes {"QueueUrl":"b1","Attributes":{"RedrivePolicy":"{\"deadLetterTargetArn\":\"arn:aws:sqs:elasticmq:000000000000:dead\",\"maxReceiveCount\":2}"}}
+C leaves 1
+D asks SetQueueAttributes {"QueueUrl":"b2","Attributes":{"RedrivePolicy":"{\"deadLetterTargetArn\":\"arn:aws:sqs:elasticmq:000000000000:dead\",\"maxReceiveCount\":2}"}}
+D leaves 2
+E asks SetQueueAttributes {"QueueUrl":"b3","Attributes":{"RedrivePolicy":"{\"deadLetterTargetArn\":\"arn:aws:sqs:elasticmq:000000000000:dead\",\"maxReceiveCount\":2}"}}
+E leaves 3
+F asks SetQueueAttributes {"QueueUrl":"b4","Attributes":{"RedrivePolicy":"{\"deadLetterTargetArn\":\"arn:aws:sqs:elasticmq:000000000000:dead\",\"maxReceiveCount\":2}"}}
+F leaves 4
+G asks SetQueueAttributes {"QueueUrl":"b5","Attributes":{"RedrivePolicy":"{\"deadLetterTargetArn\":\"arn:aws:sqs:elasticmq:000000000000:dead\",\"maxReceiveCount\":2}"}}
+G leaves 5
+A waits for nothing
+A asks ListDeadLetterSourceQueues {"QueueUrl":"dead"}
+A gets 200 {"queueUrls":["http://localhost:9324/000000000000/b0","http://localhost:9324/000000000000/b1","http://localhost:9324/000000000000/b2","http://localhost:9324/000000000000/b3","http://localhost:9324/000000000000/b4","http://localhost:9324/000000000000/b5"]}
+
+eight connections that are open at once, each of which asks for one queue, sends a body of its own, and is answered
 --
 A asks CreateQueue {"QueueName":"jobs"}
 B asks CreateQueue {"QueueName":"jobs"}
@@ -220,21 +414,21 @@ H gets 200 {"QueueUrl":"http://localhost:9324/000000000000/jobs"}
 A asks ListQueues {}
 A gets 200 {"QueueUrls":["http://localhost:9324/000000000000/jobs"]}
 A asks SendMessage {"QueueUrl":"jobs","MessageBody":"a"}
-B asks SendMessage {"QueueUrl":"jobs","MessageBody":"a"}
-C asks SendMessage {"QueueUrl":"jobs","MessageBody":"a"}
-D asks SendMessage {"QueueUrl":"jobs","MessageBody":"a"}
-E asks SendMessage {"QueueUrl":"jobs","MessageBody":"a"}
-F asks SendMessage {"QueueUrl":"jobs","MessageBody":"a"}
-G asks SendMessage {"QueueUrl":"jobs","MessageBody":"a"}
-H asks SendMessage {"QueueUrl":"jobs","MessageBody":"a"}
+B asks SendMessage {"QueueUrl":"jobs","MessageBody":"b"}
+C asks SendMessage {"QueueUrl":"jobs","MessageBody":"c"}
+D asks SendMessage {"QueueUrl":"jobs","MessageBody":"d"}
+E asks SendMessage {"QueueUrl":"jobs","MessageBody":"e"}
+F asks SendMessage {"QueueUrl":"jobs","MessageBody":"f"}
+G asks SendMessage {"QueueUrl":"jobs","MessageBody":"g"}
+H asks SendMessage {"QueueUrl":"jobs","MessageBody":"h"}
 A begins 200 {"MD5OfMessageBody":"0cc175b9c0f1b6a831c399e269772661","MessageId":"00000000-0000-0001-0000-00000000000
-B begins 200 {"MD5OfMessageBody":"0cc175b9c0f1b6a831c399e269772661","MessageId":"00000000-0000-0001-0000-00000000000
-C begins 200 {"MD5OfMessageBody":"0cc175b9c0f1b6a831c399e269772661","MessageId":"00000000-0000-0001-0000-00000000000
-D begins 200 {"MD5OfMessageBody":"0cc175b9c0f1b6a831c399e269772661","MessageId":"00000000-0000-0001-0000-00000000000
-E begins 200 {"MD5OfMessageBody":"0cc175b9c0f1b6a831c399e269772661","MessageId":"00000000-0000-0001-0000-00000000000
-F begins 200 {"MD5OfMessageBody":"0cc175b9c0f1b6a831c399e269772661","MessageId":"00000000-0000-0001-0000-00000000000
-G begins 200 {"MD5OfMessageBody":"0cc175b9c0f1b6a831c399e269772661","MessageId":"00000000-0000-0001-0000-00000000000
-H begins 200 {"MD5OfMessageBody":"0cc175b9c0f1b6a831c399e269772661","MessageId":"00000000-0000-0001-0000-00000000000
+B begins 200 {"MD5OfMessageBody":"92eb5ffee6ae2fec3ad71c777531578f","MessageId":"00000000-0000-0001-0000-00000000000
+C begins 200 {"MD5OfMessageBody":"4a8a08f09d37b73795649038408b5f33","MessageId":"00000000-0000-0001-0000-00000000000
+D begins 200 {"MD5OfMessageBody":"8277e0910d750195b448797616e091ad","MessageId":"00000000-0000-0001-0000-00000000000
+E begins 200 {"MD5OfMessageBody":"e1671797c52e15f763380b45e841ec32","MessageId":"00000000-0000-0001-0000-00000000000
+F begins 200 {"MD5OfMessageBody":"8fa14cdd754f91cc6554c9e71929cce7","MessageId":"00000000-0000-0001-0000-00000000000
+G begins 200 {"MD5OfMessageBody":"b2f5ff47436671b6e533d8dc3614845d","MessageId":"00000000-0000-0001-0000-00000000000
+H begins 200 {"MD5OfMessageBody":"2510c39011c5be704182423e3a695e91","MessageId":"00000000-0000-0001-0000-00000000000
 A asks GetQueueAttributes {"QueueUrl":"jobs","AttributeNames":["ApproximateNumberOfMessages"]}
 A gets 200 {"Attributes":{"ApproximateNumberOfMessages":"8"}}
 "#;

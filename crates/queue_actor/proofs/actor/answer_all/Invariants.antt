@@ -6,4 +6,5 @@ abbrev pub decreases-loop-poll : goal.decreases-loop-poll
 decreases-loop-poll g l = deque_len l.parked
 
 abbrev pub invariant-loop-poll : goal.invariant-loop-poll
-invariant-loop-poll g l = Answering g.I.Inbox.gives l.at l.fn.parked.items l.fn.mailbox l.parked.items l.mailbox
+invariant-loop-poll g l =
+    Answering g.I.Inbox.brings g.I.Inbox.is_over g.I.Inbox.may_give g.I.Inbox.gives g.I.Inbox.was_left l.at l.fn.parked.items l.fn.mailbox l.parked.items l.mailbox

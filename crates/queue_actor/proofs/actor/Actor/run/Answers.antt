@@ -1,62 +1,76 @@
-use Rattle.std.proofs.Common.{◌≡◌, [], subst, sym, ap, ◌∙◌, refl}
-use Rattle.queue_actor.specs.Serving.{TakesIn, Serves}
-use Rattle.queue_actor.proofs.ServingLemmas.{Serving, serving_begins, serving_goes, serving_ends, serving_is_ended}
+use Rattle.std.proofs.Common.{◌≡◌, [], subst, sym, ap, ◌∙◌, refl, true, false}
+use Rattle.queue_actor.specs.Serving.{TakesIn, Ends, Serves}
+use Rattle.queue_actor.specs.Waiting.{TakesAnswers}
+use Rattle.queue_actor.proofs.ServingLemmas.{Serving, serving_begins, serving_goes, serving_ends, serving_is_ended, takes_brought, takes_over}
 use Rattle.queue_actor.proofs.actor.Actor.run.Goals as goal
 
 pub loop-init : goal.loop-init
-loop-init g c =
-    let told = g.D.Targets.was_told c.args.directory.now in (
-      tt,
-      tt,
-      subst (λ last. Serving told g.I.Inbox.brings g.I.Inbox.is_over g.I.Inbox.gives c.limits.inside.in_flight c.args.self.now.pass c.args.mailbox.now c.args.self.now.pass c.new-parked.result.items last c.args.mailbox.now)
-          (sym c.zero-last.ensures)
-          (serving_begins told g.I.Inbox.brings g.I.Inbox.is_over g.I.Inbox.gives c.limits.inside.in_flight c.args.self.now.pass c.args.mailbox.now c.new-parked.result.items c.new-parked.ensures.items),
+loop-init g c = (
+  tt,
+  tt,
+  subst (λ last. Serving (g.D.Targets.was_told c.args.directory.now) (g.D.Targets.was_taken_out c.args.directory.now) (g.D.Targets.was_retargeted c.args.directory.now) g.I.Inbox.brings g.I.Inbox.is_over g.I.Inbox.gives g.I.Inbox.was_left c.args.self.now.uid c.limits.inside.in_flight c.args.self.now.pass c.args.mailbox.now c.args.self.now.pass c.new-parked.result.items last c.args.mailbox.now)
+      (sym c.zero-last.ensures)
+      (serving_begins (g.D.Targets.was_told c.args.directory.now) (g.D.Targets.was_taken_out c.args.directory.now) (g.D.Targets.was_retargeted c.args.directory.now) g.I.Inbox.brings g.I.Inbox.is_over g.I.Inbox.gives g.I.Inbox.was_left c.args.self.now.uid c.limits.inside.in_flight c.args.self.now.pass c.args.mailbox.now c.new-parked.result.items c.new-parked.ensures.items),
+  subst (λ last. TakesAnswers g.I.Inbox.brings g.I.Inbox.is_over g.I.Inbox.may_give g.I.Inbox.gives g.I.Inbox.was_left c.new-parked.result.items last c.args.mailbox.now) (sym c.zero-last.ensures)
+      (subst (λ asks. TakesAnswers g.I.Inbox.brings g.I.Inbox.is_over g.I.Inbox.may_give g.I.Inbox.gives g.I.Inbox.was_left asks 0 c.args.mailbox.now) (sym c.new-parked.ensures.items) c.requires.may),
+)
+
+pub end-requires : goal.end-requires
+end-requires g c = record {
+  may = subst (λ asks. TakesAnswers g.I.Inbox.brings g.I.Inbox.is_over g.I.Inbox.may_give g.I.Inbox.gives g.I.Inbox.was_left asks c.loop.last c.next-in-loop.new.self) (sym c.make_room.ensures.same)
+      (takes_over g.I.Inbox.brings g.I.Inbox.is_over g.I.Inbox.may_give g.I.Inbox.gives g.I.Inbox.was_left c.loop.parked.items c.loop.last c.loop.mailbox c.next-in-loop.new.self c.loop.invariant.3 c.in_default.ensures.none);
+}
+
+pub returns-in_default-clause-served : goal.returns-in_default-clause-served
+returns-in_default-clause-served g c =
+    let limit : c.limits.inside.in_flight ≡ c.args.self.now.limits.in_flight = ap (λ l. l.in_flight) c.limits.view_is in
+    let ended = c.end.ensures.served in
+    let all = serving_ends (g.D.Targets.was_told c.args.directory.now) (g.D.Targets.was_taken_out c.args.directory.now) (g.D.Targets.was_retargeted c.args.directory.now) g.I.Inbox.brings g.I.Inbox.is_over g.I.Inbox.gives g.I.Inbox.was_left c.args.self.now.uid c.limits.inside.in_flight c.args.self.now.pass c.args.mailbox.now
+    c.loop.self.pass c.loop.parked.items c.loop.last c.loop.mailbox ended.0 c.end.new.self.pass c.next-in-loop.new.self c.end.new.mailbox
+    c.loop.invariant.2 c.in_default.ensures.none (subst (λ asks. Ends (g.D.Targets.was_told c.args.directory.now) (g.D.Targets.was_taken_out c.args.directory.now) (g.D.Targets.was_retargeted c.args.directory.now) c.loop.last c.loop.self.pass asks ended.0 c.end.new.self.pass) c.make_room.ensures.same ended.1) ended.2 in (
+      all.0,
+      all.1,
+      subst (λ n. Serves (g.D.Targets.was_told c.args.directory.now) (g.D.Targets.was_taken_out c.args.directory.now) (g.D.Targets.was_retargeted c.args.directory.now) c.args.self.now.uid n c.args.self.now.pass [] 0 all.0 all.1 c.end.new.self.pass) limit all.2,
+      all.3,
+    )
+
+pub take_in-at-requires-clause-may : goal.take_in-at-requires-clause-may
+take_in-at-requires-clause-may g c =
+    takes_brought g.I.Inbox.brings g.I.Inbox.is_over g.I.Inbox.may_give g.I.Inbox.gives g.I.Inbox.was_left c.make_room.new.parked.items c.loop.last c.loop.mailbox c.next-in-loop.new.self c.in-Some-next.mail
+    (subst (λ asks. TakesAnswers g.I.Inbox.brings g.I.Inbox.is_over g.I.Inbox.may_give g.I.Inbox.gives g.I.Inbox.was_left asks c.loop.last c.loop.mailbox) (sym c.make_room.ensures.same) c.loop.invariant.3) c.in-Some-next.ensures.some
+
+pub returns-then-is_last-clause-served : goal.returns-then-is_last-clause-served
+returns-then-is_last-clause-served g c =
+    let limit : c.limits.inside.in_flight ≡ c.args.self.now.limits.in_flight = ap (λ l. l.in_flight) c.limits.view_is in
+    let taken = c.take_in-at.ensures.taken in
+    let ended = c.end-then-is_last.ensures.served in
+    let at = c.take_in-at.result.0 in
+    let takes = subst (λ b. TakesIn (g.D.Targets.was_taken_out c.args.directory.now) (g.D.Targets.was_retargeted c.args.directory.now) c.args.self.now.uid c.in-Some-next.mail c.loop.last c.loop.parked.items taken.0 c.take_in-at.new.parked.items at b) c.if-is_last.true
+    (subst (λ asks. TakesIn (g.D.Targets.was_taken_out c.args.directory.now) (g.D.Targets.was_retargeted c.args.directory.now) c.args.self.now.uid c.in-Some-next.mail c.loop.last asks taken.0 c.take_in-at.new.parked.items at c.take_in-at.result.1) c.make_room.ensures.same taken.1) in
+    let all = serving_is_ended (g.D.Targets.was_told c.args.directory.now) (g.D.Targets.was_taken_out c.args.directory.now) (g.D.Targets.was_retargeted c.args.directory.now) g.I.Inbox.brings g.I.Inbox.is_over g.I.Inbox.gives g.I.Inbox.was_left c.args.self.now.uid c.limits.inside.in_flight c.args.self.now.pass c.args.mailbox.now
+    c.loop.self.pass c.loop.parked.items c.loop.last c.loop.mailbox c.in-Some-next.mail at taken.0 ended.0 c.take_in-at.new.parked.items
+    c.end-then-is_last.new.self.pass c.next-in-loop.new.self c.take_in-at.new.mailbox c.end-then-is_last.new.mailbox
+    c.loop.invariant.2 c.in-Some-next.ensures.some takes taken.2 ended.1 ended.2 in (
+      all.0,
+      all.1,
+      subst (λ n. Serves (g.D.Targets.was_told c.args.directory.now) (g.D.Targets.was_taken_out c.args.directory.now) (g.D.Targets.was_retargeted c.args.directory.now) c.args.self.now.uid n c.args.self.now.pass [] 0 all.0 all.1 c.end-then-is_last.new.self.pass) limit all.2,
+      all.3,
     )
 
 pub loop-preserved : goal.loop-preserved
 loop-preserved g c =
-    let told = g.D.Targets.was_told c.args.directory.now in
-    let taken = c.take_in.ensures in
-    let looked = c.look_over.ensures in (
+    let taken = c.take_in-at.ensures.taken in
+    let looked = c.look_over.ensures.looked in
+    let at = c.take_in-at.result.0 in
+    let takes = subst (λ b. TakesIn (g.D.Targets.was_taken_out c.args.directory.now) (g.D.Targets.was_retargeted c.args.directory.now) c.args.self.now.uid c.in-Some-next.mail c.loop.last c.loop.parked.items taken.0 c.take_in-at.new.parked.items at b) c.if-is_last.false
+    (subst (λ asks. TakesIn (g.D.Targets.was_taken_out c.args.directory.now) (g.D.Targets.was_retargeted c.args.directory.now) c.args.self.now.uid c.in-Some-next.mail c.loop.last asks taken.0 c.take_in-at.new.parked.items at c.take_in-at.result.1) c.make_room.ensures.same taken.1) in (
       tt,
       tt,
-      serving_goes told g.I.Inbox.brings g.I.Inbox.is_over g.I.Inbox.gives c.limits.inside.in_flight c.args.self.now.pass c.args.mailbox.now
+      serving_goes (g.D.Targets.was_told c.args.directory.now) (g.D.Targets.was_taken_out c.args.directory.now) (g.D.Targets.was_retargeted c.args.directory.now) g.I.Inbox.brings g.I.Inbox.is_over g.I.Inbox.gives g.I.Inbox.was_left c.args.self.now.uid c.limits.inside.in_flight c.args.self.now.pass c.args.mailbox.now
           c.loop.self.pass c.loop.parked.items c.loop.last c.loop.mailbox
-          c.in-Some-next.mail c.in-Some-take_in.at taken.0 looked.0 c.take_in.new.parked.items c.look_over.new.parked.items c.move_parcels.new.self.pass
-          c.next-in-loop.new.self c.take_in.new.mailbox c.look_over.new.mailbox
-          c.loop.invariant.2 c.in-Some-next.ensures.some
-          (subst (λ at. TakesIn c.in-Some-next.mail c.loop.parked.items taken.0 c.take_in.new.parked.items at) c.in-Some-take_in.is taken.1)
-          taken.2 (c.look_over.new.self.pass, looked.1, c.move_parcels.ensures.moved) looked.2,
-    )
-
-pub returns-in_default-clause-served : goal.returns-in_default-clause-served
-returns-in_default-clause-served g c =
-    let told = g.D.Targets.was_told c.args.directory.now in
-    let limit : c.limits.inside.in_flight ≡ c.args.self.now.limits.in_flight = ap (λ l. l.in_flight) c.limits.view_is in
-    let ended = c.end.ensures.served in
-    let all = serving_ends told g.I.Inbox.brings g.I.Inbox.is_over g.I.Inbox.gives c.limits.inside.in_flight c.args.self.now.pass c.args.mailbox.now
-    c.loop.self.pass c.loop.parked.items c.loop.last c.loop.mailbox ended.0 c.end.new.self.pass c.next-in-loop.new.self c.end.new.mailbox
-    c.loop.invariant.2 c.in_default.ensures.none ended.1 ended.2 in (
-      all.0,
-      all.1,
-      subst (λ n. Serves told n c.args.self.now.pass [] 0 all.0 all.1 c.end.new.self.pass) limit all.2,
-      all.3,
-    )
-
-pub returns-in_default-take_in-clause-served : goal.returns-in_default-take_in-clause-served
-returns-in_default-take_in-clause-served g c =
-    let told = g.D.Targets.was_told c.args.directory.now in
-    let limit : c.limits.inside.in_flight ≡ c.args.self.now.limits.in_flight = ap (λ l. l.in_flight) c.limits.view_is in
-    let taken = c.take_in.ensures in
-    let ended = c.end-in_default-take_in.ensures.served in
-    let all = serving_is_ended told g.I.Inbox.brings g.I.Inbox.is_over g.I.Inbox.gives c.limits.inside.in_flight c.args.self.now.pass c.args.mailbox.now
-    c.loop.self.pass c.loop.parked.items c.loop.last c.loop.mailbox c.in-Some-next.mail taken.0 ended.0 c.take_in.new.parked.items
-    c.end-in_default-take_in.new.self.pass c.next-in-loop.new.self c.take_in.new.mailbox c.end-in_default-take_in.new.mailbox
-    c.loop.invariant.2 c.in-Some-next.ensures.some
-    (subst (λ at. TakesIn c.in-Some-next.mail c.loop.parked.items taken.0 c.take_in.new.parked.items at) c.in_default-take_in.is taken.1)
-    taken.2 ended.1 ended.2 in (
-      all.0,
-      all.1,
-      subst (λ n. Serves told n c.args.self.now.pass [] 0 all.0 all.1 c.end-in_default-take_in.new.self.pass) limit all.2,
-      all.3,
+          c.in-Some-next.mail at taken.0 looked.0 c.take_in-at.new.parked.items c.look_over.new.parked.items c.move_parcels.new.self.pass
+          c.next-in-loop.new.self c.take_in-at.new.mailbox c.look_over.new.mailbox
+          c.loop.invariant.2 c.in-Some-next.ensures.some takes taken.2
+          (c.look_over.new.self.pass, looked.1, c.move_parcels.ensures.moved) looked.2,
+      c.look_over.ensures.may,
     )

@@ -1,6 +1,6 @@
-use Rattle.std.proofs.Common.{◌++◌, ap, ◌∙◌, inl, inr}
+use Rattle.std.proofs.Common.{◌++◌, ap, ◌∙◌}
 use Rattle.queue_actor.specs.Course.{given_in}
-use Rattle.queue_actor.proofs.ScriptLemmas.{script_goes, script_ends}
+use Rattle.queue_actor.proofs.ScriptLemmas.{script_goes, over_empty}
 use Rattle.queue_actor.proofs.tests.fakes.serve_all.Goals as goal
 
 pub returns-then-script : goal.returns-then-script
@@ -13,6 +13,5 @@ returns-then-script g c =
       served.2,
       all.1,
       all.2 ∙ ap (λ given. given ++ given_in served.1) c.new.ensures.items,
-      script_ends (g.D.Targets.was_told c.args.targets.now) (λ s. s.mails.items) (λ s. s.given.items) (λ s. s.is_whole) _ c.run.new.mailbox
-          c.args.actor.now.limits.in_flight c.args.actor.now.pass served.0 served.1 c.run.new.self.pass served.2 served.3,
+      over_empty (λ s. s.mails.items) (λ s. s.given.items) (λ s. s.is_whole) _ c.run.new.mailbox served.1 served.3,
     )
