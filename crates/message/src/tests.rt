@@ -1,33 +1,66 @@
-//! Values from outside at the borders of each rule, and what a refused allocation gives.
+//! What is told of values from outside, at the borders of each rule, and what a refused allocation gives.
 
 use super::*;
-use std::alloc::Global;
+use cases::{CALLS, CASES, LETTERS};
+use std::alloc::{AllocError, AllocFailed, Global};
 use std::process::Abort;
 use std::test::Fail;
 
-mod attributes;
-mod bodies;
-mod faults;
-mod ids;
-mod names;
+mod cases;
 
-/// The value that a text tells: raw bytes where it ends in `|raw`, and otherwise a text.
-fn value_from(alloc: Global, told: &str) -> Result<AttributeValue, Fault> {
-    match told.strip_suffix("|raw") {
-        Some(bytes) => Ok(AttributeValue::Binary(Vec::from_slice(alloc, bytes.as_bytes())?)),
-        None => Ok(AttributeValue::Text(String::from_str(alloc, told)?)),
-    }
+/// The refusals in the order of their table in docs/PROFILE.md. Their statuses, names and texts stand in
+/// the stored runs of `sqs_replay`, and those of the last three in the tests of `aws_json`.
+const REFUSALS: [Fault; 20] = [
+    Fault::QueueDoesNotExist,
+    Fault::QueueNameExists,
+    Fault::InvalidAttributeName,
+    Fault::InvalidAttributeValue,
+    Fault::InvalidParameterValue,
+    Fault::InvalidMessageContents,
+    Fault::ReceiptHandleIsInvalid,
+    Fault::MessageNotInflight,
+    Fault::OverLimit,
+    Fault::EmptyBatchRequest,
+    Fault::TooManyEntriesInBatchRequest,
+    Fault::BatchEntryIdsNotDistinct,
+    Fault::InvalidBatchEntryId,
+    Fault::BatchRequestTooLong,
+    Fault::UnsupportedOperation,
+    Fault::SerializationException,
+    Fault::JournalFull,
+    Fault::OutOfMemory,
+    Fault::Spent,
+    Fault::ActorGone,
+];
+
+/// Whether the name of a queue gives its text, and whether it equals the name behind a `=`.
+fn told_name(alloc: Global, texts: &str) -> Result<String, Fault> {
+    let (text, other) = texts.split_once('=').unwrap_or((texts, texts));
+    let (name, other) = (QueueName::read(text)?, QueueName::read(other)?);
+    Ok(format!(in alloc; "{} {}", name.as_text() == text, name == other)?)
+}
+
+/// The two numbers of the id that a text is, in hexadecimal digits, and the id's text.
+fn told_id(alloc: Global, text: &str) -> Result<String, Fault> {
+    let Some(id) = MessageId::read(text) else {
+        return Ok(String::from_str(alloc, "none")?);
+    };
+    Ok(format!(in alloc; "{:x} {:x} {}", id.uid, id.number, id.text(alloc)?)?)
 }
 
 /// The attribute that a text tells: its name, its type text and its value, with a `|` before each of
-/// the two.
+/// the two, which are `String` and `v` where the name stands alone. A value that ends in `|raw` is raw.
 fn attribute_from(alloc: Global, told: &str) -> Result<Attribute, Fault> {
-    let (name, rest) = told.split_once('|').unwrap_or((told, ""));
+    let (name, rest) = told.split_once('|').unwrap_or((told, "String|v"));
     let (kind, given) = rest.split_once('|').unwrap_or((rest, ""));
+    let value = match given.strip_suffix("|raw") {
+        Some(bytes) => AttributeValue::Binary(Vec::from_slice(alloc, bytes.as_bytes())?),
+        None => AttributeValue::Text(String::from_str(alloc, given)?),
+    };
     Ok(Attribute {
         name: String::from_str(alloc, name)?,
         kind: String::from_str(alloc, kind)?,
-        value: value_from(alloc, given)?,
+        value,
     })
 }
 
@@ -42,75 +75,90 @@ fn content_from(alloc: Global, told: &str) -> Result<Content, Fault> {
     Content::new(alloc, body, attributes)
 }
 
-/// What is answered to a content: its size in bytes, or the name of the refusal.
-fn answer(alloc: Global, told: &str) -> Result<String, Fault> {
-    match content_from(alloc, told) {
-        Ok(content) => Ok(format!(in alloc; "{}", content.size())?),
-        Err(fault) => Ok(String::from_str(alloc, fault.name())?),
+/// The size of a content, its body, and a copy of each of its attributes, by a share of it when the
+/// first has gone.
+fn told_parts(alloc: Global, told: &str) -> Result<String, Fault> {
+    let first = content_from(alloc, told)?;
+    let content = first.share()?;
+    drop(first);
+    let mut text = format!(in alloc; "{} {:?}", content.size(), content.body())?;
+    for attribute in content.attributes() {
+        let Attribute { name, kind, value } = attribute.copy(alloc)?;
+        write!(text, ";{name}|{kind}|{value:?}")?;
+    }
+    Ok(text)
+}
+
+/// What is told of a line, whose first word says what is asked of the rest.
+fn told(alloc: Global, line: &str) -> Result<String, Fault> {
+    let (asked, rest) = line.split_once(' ').unwrap_or((line, ""));
+    match asked {
+        "queue" => told_name(alloc, rest),
+        "id" => told_id(alloc, rest),
+        "size" => Ok(format!(in alloc; "{}", content_from(alloc, rest)?.size())?),
+        "parts" => told_parts(alloc, rest),
+        "raw" => Ok(format!(in alloc; "{}", is_binary_type(rest))?),
+        _ => Err(Fault::UnsupportedOperation),
     }
 }
 
-/// Asserts what is answered to contents. Each line of the text is a content, ` => ` and the answer.
-fn answers(rt: &impl Abort, alloc: Global, text: &str) -> Result<(), Fail> {
-    for line in text.lines() {
-        let (told, wanted) = line.split_once(" => ").ok_or("what is answered to it")?;
-        assert_eq!(rt; answer(alloc, told)?.as_str(), wanted, "{told:?}");
+/// What is told of a text in three parts, or the name of its refusal, which is no want of memory.
+fn answer(alloc: Global, before: &str, choice: &str, after: &str) -> Result<String, Fault> {
+    let text = format!(in alloc; "{before}{choice}{after}")?;
+    match told(alloc, text.as_str()) {
+        Err(fault) if fault != Fault::OutOfMemory => Ok(String::from_str(alloc, fault.name())?),
+        told => told,
+    }
+}
+
+/// Asserts what is told of each text of a line. Where memory is refused, the text is asked again.
+fn hold(rt: &impl Abort, alloc: Global, line: &str) -> Result<(), Fail> {
+    let (texts, wanted) = line.split_once(" => ").ok_or("what is told of it")?;
+    let (before, rest) = texts.split_once('<').unwrap_or((texts, ""));
+    let (choices, after) = rest.split_once('>').unwrap_or(("", ""));
+    for choice in choices.split('~') {
+        let choice = match choice {
+            "249" => LETTERS,
+            "LF" => "\n",
+            _ => choice,
+        };
+        let told = match answer(alloc, before, choice, after) {
+            Err(Fault::OutOfMemory) => answer(alloc, before, choice, after)?,
+            told => told?,
+        };
+        assert_eq!(rt; told.as_str(), wanted, "{before}{choice}{after}");
     }
     Ok(())
 }
 
-/// A content of the body `text` with an attribute of each sort.
-fn with_attributes(alloc: Global) -> Result<Content, Fault> {
-    let mut attributes = Vec::new(alloc);
-    attributes.push(attribute_from(alloc, "price|Number.é|1.5")?)?;
-    attributes.push(Attribute {
-        name: String::from_str(alloc, "image")?,
-        kind: String::from_str(alloc, "Binary")?,
-        value: AttributeValue::Binary(Vec::from_slice(alloc, &[0xFF, 0, 0x80])?),
-    })?;
-    Content::new(alloc, String::from_str(alloc, "text")?, attributes)
-}
-
-/// The bytes of an attribute's value.
-fn bytes_of(attribute: &Attribute) -> &[u8] {
-    match &attribute.value {
-        AttributeValue::Text(text) => text.as_bytes(),
-        AttributeValue::Binary(bytes) => bytes.as_slice(),
+/// Each refusal has its number and prints its text, and each line of [`CASES`] is told as it says.
+#[test]
+fn lines(rt: HostRuntime) -> Result<(), Fail> {
+    let mut numbers = String::new(rt.alloc());
+    for fault in REFUSALS {
+        write!(numbers, " {}", fault.code())?;
+        let printed = format!(in rt.alloc(); "{fault}")?;
+        assert_eq!(rt; printed.as_str(), fault.text());
     }
-}
-
-/// A copy of an attribute, made again where memory ran out, is the same attribute.
-fn copies(rt: &impl Abort, alloc: Global, attribute: &Attribute) -> Result<(), Fail> {
-    let copy = match attribute.copy(alloc) {
-        Err(Fault::OutOfMemory) => attribute.copy(alloc)?,
-        answer => answer?,
-    };
-    assert_eq!(rt; copy.name.as_str(), attribute.name.as_str());
-    assert_eq!(rt; copy.kind.as_str(), attribute.kind.as_str());
-    assert_eq!(rt; bytes_of(&copy), bytes_of(attribute));
+    assert_eq!(rt;
+        numbers.as_str(),
+        " 1 2 3 4 5 6 7 8 9 10 11 12 13 14 15 16 17 18 19 20"
+    );
+    for line in CASES.lines().filter(|line| !line.starts_with("//")) {
+        hold(&rt, rt.alloc(), line)?;
+    }
     Ok(())
 }
 
-/// Calls whose allocation is refused answer `OutOfMemory`, and the same calls give their values
-/// after it. The gate runs this with ample memory, where the first calls answer;
-/// `rt try --test --fail-alloc N -- refused_memory` refuses the Nth allocation. A share takes no
-/// memory.
+/// A call whose allocation is refused answers `OutOfMemory`, and the same call gives its value after it.
+/// The gate runs this with ample memory, where the first call answers;
+/// `rt try --test --fail-alloc N -- refused_memory` refuses the Nth allocation.
 #[test]
 fn refused_memory(rt: HostRuntime) -> Result<(), Fail> {
-    let alloc = rt.alloc();
-    let content = match with_attributes(alloc) {
-        Err(Fault::OutOfMemory) => with_attributes(alloc)?,
-        answer => answer?,
-    };
-    assert_eq!(rt; content.size(), 4 + (5 + 9 + 3) + (5 + 6 + 3));
-    for attribute in content.attributes() {
-        copies(&rt, alloc, attribute)?;
+    for line in CALLS.lines() {
+        hold(&rt, rt.alloc(), line)?;
     }
-    let id = MessageId { uid: 1, number: 10 };
-    let text = match id.text(alloc) {
-        Err(Fault::OutOfMemory) => id.text(alloc)?,
-        answer => answer?,
-    };
-    assert_eq!(rt; text.as_str(), "00000000-0000-0001-0000-00000000000a");
+    assert_eq!(rt; Fault::from(AllocError), Fault::OutOfMemory);
+    assert_eq!(rt; Fault::from(AllocFailed { value: 1u8 }), Fault::OutOfMemory);
     Ok(())
 }
