@@ -2,10 +2,10 @@
 # replay and runs it on its stored example; `make try` runs the same with no proof. `make install` puts both programs into PREFIX/bin.
 # `make test` is what each commit must pass: the edits can be applied, each crate has a verdict that holds, and all tests pass. It takes
 # minutes where the verdicts hold. `make prove` proves everything from nothing, and writes every verdict anew. `make verdicts` says which
-# hold. `make clients` tours the server that `make run` built, with boto3 and the AWS command line; `make rate` times it. `make
-# wrong-bodies` tries the edits that the gate leaves out; with CRATE=name those of one crate. `make refuse` runs the tests of refused
+# hold. `make clients` tours the server that `make run` built, with boto3 and the AWS command line; `make rate` times it, and `make many` with
+# 1,000 queues. `make wrong-bodies` tries the edits that the gate leaves out; with CRATE=name those of one crate. `make refuse` runs the tests of refused
 # memory once for each allocation. `make table` puts what the verdicts say into docs/PROOFS.md.
-.PHONY: run replay try install test prove verdicts table clients rate wrong-bodies refuse
+.PHONY: run replay try install test prove verdicts table clients rate many wrong-bodies refuse
 PREFIX ?= /usr/local
 
 run:
@@ -39,6 +39,9 @@ clients:
 
 rate:
 	clients/run.sh rate
+
+many:
+	clients/run.sh many
 
 wrong-bodies:
 	tools/wrong-bodies $(CRATE)

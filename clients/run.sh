@@ -1,7 +1,7 @@
 #!/bin/sh
 # Starts the server that `make run` has built, has clients call it, and ends it.
-# Usage: run.sh [rate]. Without an argument the tours of boto3 and of the AWS command line; with `rate` how many sends a second it
-# answers, beside the replay and, where it is installed, nginx.
+# Usage: run.sh [rate | many]. Without an argument the tours of boto3 and of the AWS command line; with `rate` how many sends a second it
+# answers, beside the replay and, where it is installed, nginx; with `many` how long requests take where there are 1,000 queues.
 set -eu
 cd "$(dirname "$0")/.."
 
@@ -22,7 +22,7 @@ command -v python3 >/dev/null || stop "no python3: install Debian's package pyth
 if [ "${1:-tours}" = tours ]; then
     python3 -c 'import boto3' 2>/dev/null || stop "no boto3: install Debian's package python3-boto3, of 2024 or later"
     command -v aws >/dev/null || stop "no aws: install Debian's package awscli, of 2024 or later"
-else
+elif [ "$1" = rate ]; then
     command -v ab >/dev/null || stop "no ab: install Debian's package apache2-utils"
 fi
 ! listens || stop "port $port is taken: end what listens there first"
@@ -38,6 +38,8 @@ listens || stop "the server does not listen"
 if [ "${1:-tours}" = tours ]; then
     clients/tour.py
     clients/tour.sh
-else
+elif [ "$1" = rate ]; then
     clients/rate.py
+else
+    clients/many.py
 fi

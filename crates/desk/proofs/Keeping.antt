@@ -195,15 +195,21 @@ draws start slots id old me idle room s r wide at _ =
           (home_stays (state_of start r.log) s.homes s.views id v w at (idle_is_not_turn v idle) r.home)
           (let views : held_tickets (set s.views id w) + tickets_of v.stage ≡ held_tickets s.views + 1 = held_set s.views id v w at in let empty : tickets_of v.stage ≡ 0 = ap tickets_of idle in
           let all : length r.log + held_tickets s.views ≡ r.tickets = r.all in omega (arith, views, empty, all, found, hit)),
-      subst (λ b. MatchBool b (◌≡◌ {A = Holder} (w, me.1) (at_stage v (Drawn y), me.1)) ((y ≤ most_tickets) × ◌≡◌ {A = Holder} (w, me.1) (counting v y, me.1))) (sym (eq-eqb y old hit)) refl,
+      (
+        (let b : v.begun ≤ r.tickets = r.counted id v at in omega (arith, found, b)),
+        subst (λ b. MatchBool b (◌≡◌ {A = Holder} (w, me.1) (at_stage v (Drawn y), me.1)) ((y ≤ most_tickets) × ◌≡◌ {A = Holder} (w, me.1) (counting v y, me.1))) (sym (eq-eqb y old hit)) refl,
+      ),
     ))
     (λ miss. (
       counting v y,
       keeps,
       tt,
       stays_counted start s r id v at idle,
-      subst (λ b. MatchBool b (◌≡◌ {A = Holder} (counting v y, me.1) (at_stage v (Drawn y), me.1)) ((y ≤ most_tickets) × ◌≡◌ {A = Holder} (counting v y, me.1) (counting v y, me.1))) (sym (ne_eqb y old miss))
-          ((let w : r.tickets ≤ most_tickets = r.within in omega (arith, found)), refl),
+      (
+        (let b : v.begun ≤ r.tickets = r.counted id v at in omega (arith, found, b)),
+        subst (λ b. MatchBool b (◌≡◌ {A = Holder} (counting v y, me.1) (at_stage v (Drawn y), me.1)) ((y ≤ most_tickets) × ◌≡◌ {A = Holder} (counting v y, me.1) (counting v y, me.1))) (sym (ne_eqb y old miss))
+            ((let w : r.tickets ≤ most_tickets = r.within in omega (arith, found)), refl),
+      ),
     ))
 
 pub counts : (start : QueueHistory) (slots id : ℕ) (me : Holder) → me.0.stage ≡ Idle → Allows (IsInTurn start) slots id me 1 (λ n. n) (has_counted (step slots 1 0 0 none) me)
@@ -213,7 +219,7 @@ counts start slots id me idle s r wide at _ =
       keeps,
       tt,
       stays_counted start s r id me.0 at idle,
-      ((let w : r.tickets ≤ most_tickets = r.within in omega (arith, found)), refl),
+      ((let b : me.0.begun ≤ r.tickets = r.counted id me.0 at in omega (arith, found, b)), (let w : r.tickets ≤ most_tickets = r.within in omega (arith, found)), refl),
     )
 
 -- ---- a turn is waited for

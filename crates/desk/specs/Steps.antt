@@ -21,14 +21,15 @@ at_stage v stage = record v { stage = stage }
 abbrev pub counting : View → ℕ → View
 counting v tickets = record v { begun = tickets }
 
--- the tickets that were drawn were counted: they are not more than there may be
+-- the tickets that were drawn were counted: they are no fewer than were known, and not more than there may be
 abbrev pub has_counted : Step (Option Lying) → Holder → ℕ → Holder → Type 0
-has_counted s before found after = (found ≤ most_tickets) × (after ≡ (counting before.0 found, before.1))
+has_counted s before found after = (before.0.begun ≤ found) × (found ≤ most_tickets) × (after ≡ (counting before.0 found, before.1))
 
 -- where the word was the one expected, a ticket was drawn, and else they were counted
 abbrev pub has_drawn : Step (Option Lying) → Holder → ℕ → Holder → Type 0
 has_drawn s before found after =
-    MatchBool (found == s.first) (after ≡ (at_stage before.0 (Drawn found), before.1)) ((found ≤ most_tickets) × (after ≡ (counting before.0 found, before.1)))
+    (before.0.begun ≤ found)
+    × MatchBool (found == s.first) (after ≡ (at_stage before.0 (Drawn found), before.1)) ((found ≤ most_tickets) × (after ≡ (counting before.0 found, before.1)))
 
 -- the history so far was seen: it is legal, it goes on from what was seen before, and its calls of the pass's number are its own
 pub record HasSeen (before after : View) : Type 0 where

@@ -1,5 +1,5 @@
 -- What a pass knows, as contracts see it, and what one call adds to it.
-use Rattle.std.specs.Prelude.{◌≡◌, ◌≢◌, ℕ, List, [], ◌∷◌, ◌++◌, ◌^◌, Result}
+use Rattle.std.specs.Prelude.{◌≡◌, ◌≢◌, ℕ, ◌<◌, ◌≤◌, List, [], ◌∷◌, ◌++◌, ◌^◌, Result}
 use Rattle.message.specs.declared.fault.Fault.{Fault}
 use Rattle.atomic_table.specs.Seated.{TableId}
 use Rattle.queue_config.specs.Limits.{default_limits}
@@ -36,11 +36,14 @@ first_knowledge desk start = record { desk = desk; start = start; number = 0; be
 abbrev pub knowledge_of : TableId → View → Knowledge
 knowledge_of desk v = record { desk = desk; start = v.start; number = v.number; begun = v.begun; seen = v.seen; mine = v.mine }
 
--- A call was made: behind all that the pass had seen, and behind what others had done meanwhile, the history ends with it, under the pass's number, and it is the last of the pass's own calls
+-- A call was made: behind all that the pass had seen, and behind what others had done meanwhile, the history ends with it, under the pass's number, and it is the last of the pass's own calls.
+-- A ticket was left for it, and no fewer were drawn than the pass knew before
 pub record HasCalled (before : Knowledge) (at : ℕ) (command : Command) (reply : Result Reply Fault) (after : Knowledge) : Type 0 where
   pub same_desk : after.desk ≡ before.desk
   pub same_start : after.start ≡ before.start
   pub same_number : after.number ≡ before.number
+  pub counted : before.begun ≤ after.begun
+  pub room : after.begun < most_tickets
   pub between : List Call
   pub history : after.seen ≡ (before.seen ++ between) ++ call before.number at command reply ∷ []
   pub own : after.mine ≡ before.mine ++ call before.number at command reply ∷ []
@@ -102,6 +105,6 @@ pub record IsLastState (pass : Knowledge) (queue : QueueHistory) : Type 0 where
   pub own : calls_by pass.number history ≡ pass.mine
   pub state : queue ≡ state_of pass.start history
 
--- all tickets are drawn: nothing else is known that was not known before
+-- all tickets are drawn, which are no fewer than were known before: nothing else is known that was not
 abbrev pub IsSpent : Knowledge → Knowledge → Type 0
-IsSpent before after = after ≡ record before { begun = most_tickets }
+IsSpent before after = (before.begun ≤ most_tickets) × (after ≡ record before { begun = most_tickets })

@@ -1,6 +1,6 @@
 //! A desk: one queue, which threads take turns at.
 
-ghost use Rattle.std.specs.Prelude.{ℕ, ◌≡◌, ◌≢◌, ◌⊎◌, [], ◌∷◌, length, Err, None, Some, IfOk, IfErr, IfSome, IfNone};
+ghost use Rattle.std.specs.Prelude.{ℕ, ◌≡◌, ◌<◌, ◌≤◌, ◌≢◌, ◌⊎◌, [], ◌∷◌, length, Err, None, Some, IfOk, IfErr, IfSome, IfNone};
 ghost use Rattle.message.specs.declared.fault.Fault.TheVariants.{OutOfMemory, Spent};
 
 use crate::asked::Asked;
@@ -79,8 +79,9 @@ impl<P: Press> Desk<P> {
         requires desk { seat.old.table_id ≡ self.now }
         requires idle { seat.old.me.0.stage ≡ Idle }
         ensures desk { seat.new.table_id ≡ seat.old.table_id }
-        ensures some { IfSome result (λ ticket. seat.new.me ≡ (at_stage (counting seat.old.me.0 ticket) (Drawn ticket), seat.old.me.1)) }
+        ensures some { IfSome result (λ ticket. (ticket < most_tickets) × (seat.new.me ≡ (at_stage (counting seat.old.me.0 ticket) (Drawn ticket), seat.old.me.1))) }
         ensures none { IfNone result (seat.new.me ≡ (counting seat.old.me.0 most_tickets, seat.old.me.1)) }
+        ensures counted { seat.old.me.0.begun ≤ seat.new.me.0.begun }
     {
         let mut next = self.table.shared.load::<Count>(seat, TICKETS);
         for _ in rt.forever() {
@@ -144,8 +145,11 @@ impl<P: Press> Desk<P> {
         ensures ended { seat.new.me ≡ (with_call seat.old.me.0 held.made, []) }
     {
         let _none = self.table.shared.exchange(seat, 0, Some(held));
-        self.table.shared.fetch_add::<End>(seat, ENDED, 1);
-        self.table.shared.wake_all(ENDED);
+        let ended = self.table.shared.fetch_add::<End>(seat, ENDED, 1);
+        // Who draws a ticket from here on finds this turn ended, and does not sleep before it.
+        if ended.wrapping_add(1) < self.table.shared.peek(TICKETS) {
+            self.table.shared.wake_all(ENDED);
+        }
     }
 
     /// Calls the queue at a moment, in a turn of its own, and waits for it. `Spent` is the answer where

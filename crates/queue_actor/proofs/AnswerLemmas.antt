@@ -14,4 +14,4 @@ last_call before after at command reply called = inr (before.mine, at, rw called
 -- so is a call that a desk answered
 pub last_answer : {A : Type 0} (before after : Knowledge) (at : ℕ) (command : Command) (reply : Result Reply Fault) → HasCalled before at command reply after ⊎ ((reply ≡ Err Spent) × A × IsSpent before after) → IsLastCall after command reply
 last_answer before after at command reply (inl called) = last_call before after at command reply called
-last_answer before after at command reply (inr spent) = inl (spent.0, ap (λ k. k.begun) spent.2)
+last_answer before after at command reply (inr spent) = inl (spent.0, ap (λ k. k.begun) spent.2.1)

@@ -1,7 +1,7 @@
 -- Calls by which an actor moves its queue's dead letters, one behind another.
-use Rattle.std.proofs.Common.{◌≡◌, ◌⊎◌, ℕ, Bool, true, false, MatchBool, List, [], ◌∷◌, ◌++◌, Option, Some, None, Result, Ok, Err, is_ok, refl, sym, ◌∙◌, ap, subst, inl, inr, append_assoc, append-nil, rules}
+use Rattle.std.proofs.Common.{◌≡◌, ◌⊎◌, ℕ, ◌≤◌, le_refl, le_trans, Bool, true, false, MatchBool, List, [], ◌∷◌, ◌++◌, Option, Some, None, Result, Ok, Err, is_ok, refl, sym, ◌∙◌, ap, subst, inl, inr, append_assoc, append-nil, rules}
 use Rattle.message.specs.declared.fault.Fault.{Fault}
-use Rattle.message.specs.declared.fault.Fault.TheVariants.{Spent}
+use Rattle.message.specs.declared.fault.Fault.TheVariants.{Spent, QueueDoesNotExist}
 use Rattle.queue_core.specs.declared.command.Command.{Command}
 use Rattle.queue_core.specs.declared.command.Command.TheVariants as commands
 use Rattle.queue_core.specs.declared.parcel.Parcel.{Parcel}
@@ -12,7 +12,7 @@ use Rattle.desk.specs.Views.{Knowledge, HasCalled, IsSpent, IsKnown}
 use Rattle.queue_actor.specs.Answered.{Answered}
 use Rattle.queue_actor.specs.declared.parcels.Delivery.{Delivery}
 use Rattle.queue_actor.specs.declared.parcels.Delivery.TheVariants as deliveries
-use Rattle.queue_actor.specs.Calling.{HasAsked, HasEnded, HasMade, IsMove, IsLastQuestion, AreMoves, HasMoved, HasMovedOne, HasArrived, parcel_in}
+use Rattle.queue_actor.specs.Calling.{HasAsked, HasEnded, HasMade, IsMove, IsLastQuestion, AreMoves, HasMoved, HasMovedOne, HasArrived, HasMissed, parcel_in}
 
 some_none : {A : Type 0} {x : A} → ◌≡◌ {A = Option A} None (Some x) → ⊥
 some_none same = search (rules, same)
@@ -26,6 +26,7 @@ made_nothing Are k none = record {
   same_desk = refl;
   same_start = refl;
   same_number = refl;
+  counted = le_refl k.begun;
   goes_on = ([], sym (append-nil k.seen));
   calls = [];
   own = sym (append-nil k.mine);
@@ -41,6 +42,7 @@ made_one Are before at command reply after h is =
       same_desk = h.same_desk;
       same_start = h.same_start;
       same_number = h.same_number;
+      counted = h.counted;
       goes_on = (h.between ++ c ∷ [], h.history ∙ append_assoc before.seen h.between (c ∷ []));
       calls = c ∷ [];
       own = h.own;
@@ -53,6 +55,7 @@ made_both First Second Both a b c first second is = record {
   same_desk = second.same_desk ∙ first.same_desk;
   same_start = second.same_start ∙ first.same_start;
   same_number = second.same_number ∙ first.same_number;
+  counted = le_trans first.counted second.counted;
   goes_on = (first.goes_on.0 ++ second.goes_on.0, second.goes_on.1 ∙ ap (λ seen. seen ++ second.goes_on.0) first.goes_on.1 ∙ append_assoc a.seen first.goes_on.0 second.goes_on.0);
   calls = first.calls ++ second.calls;
   own = second.own ∙ ap (λ mine. mine ++ second.calls) first.own ∙ append_assoc a.mine first.calls second.calls;
@@ -61,13 +64,14 @@ made_both First Second Both a b c first second is = record {
 
 -- where the desk is spent nothing more is known, but that it is
 ended : (b c : Knowledge) → IsSpent b c → HasEnded c
-ended b c spent = ap (λ k. k.begun) spent
+ended b c spent = ap (λ k. k.begun) spent.1
 
 spent_made : (Are : List Call → Type 0) (a b c : Knowledge) → IsSpent b c → HasMade Are a b → HasMade Are a c
-spent_made Are a b c spent h = subst (λ k. HasMade Are a k) (sym spent) (record {
+spent_made Are a b c spent h = subst (λ k. HasMade Are a k) (sym spent.1) (record {
   same_desk = h.same_desk;
   same_start = h.same_start;
   same_number = h.same_number;
+  counted = le_trans h.counted spent.0;
   goes_on = h.goes_on;
   calls = h.calls;
   own = h.own;
@@ -97,6 +101,28 @@ has_arrived at parcel answer before uid asked known (Ok reply) is good = record 
   known = known;
 }
 has_arrived at parcel answer before uid asked known (Err fault) is good = absurd (true_false (sym good))
+
+gone_spent : QueueDoesNotExist ≡ Spent → ⊥
+gone_spent same = search (rules, same)
+
+err_same : {A B : Type 0} {e f : B} → ◌≡◌ {A = Result A B} (Err e) (Err f) → e ≡ f
+err_same same = search (rules, same)
+
+-- what a closed queue answered was called
+closed_call : (b : Knowledge) (at : ℕ) (command : Command) (c : Knowledge) → HasAsked b at command (Err QueueDoesNotExist) c → HasCalled b at command (Err QueueDoesNotExist) c
+closed_call b at command c (inl h) = h
+closed_call b at command c (inr h) = absurd (gone_spent (err_same h.0))
+
+-- an answer that a queue is closed shows that a parcel came too late
+pub has_missed : (at : ℕ) (parcel : Parcel) (answer : Answered) (before : Knowledge) → before.start.uid ≡ parcel.target
+    → HasAsked before at (commands.Arrive parcel) answer.reply answer.pass → IsKnown answer.pass → answer.reply ≡ Err QueueDoesNotExist → HasMissed at parcel answer
+has_missed at parcel answer before uid asked known is = record {
+  before = before;
+  uid = uid;
+  closed = is;
+  called = closed_call before at (commands.Arrive parcel) answer.pass (subst (λ r. HasAsked before at (commands.Arrive parcel) r answer.pass) is asked);
+  known = known;
+}
 
 module _ {T : Type 0} (told : ℕ → Parcel → Delivery T → Type 0) where
   -- dead letters that were moved, each with both calls
@@ -134,7 +160,7 @@ module _ {T : Type 0} (told : ℕ → Parcel → Delivery T → Type 0) where
   -- what is asked where a parcel was delivered
   abbrev pub Confirms : ℕ → Parcel → Command → Type 0
   Confirms at parcel command = ((receipt : T) × told at parcel (deliveries.Accepted receipt) × (command ≡ commands.Settle parcel.origin.number))
-      ⊎ (told at parcel deliveries.Gone × (command ≡ commands.Orphan parcel.target))
+      ⊎ ((shown : Option T) × told at parcel (deliveries.Gone shown) × (command ≡ commands.Orphan parcel.target))
 
   -- a parcel was told and moved, by two calls
   both_calls : (Are : List Call → Type 0) (at : ℕ) (a b c : Knowledge) (command : Command) (first second : Result Reply Fault)
@@ -174,6 +200,7 @@ module _ {T : Type 0} (told : ℕ → Parcel → Delivery T → Type 0) where
     same_desk = h.same_desk;
     same_start = h.same_start;
     same_number = h.same_number;
+    counted = h.counted;
     goes_on = h.goes_on;
     calls = h.calls;
     own = h.own;

@@ -14,36 +14,58 @@ use Rattle.queue_actor.specs.declared.future.Progress.{Progress}
 use Rattle.queue_actor.specs.declared.future.Progress.TheVariants as Far
 use Rattle.queue_actor.specs.declared.mail.Ask.{Ask}
 
--- The mail was put, and its answer comes to the slot whose source has this number; or the mail never left, and the pass is kept; or what came was given
+-- what an ask asks: of which desk, with what its pass knows, at which moment, which command, and until when it may wait
+pub record Question : Type 0 where
+  pub desk : TableId
+  pub pass : Knowledge
+  pub moment : ℕ
+  pub command : Command
+  pub wait_until : ℕ
+
+abbrev pub question : TableId → Knowledge → ℕ → Command → ℕ → Question
+question desk pass moment command wait_until =
+    record { desk = desk; pass = pass; moment = moment; command = command; wait_until = wait_until }
+
+-- the question of an ask
+abbrev pub question_of : {P S T : Type 0} → Ask P S T → Question
+question_of ask = question (arc_value ask.desk) ask.pass ask.moment ask.command ask.wait_until
+
+-- The mail with this question was put, and its answer comes to the slot whose source has this number; or the mail never left, and the pass is kept; or what came was given
 pub data Asking : Type 0 where
-  Sent : ℕ → Asking
+  Sent : Question → ℕ → Asking
   Unsent : Knowledge → Asking
   Over : Asking
 
 abbrev pub asking_of : {P T : Type 0} → Progress P T → Asking
-asking_of (Far.Sent slot) = Asking.Sent (completed_source slot)
+asking_of (Far.Sent slot asked) = Asking.Sent (question_of asked.value) (completed_source slot)
 asking_of (Far.Unsent pass) = Asking.Unsent pass
 asking_of Far.Over = Asking.Over
 
--- a fact of the source of the slot that is waited at
-abbrev pub IfSent : Asking → (ℕ → Type 0) → Type 0
-IfSent (Asking.Sent source) P = P source
+-- a fact of what was asked, and of the source of the slot that is waited at
+abbrev pub IfSent : Asking → (Question → ℕ → Type 0) → Type 0
+IfSent (Asking.Sent asked source) P = P asked source
 IfSent (Asking.Unsent pass) P = ⊤
 IfSent Asking.Over P = ⊤
 
 -- a fact of the pass of a mail that never left
 abbrev pub IfUnsent : Asking → (Knowledge → Type 0) → Type 0
-IfUnsent (Asking.Sent source) P = ⊤
+IfUnsent (Asking.Sent asked source) P = ⊤
 IfUnsent (Asking.Unsent pass) P = P pass
 IfUnsent Asking.Over P = ⊤
 
 -- the slot that is waited at has this source
 abbrev pub WaitsAt : Asking → ℕ → Type 0
-WaitsAt asking source = asking ≡ Asking.Sent source
+WaitsAt asking source = (asked : Question) × (asking ≡ Asking.Sent asked source)
+
+-- what was asked, where its answer is waited for
+abbrev pub waiting_question : Asking → Option Question
+waiting_question (Asking.Sent asked source) = Some asked
+waiting_question (Asking.Unsent pass) = None
+waiting_question Asking.Over = None
 
 -- the pass of a mail that never left
 abbrev pub kept_pass : Asking → Option Knowledge
-kept_pass (Asking.Sent source) = None
+kept_pass (Asking.Sent asked source) = None
 kept_pass (Asking.Unsent pass) = Some pass
 kept_pass Asking.Over = None
 
@@ -55,11 +77,3 @@ MayGive asking output = IfOk output (λ answer. (source : ℕ) × WaitsAt asking
 abbrev pub IfDisconnected : {M : Type 0} → SendError M → Type 0 → Type 0
 IfDisconnected (Send.Disconnected message) P = P
 IfDisconnected (Send.OutOfMemory message) P = ⊤
-
--- an ask has these parts
-pub record IsAskOf {P S T : Type 0} (ask : Ask P S T) (desk : TableId) (pass : Knowledge) (moment : ℕ) (command : Command) (wait_until : ℕ) : Type 0 where
-  pub same_desk : arc_value ask.desk ≡ desk
-  pub same_pass : ask.pass ≡ pass
-  pub same_moment : ask.moment ≡ moment
-  pub same_command : ask.command ≡ command
-  pub same_wait : ask.wait_until ≡ wait_until

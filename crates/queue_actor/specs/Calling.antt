@@ -1,5 +1,5 @@
 -- What an actor does with its own pass: it looks whether polls have to wait, and moves its queue's dead letters.
-use Rattle.std.specs.Prelude.{◌≡◌, ◌⊎◌, ℕ, ◌==◌, ◌&&◌, nat_lt, Bool, true, false, MatchBool, List, [], ◌∷◌, ◌++◌, Option, Some, None, Result, Ok, Err, is_ok}
+use Rattle.std.specs.Prelude.{◌≡◌, ◌⊎◌, ℕ, ◌≤◌, ◌==◌, ◌&&◌, nat_lt, Bool, true, false, MatchBool, List, [], ◌∷◌, ◌++◌, Option, Some, None, IfSome, Result, Ok, Err, is_ok}
 use Rattle.message.specs.declared.fault.Fault.{Fault}
 use Rattle.message.specs.declared.fault.Fault.TheVariants.{Spent, QueueDoesNotExist}
 use Rattle.queue_core.specs.declared.command.Command.{Command}
@@ -42,20 +42,16 @@ parcel_in _ = None
 abbrev pub HasEnded : Knowledge → Type 0
 HasEnded pass = pass.begun ≡ most_tickets
 
--- calls were made with a pass, of which this is true: others may have called in between
+-- Calls were made with a pass, of which this is true: others may have called in between. No fewer tickets were drawn than the pass knew before: behind an answer of a spent desk no call follows
 pub record HasMade (Are : List Call → Type 0) (before after : Knowledge) : Type 0 where
   pub same_desk : after.desk ≡ before.desk
   pub same_start : after.start ≡ before.start
   pub same_number : after.number ≡ before.number
+  pub counted : before.begun ≤ after.begun
   pub goes_on : GoesOnFrom before.seen after.seen
   pub calls : List Call
   pub own : after.mine ≡ before.mine ++ calls
   pub made : Are calls
-
--- whether a reply says that the queue is gone
-abbrev pub is_gone : Result Reply Fault → Bool
-is_gone (Err QueueDoesNotExist) = true
-is_gone _ = false
 
 -- an answer says that a parcel arrived at a moment: its pass is of a desk of the uid that the parcel is for, and its last call is the arrival there, which was accepted
 pub record HasArrived (at : ℕ) (parcel : Parcel) (answer : Answered) : Type 0 where
@@ -66,10 +62,24 @@ pub record HasArrived (at : ℕ) (parcel : Parcel) (answer : Answered) : Type 0 
   pub called : HasCalled before at (commands.Arrive parcel) (Ok reply) answer.pass
   pub known : IsKnown answer.pass
 
+-- an answer says that a parcel came too late: its pass is of a desk of the uid that the parcel is for, and its last call is the arrival there at a moment, to which the queue answered that it is closed
+pub record HasMissed (at : ℕ) (parcel : Parcel) (answer : Answered) : Type 0 where
+  pub before : Knowledge
+  pub uid : before.start.uid ≡ parcel.target
+  pub closed : answer.reply ≡ Err QueueDoesNotExist
+  pub called : HasCalled before at (commands.Arrive parcel) (Err QueueDoesNotExist) answer.pass
+  pub known : IsKnown answer.pass
+
+-- a fact of what shows that a queue is gone, where anything shows it
+abbrev pub IfGone : {T : Type 0} → Delivery T → (Option T → Type 0) → Type 0
+IfGone (deliveries.Accepted receipt) P = Unit {0}
+IfGone (deliveries.Gone shown) P = P shown
+IfGone deliveries.Refused P = Unit {0}
+
 -- a fact of what shows that a parcel was accepted
 abbrev pub IfAccepted : {T : Type 0} → Delivery T → (T → Type 0) → Type 0
 IfAccepted (deliveries.Accepted receipt) P = P receipt
-IfAccepted deliveries.Gone P = Unit {0}
+IfAccepted (deliveries.Gone shown) P = Unit {0}
 IfAccepted deliveries.Refused P = Unit {0}
 
 -- what deliveries tell: of a parcel at a moment, that it was accepted, and what shows it, that its queue is gone, or that it was refused
@@ -81,7 +91,7 @@ module _ {T : Type 0} (told : ℕ → Parcel → Delivery T → Type 0) where
     pub parcel : Parcel
     pub there : parcel_in asks.reply ≡ Some parcel
     pub moved : ((receipt : T) × told at parcel (deliveries.Accepted receipt) × (moves.command ≡ commands.Settle parcel.origin.number))
-        ⊎ (told at parcel deliveries.Gone × (moves.command ≡ commands.Orphan parcel.target))
+        ⊎ ((shown : Option T) × told at parcel (deliveries.Gone shown) × (moves.command ≡ commands.Orphan parcel.target))
 
   -- the last question for a parcel: there is none, or it was refused; or the desk asks nothing any more
   pub record IsLastQuestion (at : ℕ) (ended : Type 0) (asks : Call) : Type 0 where

@@ -1,7 +1,10 @@
 //! The clock that tells all actors the time.
 
+ghost use Rattle.std.specs.Prelude.{ℕ, IfSome};
+
 use crate::directory::Directory;
 use crate::mail::Mail;
+use crate::outbox::Outbox;
 use desk::Press;
 use journal::Moment;
 use std::alloc::Global;
@@ -12,32 +15,64 @@ pub const TICK_MILLISECONDS: u64 = 100;
 
 /// A clock that actors are told the time by.
 pub trait Beat {
+    // It ticks at a moment.
+    ghost ticks: { Self → ℕ → Self → Type 0 };
+
     /// Waits for the next tick, and gives its moment. `None` where there will be none.
-    fn next(&mut self) -> Option<Moment>;
+    fn next(&mut self) -> Option<Moment>
+        ensures { IfSome result (λ at. ticks self.old at self.new) };
 }
 
-/// Sends each moment of a clock to every mailbox of the directory that is empty, for as long as the clock
-/// goes: where mail waits its actor is told the time by that, and ticks must not pile up before one that is
-/// slower than the clock. An actor that has ended is left out, and so are all where memory is refused: they
-/// get the next tick.
-pub fn deadline_loop<P: Press, S: Drop, B: Beat, R: Wait>(
+/// The mailboxes of all actors, as a clock sees them.
+pub trait Bells {
+    // A tick of a moment may be put into them.
+    ghost may_ring: { Self → ℕ → Type 0 };
+
+    /// Puts a tick of a moment into each mailbox that is empty.
+    fn ring<R: Wait>(&self, rt: &R, alloc: Global, at: Moment)
+        requires may { may_ring self.now at };
+}
+
+/// Puts a tick into a mailbox that is empty: where mail waits its actor is told the time by that, and ticks must
+/// not pile up before one that is slower than the clock. An actor that has ended is left out, and so is one for
+/// whose tick there is no memory: it gets the next.
+fn tell<P: Press, S: Drop, O: Outbox<Mail<P, S>>, R: Wait>(rt: &R, mailbox: &O, at: Moment)
+    requires may { O.seemed_empty mailbox.now → O.may_put mailbox.now (Mail.Tick at) }
+{
+    if mailbox.is_empty() {
+        let _ = mailbox.put(rt, Mail::Tick(at));
+    }
+}
+
+/// Where there is no memory for the list of the mailboxes, all get the next tick.
+impl<P: Press, S: Drop> Bells for Directory<P, S> {
+    // What its channels carry no contract sees.
+    ghost may_ring = { λ _ _. Unit {0} };
+
+    fn ring<R: Wait>(&self, rt: &R, alloc: Global, at: Moment) {
+        let Ok(mailboxes) = self.mailboxes(rt, alloc) else {
+            return;
+        };
+        for mailbox in mailboxes {
+            tell(rt, &mailbox, at);
+        }
+    }
+}
+
+/// Puts each tick of a clock, and nothing else, into the mailboxes, for as long as the clock goes.
+pub fn deadline_loop<D: Bells, B: Beat, R: Wait>(
     rt: &R,
     alloc: Global,
-    directory: &Directory<P, S>,
+    directory: &D,
     clock: &mut B,
-) {
+)
+    requires may { (before after : B) (at : ℕ) → B.ticks before at after → D.may_ring directory.now at }
+{
     for _ in rt.forever() {
         let Some(at) = clock.next() else {
             return;
         };
-        let Ok(mailboxes) = directory.mailboxes(rt, alloc) else {
-            continue;
-        };
-        for mailbox in mailboxes {
-            if mailbox.is_empty() {
-                let _ = mailbox.send(rt, Mail::Tick(at));
-            }
-        }
+        directory.ring(rt, alloc, at);
     }
     unreachable!()
 }

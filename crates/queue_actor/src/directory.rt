@@ -1,10 +1,11 @@
 //! The directory of the queues that are served: names, mailboxes and desks.
 
-ghost use Rattle.std.specs.Prelude.{◌≡◌, ◌⊎◌, ◌==◌, Some, IfSome, IfOk, IfErr};
+ghost use Rattle.std.specs.Prelude.{◌≡◌, ◌⊎◌, ◌==◌, [], ◌∷◌, ◌++◌, false, true, Ok, Err, None, Some, IfSome, IfOk, IfErr, OnOk, OnErr};
 ghost use Rattle.std.specs.Arc.{arc_value};
 ghost use Rattle.std.specs.List.{position};
+ghost use Rattle.std.specs.Str.{bytes_eq};
 ghost use Rattle.message.specs.declared.fault.Fault.TheVariants.{OutOfMemory, QueueDoesNotExist, QueueNameExists, OverLimit};
-ghost use Rattle.redrive.specs.Catalog.{IsDirectory, names_listed, uid_of_name};
+ghost use Rattle.redrive.specs.Catalog.{IsDirectory, has_uid, names_listed, with_target, without_uid};
 ghost use Rattle.desk.specs.Views.{IsKnown, IsNewPass};
 ghost use Rattle.queue_actor.specs.Calling.{HasAsked};
 
@@ -16,38 +17,43 @@ use journal::Moment;
 use message::{Fault, QueueName};
 use queue_config::Limits;
 use queue_core::Command;
-use redrive::Catalog;
+use redrive::{Catalog, in_order, is_same_name};
 use std::alloc::Global;
 use std::marker::Model;
 use std::sync::{Arc, Mutex, Wait};
 
-/// A queue that is served: its uid, its desk, a pass of that desk, and the mailbox of its actor. The pass
-/// in the directory is never called with: passes are split off from it.
+/// A queue that is served: its uid and its name, its desk, a pass of that desk, and the mailbox of its actor.
+/// The pass in the directory is never called with: passes are split off from it.
 #[derive(Drop)]
 pub struct Served<P: Press, S: Drop> {
     pub uid: u64,
+    pub name: QueueName,
     pub desk: Arc<Desk<P>>,
     pub pass: Pass<P>,
     pub mailbox: Sender<Mail<P, S>>,
     pub ghost together: { pass.desk ≡ arc_value desk },
-    pub ghost named: { pass.start.uid ≡ uid },
+    pub ghost opened: { pass.start.uid ≡ uid },
+    pub ghost named: { pass.start.name ≡ name },
 }
 
 impl<P: Press, S: Drop> Served<P, S> {
-    /// A queue that is served at a desk, with a pass of that desk. Its uid is the one under which it was
-    /// opened.
+    /// A queue that is served at a desk, with a pass of that desk. Its uid and its name are those under which it
+    /// was opened.
     pub fn new(
         uid: u64,
+        name: QueueName,
         desk: Arc<Desk<P>>,
         pass: Pass<P>,
         mailbox: Sender<Mail<P, S>>,
     ) -> Served<P, S>
         requires desk { pass.desk ≡ arc_value desk }
         requires uid { pass.start.uid ≡ uid }
-        ensures { (result.uid ≡ uid) × (result.desk ≡ desk) × (result.pass ≡ pass) }
+        requires name { pass.start.name ≡ name }
+        ensures { (result.uid ≡ uid) × (result.name ≡ name) × (result.desk ≡ desk) × (result.pass ≡ pass) }
     {
         Served {
             uid,
+            name,
             desk,
             pass,
             mailbox,
@@ -57,13 +63,13 @@ impl<P: Press, S: Drop> Served<P, S> {
     /// The same queue once more, with a pass that is split off. `OutOfMemory` is the only refusal.
     fn again(&mut self) -> Result<Served<P, S>, Fault>
         ensures errors { IfErr result (λ fault. fault ≡ OutOfMemory) }
-        ensures other { IfOk result (λ queue. (queue.uid ≡ self.old.uid) × (arc_value queue.desk ≡ arc_value self.old.desk) × IsNewPass self.old.pass queue.pass) }
+        ensures other { IfOk result (λ queue. (queue.uid ≡ self.old.uid) × (queue.name ≡ self.old.name) × (arc_value queue.desk ≡ arc_value self.old.desk) × IsNewPass self.old.pass queue.pass) }
         ensures same { (self.new.uid ≡ self.old.uid) × (self.new.pass ≡ self.old.pass) }
     {
         let desk = Arc::try_clone(&self.desk)?;
         let mailbox = self.mailbox.clone()?;
         let pass = self.desk.pass(&mut self.pass);
-        Ok(Served::new(self.uid, desk, pass, mailbox))
+        Ok(Served::new(self.uid, self.name, desk, pass, mailbox))
     }
 
     /// Asks the queue's desk once, with the pass that came with it.
@@ -81,12 +87,7 @@ impl<P: Press, S: Drop> Served<P, S> {
         ensures call { HasAsked self.pass at command result.reply result.pass }
         ensures known { IsKnown result.pass }
     {
-        let Served {
-            uid: _,
-            desk,
-            mut pass,
-            mailbox: _,
-        } = self;
+        let Served { desk, mut pass, .. } = self;
         let reply = desk.ask(rt, alloc, &mut pass, at, &command, gate).reply;
         Answer::new(desk, pass, command, reply)
     }
@@ -107,30 +108,47 @@ impl<P: Press, S: Drop> Entries<P, S> {
         self.served.iter().position(|queue| queue.uid == uid)
     }
 
-    /// The queue of a name once more, where it is served.
-    fn find_name(&mut self, name: &QueueName) -> Result<Option<Served<P, S>>, Fault>
-        ensures uid { IfOk result (λ found. IfSome found (λ queue. uid_of_name self.old.catalog name.now ≡ Some queue.uid)) }
-        ensures errors { IfErr result (λ fault. fault ≡ OutOfMemory) }
+    /// The place of the queue of a name.
+    fn place_named(&self, name: &QueueName) -> Option<usize>
+        ensures { result ≡ position (λ queue. bytes_eq queue.name name.now) self.now.served.items }
     {
-        match self.catalog.find(name) {
-            Some(uid) => self.find(uid),
-            None => Ok(None),
-        }
+        self.served
+            .iter()
+            .position(|queue| is_same_name(&queue.name, name))
     }
 
-    /// The queue of a uid once more, where it is served.
-    fn find(&mut self, uid: u64) -> Result<Option<Served<P, S>>, Fault>
-        ensures uid { IfOk result (λ found. IfSome found (λ queue. queue.uid ≡ uid)) }
+    /// The queue of a name once more, where it is served.
+    fn find_name(&mut self, name: &QueueName) -> Result<Option<Served<P, S>>, Fault>
+        ensures name { IfOk result (λ found. IfSome found (λ queue. queue.name ≡ name.now)) }
+        ensures absent { result ≡ Ok None → position (λ queue. bytes_eq queue.name name.now) self.old.served.items ≡ None }
         ensures errors { IfErr result (λ fault. fault ≡ OutOfMemory) }
     {
-        match self.place_of(uid) {
+        match self.place_named(name) {
             Some(place) => Ok(Some(self.served[place].again()?)),
             None => Ok(None),
         }
     }
 
+    /// The queue of a uid once more: `None` where it has its name and is not served, and `QueueDoesNotExist`
+    /// where no queue has the uid.
+    fn find(&mut self, uid: u64) -> Result<Option<Served<P, S>>, Fault>
+        ensures uid { IfOk result (λ found. IfSome found (λ queue. queue.uid ≡ uid)) }
+        ensures absent { result ≡ Err QueueDoesNotExist → has_uid self.old.catalog uid ≡ false }
+        ensures errors { IfErr result (λ fault. (fault ≡ QueueDoesNotExist) ⊎ (fault ≡ OutOfMemory)) }
+    {
+        match self.place_of(uid) {
+            Some(place) => Ok(Some(self.served[place].again()?)),
+            None if self.catalog.has_uid(uid) => Ok(None),
+            None => Err(Fault::QueueDoesNotExist),
+        }
+    }
+
     /// Adds the queue of a uid that has a name.
     fn serve(&mut self, queue: Served<P, S>, target: u64) -> Result<(), Fault>
+        ensures ok { OnOk result (self.new.served.items ≡ self.old.served.items ++ queue ∷ []) }
+        ensures target { OnOk result (self.new.catalog ≡ with_target self.old.catalog queue.uid target) }
+        ensures named { OnOk result (has_uid self.old.catalog queue.uid ≡ true) }
+        ensures err { OnErr result (self.new.served.items ≡ self.old.served.items) }
         ensures errors { IfErr result (λ fault. (fault ≡ QueueDoesNotExist) ⊎ (fault ≡ OutOfMemory)) }
     {
         self.served.reserve(1)?;
@@ -141,14 +159,25 @@ impl<P: Press, S: Drop> Entries<P, S> {
         Ok(())
     }
 
-    /// Takes out the queue of a uid: its name, and the queue where it is served.
-    fn remove(&mut self, uid: u64) -> (bool, Option<Served<P, S>>) {
-        let named = self.catalog.remove(uid);
-        let served = match self.place_of(uid) {
+    /// Takes the queue of a uid from those that are served.
+    fn unserve(&mut self, uid: u64) -> Option<Served<P, S>>
+        ensures uid { IfSome result (λ queue. queue.uid ≡ uid) }
+        ensures catalog { self.new.catalog ≡ self.old.catalog }
+    {
+        match self.place_of(uid) {
             Some(place) => Some(self.served.remove(place)),
             None => None,
-        };
-        (named, served)
+        }
+    }
+
+    /// Takes out the queue of a uid: its name, and the queue where it is served.
+    fn remove(&mut self, uid: u64) -> (bool, Option<Served<P, S>>)
+        ensures named { result.0 ≡ has_uid self.old.catalog uid }
+        ensures catalog { self.new.catalog ≡ without_uid self.old.catalog uid }
+        ensures served { IfSome result.1 (λ queue. queue.uid ≡ uid) }
+    {
+        let named = self.catalog.remove(uid);
+        (named, self.unserve(uid))
     }
 
     /// The mailboxes of all queues that are served.
@@ -230,16 +259,18 @@ impl<P: Press, S: Drop> Directory<P, S> {
         self.entries.lock(rt).catalog.find(name)
     }
 
-    /// The queue of a uid, where it is served: its desk, its mailbox, and a pass of its own.
+    /// The queue of a uid: its desk, its mailbox, and a pass of its own. `None` where it has its name and is not
+    /// served yet; it is `QueueDoesNotExist` where no queue has the uid.
     pub fn find_uid<R: Wait>(&self, rt: &R, uid: u64) -> Result<Option<Served<P, S>>, Fault>
         ensures uid { IfOk result (λ found. IfSome found (λ queue. queue.uid ≡ uid)) }
-        ensures errors { IfErr result (λ fault. fault ≡ OutOfMemory) }
+        ensures errors { IfErr result (λ fault. (fault ≡ QueueDoesNotExist) ⊎ (fault ≡ OutOfMemory)) }
     {
         self.entries.lock(rt).find(uid)
     }
 
     /// The queue of a name, where it is served: its desk, its mailbox, and a pass of its own.
     pub fn find<R: Wait>(&self, rt: &R, name: &QueueName) -> Result<Option<Served<P, S>>, Fault>
+        ensures name { IfOk result (λ found. IfSome found (λ queue. queue.pass.start.name ≡ name.now)) }
         ensures errors { IfErr result (λ fault. fault ≡ OutOfMemory) }
     {
         self.entries.lock(rt).find_name(name)
@@ -257,7 +288,8 @@ impl<P: Press, S: Drop> Directory<P, S> {
         self.entries.lock(rt).catalog.set_target(uid, target)
     }
 
-    /// The names that begin with a prefix, in the order of their bytes.
+    /// The names that begin with a prefix, in the order of their bytes. They are put in order once the lock is let
+    /// go.
     pub fn list<R: Wait>(
         &self,
         rt: &R,
@@ -267,14 +299,17 @@ impl<P: Press, S: Drop> Directory<P, S> {
         ensures ok { IfOk result (λ names. (listed : _) × IsDirectory listed × (names.items ≡ names_listed listed prefix.now)) }
         ensures errors { IfErr result (λ fault. fault ≡ OutOfMemory) }
     {
-        self.entries.lock(rt).catalog.list(alloc, prefix)
+        let names = self.entries.lock(rt).catalog.names_with(alloc, prefix)?;
+        in_order(alloc, names)
     }
 
-    /// The names of the queues whose target the queue of a uid is, in the order of their bytes.
+    /// The names of the queues whose target the queue of a uid is, in the order of their bytes. They are put in
+    /// order once the lock is let go.
     pub fn sources<R: Wait>(&self, rt: &R, alloc: Global, uid: u64) -> Result<Vec<QueueName>, Fault>
         ensures errors { IfErr result (λ fault. (fault ≡ QueueDoesNotExist) ⊎ (fault ≡ OutOfMemory)) }
     {
-        self.entries.lock(rt).catalog.sources(alloc, uid)
+        let names = self.entries.lock(rt).catalog.names_to(alloc, uid)?;
+        in_order(alloc, names)
     }
 
     /// The mailboxes of all queues that are served.

@@ -7,7 +7,7 @@ ghost use Rattle.futures.specs.Poll.{IfReady, OnPending};
 ghost use Rattle.futures.specs.Task.{Covers, Hears, Keeps};
 ghost use Rattle.message.specs.declared.fault.Fault.TheVariants.{OutOfMemory};
 ghost use Rattle.queue_actor.specs.Answered.{Answered};
-ghost use Rattle.queue_actor.specs.Asking.{Asking, IfSent, IfUnsent, IsAskOf, MayGive, WaitsAt};
+ghost use Rattle.queue_actor.specs.Asking.{Asking, IfSent, IfUnsent, MayGive, WaitsAt, question, question_of, waiting_question};
 
 use crate::answer::Answer;
 use crate::fault::AskFault;
@@ -25,21 +25,22 @@ use queue_core::Command;
 use std::alloc::Global;
 use std::marker::Model;
 use std::mem;
+use std::snapshot::Snapshot;
 use std::sync::{Arc, Wait};
 
 /// How far an ask is.
 #[derive(Drop)]
 enum Progress<P: Press> {
-    /// The mail was put, and the answer comes here.
-    Sent(Receiver<Answer<P>>),
+    /// The mail was put, and the answer comes here. What was asked contracts know.
+    Sent(Receiver<Answer<P>>, Snapshot<Ask<P, Sender<Answer<P>>>>),
     /// The mail never left.
     Unsent(Pass<P>),
     /// What came was given.
     Over,
 }
 
-/// The future of the answer to one ask. Contracts see how far it is: the mail was put, with a slot for
-/// the answer; or it never left, and the pass is kept; or what came was given.
+/// The future of the answer to one ask. Contracts see how far it is: the mail was put, with what it asks and a
+/// slot for the answer; or it never left, and the pass is kept; or what came was given.
 #[derive(Drop)]
 pub struct AskFuture<P: Press> {
     progress: Progress<P>,
@@ -54,8 +55,8 @@ impl<P: Press> Model for AskFuture<P> {
 }
 
 impl<P: Press> AskFuture<P> {
-    /// Puts an ask into a mailbox. `OutOfMemory` is the only refusal, and the pass comes back. Where
-    /// nobody takes mail from the mailbox any more, the future has the pass.
+    /// Puts an ask into a mailbox, which has to take an ask of these parts. `OutOfMemory` is the only refusal, and
+    /// the pass comes back. Where nobody takes mail from the mailbox any more, the future has the pass.
     pub fn new<R: Wait, O: Outbox<Mail<P, Sender<Answer<P>>>>>(
         rt: &R,
         alloc: Global,
@@ -66,8 +67,11 @@ impl<P: Press> AskFuture<P> {
         command: Command,
         wait_until: Moment,
     ) -> Result<AskFuture<P>, AskFault<P>>
-        requires { pass.desk ≡ arc_value desk }
-        ensures sent { IfOk result (λ f. IfSent f (λ source. (ask : _) × IsAskOf ask (arc_value desk) pass moment command wait_until × (canceled_source ask.reply ≡ source) × O.was_put mailbox.now (Mail.Ask ask))) }
+        requires desk { pass.desk ≡ arc_value desk }
+        requires may { (ask : Ask P (Sender Answered) P.Told) → question_of ask ≡ question (arc_value desk) pass moment command wait_until → O.may_put mailbox.now (Mail.Ask ask) }
+        ensures sent { IfOk result (λ f. IfSent f (λ asked source.
+            (asked ≡ question (arc_value desk) pass moment command wait_until)
+            × ((ask : Ask P (Sender Answered) P.Told) × (question_of ask ≡ asked) × (canceled_source ask.reply ≡ source) × O.was_put mailbox.now (Mail.Ask ask)))) }
         ensures unsent { IfOk result (λ f. IfUnsent f (λ kept. (kept ≡ pass) × O.is_closed mailbox.now)) }
         ensures begun { IfOk result (λ f. f ≢ Asking.Over) }
         ensures errors { IfErr result (λ e. (e.fault ≡ OutOfMemory) × (e.pass ≡ Some pass)) }
@@ -79,9 +83,10 @@ impl<P: Press> AskFuture<P> {
             });
         };
         let ask = Ask::new(desk, pass, moment, command, wait_until, reply);
+        let asked = Snapshot::of(&ask);
         match mailbox.put(rt, Mail::Ask(ask)) {
             Ok(()) => Ok(AskFuture {
-                progress: Progress::Sent(slot),
+                progress: Progress::Sent(slot, asked),
             }),
             Err(SendError::Disconnected(Mail::Ask(ask))) => Ok(AskFuture {
                 progress: Progress::Unsent(ask.pass),
@@ -108,12 +113,13 @@ impl<P: Press> Future for AskFuture<P> {
         ensures same { OnPending result ((output : Result Answered (AskFault P P.Told)) → MayGive self.new output → MayGive self.old output) }
         ensures waiting { OnPending result ((source : ℕ) × WaitsAt self.old source) }
         ensures slot { OnPending result ((source : ℕ) × WaitsAt self.new source × Hears cx.new source) }
+        ensures question { OnPending result (waiting_question self.new ≡ waiting_question self.old) }
         ensures registered { OnPending result (Covers cx.new (WaitsAt self.new)) }
         ensures kept { Keeps cx.old cx.new }
         ensures over { IfReady result (λ _. self.new ≡ Asking.Over) }
     {
         let answer = match &mut self.progress {
-            Progress::Sent(slot) => match slot.poll(cx) {
+            Progress::Sent(slot, _) => match slot.poll(cx) {
                 Poll::Pending => return Poll::Pending,
                 Poll::Ready(answer) => answer.ok(),
             },

@@ -34,7 +34,7 @@ mod tests;
 
 pub use actor::Actor;
 pub use answer::Answer;
-pub use deadline::{Beat, TICK_MILLISECONDS, deadline_loop};
+pub use deadline::{Beat, Bells, TICK_MILLISECONDS, deadline_loop};
 pub use directory::{Directory, Served};
 pub use fault::AskFault;
 pub use future::AskFuture;

@@ -1,15 +1,17 @@
 //! What an actor does beside its queue: dead letters go to other queues, and the directory is told of a queue
 //! that is closed and of one that has another target.
 
-ghost use Rattle.std.specs.Prelude.{◌≡◌, ℕ};
+ghost use Rattle.std.specs.Prelude.{◌≡◌, ℕ, None, Err, IfOk, IfSome, IfNone};
+ghost use Rattle.message.specs.declared.fault.Fault.TheVariants.{QueueDoesNotExist};
 ghost use Rattle.queue_core.specs.declared.parcel.Parcel.{Parcel};
 ghost use Rattle.queue_actor.specs.Serving.{Enters, has_closed};
-ghost use Rattle.queue_actor.specs.Calling.{HasArrived, IfAccepted, is_gone, parcel_in};
+ghost use Rattle.queue_actor.specs.Calling.{HasArrived, HasMissed, IfAccepted, IfGone, parcel_in};
 ghost use Rattle.queue_actor.specs.declared.parcels.Delivery.{Delivery};
+ghost use Rattle.queue_actor.specs.declared.parcels.Delivery.TheVariants as deliveries;
 
 use crate::actor::Actor;
 use crate::answer::Answer;
-use crate::directory::Directory;
+use crate::directory::{Directory, Served};
 use desk::{Gate, Press};
 use journal::Moment;
 use message::Fault;
@@ -17,20 +19,20 @@ use queue_core::{Command, Parcel, Reply};
 use std::alloc::Global;
 use std::sync::Wait;
 
-/// What became of a parcel at the queue that it is for. `T` is what shows that it was accepted.
+/// What became of a parcel at the queue that it is for. `T` is what shows it.
 #[derive(Clone, Copy, Drop)]
 pub enum Delivery<T> {
     /// The queue has it, from now on or from an earlier delivery.
     Accepted(T),
-    /// The queue is gone.
-    Gone,
+    /// The queue is gone: it has shown that it is closed, or, where nothing is shown, no queue has its uid.
+    Gone(Option<T>),
     /// The queue refused it, or was not reached.
     Refused,
 }
 
 /// The directory of the queues, as the actor of one of them sees it.
 pub trait Targets {
-    /// What shows that a parcel was accepted.
+    /// What shows that a parcel was accepted, or that its queue is closed.
     type Receipt: Drop;
 
     // What is known of a delivery at a moment.
@@ -89,29 +91,38 @@ pub(crate) fn enter<D: Targets, R: Wait>(
     }
 }
 
-/// Whether a reply says that its queue is gone.
-fn is_gone(reply: &Result<Reply, Fault>) -> bool
-    ensures { result ≡ is_gone reply.now }
-{
-    matches!(reply, Err(Fault::QueueDoesNotExist))
-}
-
-/// Whether a uid may have a name, be its queue served or not. Where memory is refused it may.
-fn may_be_named<P: Press, S: Drop, R: Wait>(
+/// Hands a parcel to the queue that was found for it. The queue is gone where none was found that has the uid, or
+/// where it answers that it is closed. One that has its name will be served, and its parcels wait.
+fn hand_over<P: Press, S: Drop, R: Wait, G: Gate>(
     rt: &R,
     alloc: Global,
-    uid: u64,
-    directory: &Directory<P, S>,
-) -> bool {
-    !matches!(
-        directory.sources(rt, alloc, uid),
-        Err(Fault::QueueDoesNotExist)
-    )
+    at: Moment,
+    parcel: Parcel,
+    found: Result<Option<Served<P, S>>, Fault>,
+    gate: &G,
+) -> Delivery<Answer<P>>
+where
+    P::Told: Drop,
+    requires uid { IfOk found (λ known. IfSome known (λ queue. queue.uid ≡ parcel.target)) }
+    ensures accepted { IfAccepted result (HasArrived at parcel) }
+    ensures gone { IfGone result (λ shown. IfSome shown (HasMissed at parcel) × IfNone shown (found ≡ Err QueueDoesNotExist)) }
+    ensures absent { found ≡ Err QueueDoesNotExist → result ≡ deliveries.Gone None }
+{
+    let queue = match found {
+        Ok(Some(queue)) => queue,
+        Err(Fault::QueueDoesNotExist) => return Delivery::Gone(None),
+        Ok(None) | Err(_) => return Delivery::Refused,
+    };
+    let answer = queue.ask(rt, alloc, at, Command::Arrive { parcel }, gate);
+    match answer.reply() {
+        Ok(_) => Delivery::Accepted(answer),
+        Err(Fault::QueueDoesNotExist) => Delivery::Gone(Some(answer)),
+        Err(_) => Delivery::Refused,
+    }
 }
 
 /// The directory is asked for the queue of a parcel, and its lock is let go before the queue's desk is
-/// asked. A parcel whose queue is not served is gone where its name is gone too: a queue that has its name
-/// will be served, and its parcels wait.
+/// asked.
 impl<P: Press, S: Drop> Targets for Directory<P, S>
 where
     P::Told: Drop,
@@ -119,8 +130,9 @@ where
     /// What the queue answered.
     type Receipt = Answer<P>;
 
-    // A parcel that was accepted was so at the queue of its uid.
-    ghost was_told = { λ _ at parcel delivery. IfAccepted delivery (HasArrived at parcel) };
+    // A parcel that was accepted was so at the queue of its uid, and a queue that shows to be closed has its uid.
+    // That no queue has the uid lies under the lock, and no contract sees it.
+    ghost was_told = { λ _ at parcel delivery. IfAccepted delivery (HasArrived at parcel) × IfGone delivery (λ shown. IfSome shown (HasMissed at parcel)) };
 
     fn deliver<R: Wait, G: Gate>(
         &self,
@@ -130,21 +142,8 @@ where
         parcel: Parcel,
         gate: &G,
     ) -> Delivery<Answer<P>> {
-        let target = parcel.target;
-        let found = match self.find_uid(rt, target) {
-            Ok(Some(found)) => found,
-            Ok(None) if may_be_named(rt, alloc, target, self) => return Delivery::Refused,
-            Ok(None) => return Delivery::Gone,
-            Err(_) => return Delivery::Refused,
-        };
-        let answer = found.ask(rt, alloc, at, Command::Arrive { parcel }, gate);
-        if answer.reply().is_ok() {
-            Delivery::Accepted(answer)
-        } else if is_gone(answer.reply()) {
-            Delivery::Gone
-        } else {
-            Delivery::Refused
-        }
+        let found = self.find_uid(rt, parcel.target);
+        hand_over(rt, alloc, at, parcel, found, gate)
     }
 
     // What lies under the lock no contract sees.
@@ -200,7 +199,7 @@ where
         let target = parcel.target;
         let command = match targets.deliver(rt, alloc, at, parcel, gate) {
             Delivery::Accepted(_) => Command::Settle { number },
-            Delivery::Gone => Command::Orphan { target },
+            Delivery::Gone(_) => Command::Orphan { target },
             Delivery::Refused => return false,
         };
         self.ask(rt, alloc, at, &command, gate).is_ok()

@@ -1,36 +1,53 @@
--- Names listed one after another.
-use Rattle.std.proofs.Common.{◌≡◌, ℕ, ◌+◌, ◌<◌, Bool, true, false, cond, List, [], ◌∷◌, ◌++◌, length, get_or, take, map, refl, sym, ap, ◌∙◌}
+-- Names gathered and put in order, one after another.
+use Rattle.std.proofs.Common.{◌≡◌, ℕ, ◌+◌, ◌<◌, Bool, true, false, cond, List, [], ◌∷◌, ◌++◌, length, get_or, take, map, refl, sym, ap, ◌∙◌, arith}
 use Rattle.std.specs.Prelude.{nat_eq, filter, fold}
 use Rattle.std.specs.List.{starts_with}
 use Rattle.std.proofs.lemmas.List.{take_more}
-use Rattle.redrive.specs.Listing.{put_name, listed_names}
+use Rattle.redrive.specs.Listing.{put_name, in_order, names_beginning}
 
 pub fold-if : (b : Bool) (order : List (List ℕ)) (x : List ℕ) (xs : List (List ℕ)) → fold put_name order (cond b (x ∷ xs) xs) ≡ fold put_name (cond b (put_name order x) order) xs
 fold-if true order x xs = refl
 fold-if false order x xs = refl
 
-module _ (p : List ℕ → Bool) where
-  fold-filter : (order names : List (List ℕ)) (name : List ℕ)
-      → fold put_name order (filter p (names ++ name ∷ [])) ≡ cond (p name) (put_name (fold put_name order (filter p names)) name) (fold put_name order (filter p names))
-  fold-filter order [] name = fold-if (p name) order name []
-  fold-filter order (x ∷ names) name =
-      fold-if (p x) order x (filter p (names ++ name ∷ []))
-      ∙ fold-filter (cond (p x) (put_name order x) order) names name
-      ∙ ap (λ (all : List (List ℕ)). cond (p name) (put_name all name) all) (sym (fold-if (p x) order x (filter p names)))
+-- ---- names that are gathered
 
-pub listed_names-push : (prefix : List ℕ) (names : List (List ℕ)) (name : List ℕ)
-    → listed_names prefix (names ++ name ∷ []) ≡ cond (starts_with nat_eq name prefix) (put_name (listed_names prefix names) name) (listed_names prefix names)
-listed_names-push prefix names name = fold-filter (λ n. starts_with nat_eq n prefix) [] names name
+filter-if : (b : Bool) (x : List ℕ) (xs ys : List (List ℕ)) → cond b (x ∷ xs) xs ++ ys ≡ cond b (x ∷ (xs ++ ys)) (xs ++ ys)
+filter-if true x xs ys = refl
+filter-if false x xs ys = refl
+
+append-if : (b : Bool) (xs : List (List ℕ)) (x : List ℕ) → xs ++ cond b (x ∷ []) [] ≡ cond b (xs ++ x ∷ []) xs
+append-if true xs x = refl
+append-if false [] x = refl
+append-if false (y ∷ ys) x = ap (λ (all : List (List ℕ)). y ∷ all) (append-if false ys x)
+
+module _ (p : List ℕ → Bool) where
+  filter-push : (names : List (List ℕ)) (name : List ℕ) → filter p (names ++ name ∷ []) ≡ filter p names ++ cond (p name) (name ∷ []) []
+  filter-push [] name = refl
+  filter-push (x ∷ names) name =
+      ap (λ (all : List (List ℕ)). cond (p x) (x ∷ all) all) (filter-push names name)
+      ∙ sym (filter-if (p x) x (filter p names) (cond (p name) (name ∷ []) []))
 
 pub map-push : {X K : Type 0} (key : X → K) (xs : List X) (x : X) → map key (xs ++ x ∷ []) ≡ map key xs ++ key x ∷ []
 map-push key [] x = refl
 map-push key (y ∷ ys) x = ap (λ (ks : List _). key y ∷ ks) (map-push key ys x)
 
--- the names of a list's elements, one element further
-pub listed_names-more : {X : Type 0} (key : X → List ℕ) (prefix : List ℕ) (xs : List X) (i : ℕ) (x : X) → i < length xs → x ≡ get_or xs i x
-    → listed_names prefix (map key (take (i + 1) xs))
-    ≡ cond (starts_with nat_eq (key x) prefix) (put_name (listed_names prefix (map key (take i xs))) (key x)) (listed_names prefix (map key (take i xs)))
-listed_names-more key prefix xs i x l is =
-    ap (λ (some : List _). listed_names prefix (map key some)) (take_more xs i x l ∙ ap (λ y. take i xs ++ y ∷ []) (sym is))
-    ∙ ap (listed_names prefix) (map-push key (take i xs) x)
-    ∙ listed_names-push prefix (map key (take i xs)) (key x)
+-- the names of a list's elements that begin with a prefix, one element further
+pub names_beginning-more : {X : Type 0} (key : X → List ℕ) (prefix : List ℕ) (xs : List X) (i : ℕ) (x : X) → i < length xs → x ≡ get_or xs i x
+    → names_beginning prefix (map key (take (i + 1) xs))
+    ≡ cond (starts_with nat_eq (key x) prefix) (names_beginning prefix (map key (take i xs)) ++ key x ∷ []) (names_beginning prefix (map key (take i xs)))
+names_beginning-more key prefix xs i x l is =
+    ap (λ (some : List _). names_beginning prefix (map key some)) (take_more xs i x l ∙ ap (λ y. take i xs ++ y ∷ []) (sym is))
+    ∙ ap (names_beginning prefix) (map-push key (take i xs) x)
+    ∙ filter-push (λ n. starts_with nat_eq n prefix) (map key (take i xs)) (key x)
+    ∙ append-if (starts_with nat_eq (key x) prefix) (names_beginning prefix (map key (take i xs))) (key x)
+
+-- names put in order, one name further
+fold-push : (order names : List (List ℕ)) (name : List ℕ) → fold put_name order (names ++ name ∷ []) ≡ put_name (fold put_name order names) name
+fold-push order [] name = refl
+fold-push order (x ∷ names) name = fold-push (put_name order x) names name
+
+pub in_order-more : (names : List (List ℕ)) (i : ℕ) (name : List ℕ) → i < length names → name ≡ get_or names i name
+    → in_order (take (i + 1) names) ≡ put_name (in_order (take i names)) name
+in_order-more names i name l is =
+    ap in_order (take_more names i name l ∙ ap (λ (y : List ℕ). take i names ++ y ∷ []) (sym is))
+    ∙ fold-push [] (take i names) name

@@ -5,7 +5,7 @@ use Rattle.std.specs.Option.{option_map}
 use Rattle.std.specs.Str.{bytes_eq}
 use Rattle.message.specs.declared.fault.Fault.{Fault}
 use Rattle.message.specs.declared.fault.Fault.TheVariants.{QueueDoesNotExist, OverLimit}
-use Rattle.redrive.specs.Listing.{in_order, listed_names}
+use Rattle.redrive.specs.Listing.{in_order, names_beginning}
 use Rattle.redrive.specs.declared.catalog.Registered.{Registered}
 
 -- the uid of the next queue, and the queues in the order in which they were added
@@ -51,13 +51,22 @@ retargeted uid target q = if q.uid == uid then record q { target = target } else
 abbrev pub with_target : Directory → ℕ → ℕ → Directory
 with_target d uid target = record d { queues = map (λ q. retargeted uid target q) d.queues }
 
--- the names that begin with a prefix, in order
-abbrev pub names_listed : Directory → List ℕ → List (List ℕ)
-names_listed d prefix = listed_names prefix (map name_of d.queues)
+-- the names that begin with a prefix, in the order in which they were added, and in that of their bytes
+abbrev pub names_with : Directory → List ℕ → List (List ℕ)
+names_with d prefix = names_beginning prefix (map name_of d.queues)
 
--- the names of the queues whose target a uid is, in order
+abbrev pub names_listed : Directory → List ℕ → List (List ℕ)
+names_listed d prefix = in_order (names_with d prefix)
+
+-- the names of the queues whose target a uid is, in the order in which they were added, and in that of their bytes
+abbrev pub names_to : Directory → ℕ → List (List ℕ)
+names_to d uid = map name_of (filter (λ q. q.target == uid) d.queues)
+
 abbrev pub source_names : Directory → ℕ → List (List ℕ)
-source_names d uid = in_order (map name_of (filter (λ q. q.target == uid) d.queues))
+source_names d uid = in_order (names_to d uid)
+
+abbrev pub names_to_answer : Directory → ℕ → Result (List (List ℕ)) Fault
+names_to_answer d uid = if has_uid d uid then Ok (names_to d uid) else Err QueueDoesNotExist
 
 abbrev pub sources_answer : Directory → ℕ → Result (List (List ℕ)) Fault
 sources_answer d uid = if has_uid d uid then Ok (source_names d uid) else Err QueueDoesNotExist

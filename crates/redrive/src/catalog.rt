@@ -5,7 +5,7 @@ ghost use Rattle.std.specs.List.{position};
 ghost use Rattle.message.specs.Fault.{Meets};
 ghost use Rattle.redrive.specs.Listed.{items_of};
 
-use crate::listing::{list_name, put_name};
+use crate::listing::{add_name, in_order, is_same_name};
 use message::{Fault, QueueName};
 use queue_config::QUEUE_LIMIT;
 use std::alloc::Global;
@@ -42,7 +42,7 @@ impl Model for Catalog {
 }
 
 impl Catalog {
-    ghost use Rattle.redrive.specs.Catalog.{IsDirectory, empty_directory, uid_of_name, has_uid, is_directory_full, add_answer, with_registered, without_uid, retargeted, with_target, names_listed, source_names, sources_answer};
+    ghost use Rattle.redrive.specs.Catalog.{IsDirectory, empty_directory, uid_of_name, has_uid, is_directory_full, add_answer, with_registered, without_uid, retargeted, with_target, names_with, names_to, names_to_answer, names_listed, sources_answer};
 
     /// A directory without queues. Uids begin at 1. It takes no memory.
     pub fn new(alloc: Global) -> Result<Catalog, Fault>
@@ -122,8 +122,22 @@ impl Catalog {
     {
         self.queues
             .iter()
-            .find(|queue| queue.name.as_text() == name.as_text())
+            .find(|queue| is_same_name(&queue.name, name))
             .map(|queue| queue.uid)
+    }
+
+    /// The names that begin with a prefix, in the order in which they were added. `OutOfMemory` is the only
+    /// refusal.
+    pub fn names_with(&self, alloc: Global, prefix: &str) -> Result<Vec<QueueName>, Fault>
+        ensures ok { IfOk result (λ names. names.items ≡ names_with self.now prefix.now) }
+        ensures directory { IsDirectory self.now }
+        ensures errors { IfErr result (λ fault. fault ≡ Fault.OutOfMemory) }
+    {
+        let mut names = Vec::new(alloc);
+        for queue in self.queues.as_slice() {
+            add_name(&mut names, prefix, queue.name)?;
+        }
+        Ok(names)
     }
 
     /// The names that begin with a prefix, in the order of their bytes. `OutOfMemory` is the only
@@ -133,15 +147,12 @@ impl Catalog {
         ensures directory { IsDirectory self.now }
         ensures errors { IfErr result (λ fault. fault ≡ Fault.OutOfMemory) }
     {
-        let mut names = Vec::new(alloc);
-        for queue in self.queues.as_slice() {
-            list_name(&mut names, prefix, queue.name)?;
-        }
-        Ok(names)
+        let names = self.names_with(alloc, prefix)?;
+        in_order(alloc, names)
     }
 
     /// Whether a queue has the uid.
-    fn has(&self, uid: u64) -> bool
+    pub fn has_uid(&self, uid: u64) -> bool
         ensures { result ≡ has_uid self.now uid }
     {
         match self.place_of(uid) {
@@ -150,27 +161,37 @@ impl Catalog {
         }
     }
 
+    /// The names of the queues whose target the queue of a uid is, in the order in which they were added. Where
+    /// no queue has the uid it is `QueueDoesNotExist`, which needs no memory.
+    pub fn names_to(&self, alloc: Global, uid: u64) -> Result<Vec<QueueName>, Fault>
+        ensures answer { Meets (items_of result) (names_to_answer self.now uid) }
+        ensures absent { has_uid self.now uid ≡ false → result ≡ Err Fault.QueueDoesNotExist }
+    {
+        if !self.has_uid(uid) {
+            return Err(Fault::QueueDoesNotExist);
+        }
+        self.names_of_target(alloc, uid)
+    }
+
     /// The names of the queues whose target the queue of a uid is, in the order of their bytes. Where
     /// no queue has the uid it is `QueueDoesNotExist`, which needs no memory.
     pub fn sources(&self, alloc: Global, uid: u64) -> Result<Vec<QueueName>, Fault>
         ensures answer { Meets (items_of result) (sources_answer self.now uid) }
         ensures absent { has_uid self.now uid ≡ false → result ≡ Err Fault.QueueDoesNotExist }
     {
-        if !self.has(uid) {
-            return Err(Fault::QueueDoesNotExist);
-        }
-        self.source_names(alloc, uid)
+        let names = self.names_to(alloc, uid)?;
+        in_order(alloc, names)
     }
 
     /// The names of the queues whose target a uid is.
-    fn source_names(&self, alloc: Global, uid: u64) -> Result<Vec<QueueName>, Fault>
-        ensures ok { IfOk result (λ names. names.items ≡ source_names self.now uid) }
+    fn names_of_target(&self, alloc: Global, uid: u64) -> Result<Vec<QueueName>, Fault>
+        ensures ok { IfOk result (λ names. names.items ≡ names_to self.now uid) }
         ensures errors { IfErr result (λ fault. fault ≡ Fault.OutOfMemory) }
     {
         let mut names = Vec::new(alloc);
         for queue in self.queues.as_slice() {
             if queue.target == uid {
-                put_name(&mut names, queue.name)?;
+                names.push(queue.name)?;
             }
         }
         Ok(names)

@@ -9,7 +9,7 @@ ghost use Rattle.queue_core.specs.Queue.{QueueHistory};
 ghost use Rattle.redrive.specs.Listed.{items_of};
 ghost use Rattle.redrive.specs.WorldRun.{metrics_of};
 
-use crate::listing::{list_name, put_name};
+use crate::listing::{add_name, in_order, is_same_name};
 use crate::queues::Queues;
 use crate::steps::QueueMetrics;
 use journal::{Moment, Ticks};
@@ -150,7 +150,7 @@ impl House {
         self.queues
             .as_slice()
             .iter()
-            .find(|queue| queue.name().as_text() == name.as_text())
+            .find(|queue| is_same_name(&queue.name(), name))
     }
 
     /// The uid of the queue of a name.
@@ -413,9 +413,9 @@ impl House {
     {
         let mut names = Vec::new(alloc);
         for queue in self.queues.as_slice() {
-            list_name(&mut names, prefix, queue.name())?;
+            add_name(&mut names, prefix, queue.name())?;
         }
-        Ok(names)
+        in_order(alloc, names)
     }
 
     /// The names of the queues whose dead-letter queue the queue of a uid is, in the order of their
@@ -440,10 +440,10 @@ impl House {
         let mut names = Vec::new(alloc);
         for queue in self.queues.as_slice() {
             if has_target(queue, uid) {
-                put_name(&mut names, queue.name())?;
+                names.push(queue.name())?;
             }
         }
-        Ok(names)
+        in_order(alloc, names)
     }
 
     /// Looks at every queue at a moment, so that each clock is there at least.

@@ -1,12 +1,12 @@
 -- What was sent to an actor.
-use Rattle.std.proofs.Common.{◌≡◌, ◌≢◌, ℕ, subst}
+use Rattle.std.proofs.Common.{◌≡◌, ◌≢◌, ℕ, ap, ◌∙◌}
 use Rattle.std.specs.Prelude.{⊤}
 use Rattle.std.specs.Arc.{arc_value}
 use Rattle.desk.specs.declared.printing.NoPress.{NoPress}
 use Rattle.futures.specs.Channel.{canceled_source}
 use Rattle.futures.specs.declared.channel.oneshot.Sender.{Sender}
 use Rattle.queue_actor.specs.Answered.{Answered}
-use Rattle.queue_actor.specs.Asking.{Asking, IfSent, IfUnsent, IsAskOf}
+use Rattle.queue_actor.specs.Asking.{Asking, IfSent, IfUnsent, question, question_of}
 use Rattle.queue_actor.specs.declared.mail.Ask.{Ask}
 use Rattle.queue_core.specs.declared.command.Command.{Command}
 use Rattle.sqs_server.specs.declared.queues.Queue.{Queue}
@@ -15,11 +15,10 @@ use Rattle.sqs_server.specs.Times.{wait_limit}
 
 -- an ask whose wait ends at a moment that was computed before, in a mailbox that says nothing
 pub asks : (queue : Queue) (at : ℕ) (command : Command) (seconds until : ℕ) (asking : Asking) → until ≡ wait_limit at seconds →
-    IfSent asking (λ source.
-    (ask : Ask NoPress (Sender Answered) ⊤) × IsAskOf ask (arc_value queue.desk) queue.pass at command until
-    × (canceled_source ask.reply ≡ source) × ⊤) →
+    IfSent asking (λ asked source. (asked ≡ question (arc_value queue.desk) queue.pass at command until)
+    × ((ask : Ask NoPress (Sender Answered) ⊤) × (question_of ask ≡ asked) × (canceled_source ask.reply ≡ source) × ⊤)) →
     IfUnsent asking (λ kept. (kept ≡ queue.pass) × ⊤) → asking ≢ Asking.Over → Asks queue at command seconds asking
-asks queue at command seconds until (Asking.Sent source) e sent unsent begun =
-    ((sent.0, subst (λ u. IsAskOf sent.0 (arc_value queue.desk) queue.pass at command u) e sent.1, sent.2), tt, begun)
+asks queue at command seconds until (Asking.Sent asked source) e sent unsent begun =
+    (sent.0 ∙ ap (question (arc_value queue.desk) queue.pass at command) e, tt, begun)
 asks queue at command seconds until (Asking.Unsent pass) e sent unsent begun = (tt, unsent.0, begun)
 asks queue at command seconds until Asking.Over e sent unsent begun = (tt, tt, begun)

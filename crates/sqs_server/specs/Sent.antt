@@ -17,6 +17,10 @@ abbrev pub denied : Denial → Sent
 denied MethodNotAllowed = record { status = 405; body = codes "{\"message\":\"method not allowed\"}" }
 denied BodyTooLarge = record { status = 413; body = codes "{\"message\":\"body too large\"}" }
 
+-- where too much mail waits for a queue
+abbrev pub busy : Sent
+busy = record { status = 500; body = codes "{\"__type\":\"com.amazonaws.sqs#ServiceUnavailable\",\"message\":\"Too many requests wait for the queue.\"}" }
+
 -- a refusal
 abbrev pub refused : Fault → Sent
 refused fault = record { status = fault_status fault; body = fault_body fault }

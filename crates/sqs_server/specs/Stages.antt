@@ -1,5 +1,5 @@
 -- What comes of each stage of a request: what a client is told, or what is asked of which queue next, at which moment and for which purpose. Of the
--- directory no clause says which queues it has, so one that was found is some queue; and a mailbox says nothing of what is put into it.
+-- directory no clause says which queues it has, so a queue that was found under a name is some queue that was opened under it.
 use Rattle.std.specs.Prelude.{◌≡◌, ◌≢◌, ◌⊎◌, ⊤, ℕ, List, [], codes, Option, Some, None, Result, Ok, Err, IfOk, IfErr, IsSomeAnd, IsErrAnd, MatchBool, option_map}
 use Rattle.std.specs.Arc.{arc_value}
 use Rattle.aws_json.specs.Steps.{result_map}
@@ -9,7 +9,6 @@ use Rattle.aws_json.specs.declared.request.Request.{Request}
 use Rattle.desk.specs.declared.printing.NoPress.{NoPress}
 use Rattle.futures.specs.Channel.{canceled_source, completed_source}
 use Rattle.futures.specs.declared.channel.oneshot.Receiver.{Receiver}
-use Rattle.futures.specs.declared.channel.oneshot.Sender.{Sender}
 use Rattle.http.specs.declared.request.Parts.{Parts}
 use Rattle.http_body_util.specs.Collected as gathering
 use Rattle.http_body_util.specs.Collected.{collected_bytes}
@@ -29,9 +28,8 @@ use Rattle.message.specs.Fault.{Meets}
 use Rattle.message.specs.declared.fault.Fault.{Fault}
 use Rattle.message.specs.declared.fault.Fault.TheVariants.{OutOfMemory, QueueDoesNotExist, QueueNameExists, InvalidAttributeValue, ActorGone}
 use Rattle.queue_actor.specs.Answered.{Answered}
-use Rattle.queue_actor.specs.Asking.{Asking, IfSent, IfUnsent, IsAskOf, MayGive}
+use Rattle.queue_actor.specs.Asking.{Asking, IfSent, IfUnsent, MayGive, question, waiting_question}
 use Rattle.queue_actor.specs.declared.fault.AskFault.{AskFault}
-use Rattle.queue_actor.specs.declared.mail.Ask.{Ask}
 use Rattle.queue_config.specs.Settings.{QueueSettings, RequestedAttributes, default_settings, requested_target, same_settings, settings_with}
 use Rattle.queue_core.specs.declared.command.Command.{Command}
 use Rattle.queue_core.specs.declared.command.Command.TheVariants as commands
@@ -64,7 +62,7 @@ use Rattle.sqs_server.specs.declared.task.Task.{Task}
 use Rattle.sqs_server.specs.declared.task.Task.TheVariants as tasks
 use Rattle.sqs_server.specs.Head.{action_of, asked_of}
 use Rattle.sqs_server.specs.Plan.{Follows, after}
-use Rattle.sqs_server.specs.Sent.{denied, refused, sent_for}
+use Rattle.sqs_server.specs.Sent.{busy, denied, refused, sent_for}
 use Rattle.sqs_server.specs.Task.{Begins}
 use Rattle.sqs_server.specs.Times.{wait_limit}
 
@@ -92,9 +90,15 @@ SentOfError (limits.Body error) sent =
 abbrev pub IsMissed : Fault → Type 0
 IsMissed fault = (fault ≡ QueueDoesNotExist) ⊎ (fault ≡ OutOfMemory)
 
--- a queue was found, and this holds of it; or the request is refused
-abbrev pub Opens : (Queue → Type 0) → Next → Type 0
-Opens P next = ((queue : Queue) × P queue) ⊎ ((fault : Fault) × IsMissed fault × (next ≡ refuses fault))
+-- what a client is sent where no queue is found for it, or too much mail waits for the one that is
+abbrev pub IsTurnedAway : Sent → Type 0
+IsTurnedAway sent = (sent ≡ refused QueueDoesNotExist) ⊎ ((sent ≡ refused OutOfMemory) ⊎ (sent ≡ busy))
+
+-- a queue was found that was opened under a name, and this holds of it; or the request is turned away
+abbrev pub Opens : List ℕ → (Queue → Type 0) → Next → Type 0
+Opens name P next =
+    ((queue : Queue) × (queue.pass.start.name ≡ name) × P queue)
+    ⊎ ((sent : Sent) × IsTurnedAway sent × (next ≡ Ends (Ok sent)))
 
 -- the uid of the dead-letter queue that a queue of a name is to have, 0 for none: it has to be there, and to be another one
 abbrev pub IsTarget : List ℕ → Option (Option (List ℕ)) → Result ℕ Fault → Type 0
@@ -158,9 +162,7 @@ Returned exchange (Err lost) next = Resumes exchange.uid None exchange.at exchan
 -- has left the pass where it was.
 abbrev pub Asks : Queue → ℕ → Command → ℕ → Asking → Type 0
 Asks queue at command seconds asking =
-    IfSent asking (λ source.
-    (ask : Ask NoPress (Sender Answered) ⊤) × IsAskOf ask (arc_value queue.desk) queue.pass at command (wait_limit at seconds)
-    × (canceled_source ask.reply ≡ source))
+    IfSent asking (λ asked source. asked ≡ question (arc_value queue.desk) queue.pass at command (wait_limit at seconds))
     × IfUnsent asking (λ kept. kept ≡ queue.pass) × (asking ≢ Asking.Over)
 
 -- The same, for a purpose. Where there is no memory for the mail, that is what became of the command.
@@ -203,14 +205,14 @@ TellsSources next =
 -- what a task begins with at a moment
 abbrev pub Begun : Task → ℕ → Next → Type 0
 Begun (tasks.Create name wish) at next = next ≡ On (stages.Creating record { name = name; wish = wish; at = at })
-Begun (tasks.Delete name) at next = Opens (λ queue. Sends queue at commands.Close 0 purposes.Change next) next
+Begun (tasks.Delete name) at next = Opens name (λ queue. Sends queue at commands.Close 0 purposes.Change next) next
 Begun (tasks.Set name wish) at next =
-    Opens (λ queue. Targets name wish (λ target.
+    Opens name (λ queue. Targets name wish (λ target.
     Sends queue at (commands.Set wish target) 0 purposes.Change next) next) next
 Begun (tasks.Url name) at next = TellsUrl name next
 Begun (tasks.Urls prefix) at next = TellsUrls prefix next
 Begun (tasks.Sources name) at next = TellsSources next
-Begun (tasks.Ask name step) at next = Opens (λ queue. next ≡ On (stages.Going queue.uid (Some queue) at step)) next
+Begun (tasks.Ask name step) at next = Opens name (λ queue. next ≡ On (stages.Going queue.uid (Some queue) at step)) next
 
 -- the value of the header that names the action
 abbrev pub target_in : Parts → Option (List ℕ)
@@ -238,12 +240,12 @@ pub record IsOrder (creation : Creation) (target : ℕ) (order : Order) : Type 0
   pub rules : order.new.rules.items ≡ []
   pub moment : order.at ≡ creation.at
 
--- one is ordered, and what became of it is awaited where it is told
+-- One is ordered, and what became of it is awaited where it is told. The client may be turned away
 abbrev pub Ordered : Creation → ℕ → Next → Type 0
 Ordered creation target next =
     ((order : Order) × IsOrder creation target order
     × ((made : Receiver Made) × (canceled_source order.made ≡ completed_source made) × (next ≡ On (stages.Making creation made))))
-    ⊎ (next ≡ refuses OutOfMemory)
+    ⊎ ((next ≡ refuses OutOfMemory) ⊎ (next ≡ Ends (Ok busy)))
 
 -- one was ordered: it is there, or one of its name came to be there meanwhile, which is looked for, or it is refused
 abbrev pub Makes : {T : Type 0} → Creation → Result T Fault → Next → Type 0
@@ -255,7 +257,7 @@ Makes creation (Err fault) next = next ≡ refuses fault
 abbrev pub Creates : Creation → Result Next Creation → Type 0
 Creates creation (Ok next) =
     Targets creation.name creation.wish (λ target.
-    Ordered creation target next ⊎ Opens (λ queue. Sends queue creation.at commands.Look 0 (purposes.Existing creation) next) next) next
+    Ordered creation target next ⊎ Opens creation.name (λ queue. Sends queue creation.at commands.Look 0 (purposes.Existing creation) next) next) next
 Creates creation (Err back) = back ≡ creation
 
 -- ---- all stages
@@ -299,7 +301,7 @@ abbrev pub AwaitsAnswer : Exchange → Turn → Type 0
 AwaitsAnswer exchange =
     Leads (λ next. (given : Result Answered (AskFault NoPress ⊤)) × MayGive exchange.future given × Returned exchange given next)
     (λ stage. (left : Exchange) × (stage ≡ stages.Asking left) × (left.uid ≡ exchange.uid) × (left.at ≡ exchange.at)
-    × (left.purpose ≡ exchange.purpose)
+    × (left.purpose ≡ exchange.purpose) × (waiting_question left.future ≡ waiting_question exchange.future)
     × ((given : Result Answered (AskFault NoPress ⊤)) → MayGive left.future given → MayGive exchange.future given))
 
 -- what becomes of a stage that is looked at

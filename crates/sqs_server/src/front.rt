@@ -10,7 +10,7 @@ ghost use Rattle.sqs_server.specs.declared.stage.Purpose.TheVariants as purposes
 ghost use Rattle.sqs_server.specs.declared.stage.Stage.TheVariants as stages;
 ghost use Rattle.sqs_server.specs.declared.task.Task.TheVariants as tasks;
 ghost use Rattle.sqs_server.specs.Responses.{Halts, OnHeld};
-ghost use Rattle.sqs_server.specs.Stages.{AsksFound, AwaitsAnswer, AwaitsQueue, Begun, Changed, Collects, Compared, Creates, GoesOn, IsJudged, IsMissed, IsOrder, IsRead, IsTarget, Looked, Makes, Names, Ordered, Resumes, Returned, Seen, Sends, SentOfError, Tells, TellsSources, TellsUrl, TellsUrls, Turns};
+ghost use Rattle.sqs_server.specs.Stages.{AsksFound, AwaitsAnswer, AwaitsQueue, Begun, Changed, Collects, Compared, Creates, GoesOn, IsJudged, IsMissed, IsOrder, IsRead, IsTarget, IsTurnedAway, Looked, Makes, Names, Ordered, Resumes, Returned, Seen, Sends, SentOfError, Tells, TellsSources, TellsUrl, TellsUrls, Turns};
 ghost use Rattle.sqs_server.specs.Stages as told;
 ghost use Rattle.sqs_server.specs.Task.{Begins};
 ghost use Rattle.sqs_server.specs.Turns.{OnWaits};
@@ -19,8 +19,8 @@ use crate::arriving::Arriving;
 use crate::clock::{moment_of_day, wait_limit};
 use crate::head::{Denial, asked_of};
 use crate::plan::{Outcome, Performed, Step, Then, after};
-use crate::queues::{Made, NewQueue, Order, Queue, Queues};
-use crate::reply::{Sent, denied, refused, sent_for};
+use crate::queues::{Made, NewQueue, Order, Queue, Queues, is_full};
+use crate::reply::{Sent, busy, denied, refused, sent_for};
 use crate::stage::{Creation, Exchange, Halt, Next, Purpose, Stage, Turn};
 use crate::task::{Task, task_of};
 use aws_json::{Prefix, QueueNames, ReplyShape, Request};
@@ -126,13 +126,16 @@ impl<R: Wait + Clock> Front<R> {
         Next::Ends(Ok(sent_for(self.alloc, &answer)))
     }
 
-    /// The queue of a name.
-    fn find(&self, name: &QueueName) -> Result<Queue, Fault>
-        ensures { IfErr result IsMissed }
+    /// The queue of a name, where more mail may wait for it; or what the client is sent.
+    fn find(&self, name: &QueueName) -> Result<Queue, Sent>
+        ensures found { IfOk result (λ queue. queue.pass.start.name ≡ name.now) }
+        ensures errors { IfErr result IsTurnedAway }
     {
-        match self.queues.find(&self.rt, name)? {
-            Some(queue) => Ok(Queue::of(queue)),
-            None => Err(Fault::QueueDoesNotExist),
+        match self.queues.find(&self.rt, name) {
+            Ok(Some(queue)) if is_full(queue.mailbox.len()) => Err(busy()),
+            Ok(Some(queue)) => Ok(Queue::of(queue)),
+            Ok(None) => Err(refused(Fault::QueueDoesNotExist)),
+            Err(fault) => Err(refused(fault)),
         }
     }
 
@@ -229,7 +232,7 @@ impl<R: Wait + Clock> Front<R> {
                 at,
                 step,
             }),
-            Err(fault) => refuses(fault),
+            Err(sent) => Next::Ends(Ok(sent)),
         }
     }
 
@@ -239,7 +242,7 @@ impl<R: Wait + Clock> Front<R> {
     {
         match self.find(name) {
             Ok(queue) => self.ask(queue, at, Command::Close, 0, Purpose::Change),
-            Err(fault) => refuses(fault),
+            Err(sent) => Next::Ends(Ok(sent)),
         }
     }
 
@@ -249,7 +252,7 @@ impl<R: Wait + Clock> Front<R> {
     {
         let queue = match self.find(name) {
             Ok(queue) => queue,
-            Err(fault) => return refuses(fault),
+            Err(sent) => return Next::Ends(Ok(sent)),
         };
         let target = match self.target_uid(name, &wish) {
             Ok(target) => target,
@@ -344,10 +347,13 @@ impl<R: Wait + Clock> Front<R> {
         }
     }
 
-    /// Orders a queue that is not there.
+    /// Orders a queue that is not there, where more orders may wait.
     fn order(&self, creation: Creation, target: u64) -> Next
         ensures { Ordered creation target result }
     {
+        if is_full(self.orders.len()) {
+            return Next::Ends(Ok(busy()));
+        }
         let Ok((tells, made)) = oneshot::channel(self.alloc) else {
             return refuses(Fault::OutOfMemory);
         };
@@ -400,6 +406,7 @@ impl<R: Wait + Clock> Front<R> {
             return Ok(self.order(creation, target));
         }
         match self.queues.find(&self.rt, &creation.name) {
+            Ok(Some(queue)) if is_full(queue.mailbox.len()) => Ok(Next::Ends(Ok(busy()))),
             Ok(Some(queue)) => {
                 let purpose = Purpose::Existing(creation);
                 Ok(self.ask(Queue::of(queue), creation.at, Command::Look, 0, purpose))

@@ -1,7 +1,7 @@
 //! How a queue comes to be served: it gets a uid, a desk, a mailbox, and an actor in a thread of its own.
 //! Queues that clients create are made by one thread, so that no poll has to start a thread.
 
-ghost use Rattle.std.specs.Prelude.{◌≡◌, IfErr, IfOk};
+ghost use Rattle.std.specs.Prelude.{◌≡◌, nat_le, IfErr, IfOk};
 ghost use Rattle.std.specs.Arc.{arc_value};
 ghost use Rattle.desk.specs.Views.{first_knowledge};
 ghost use Rattle.message.specs.declared.fault.Fault.TheVariants.{OutOfMemory};
@@ -61,12 +61,24 @@ impl Queue {
     {
         let Served {
             uid,
+            name: _,
             desk,
             pass,
             mailbox,
         } = served;
         Queue::new(uid, desk, pass, mailbox)
     }
+}
+
+/// How many mails may wait for the actor of a queue, and how many orders for new queues, before requests are
+/// turned away: each may be as long as a request, and stays where its client has left. This project's own choice.
+pub const MAIL_LIMIT: usize = 1_000;
+
+/// Whether as many mails wait as may wait.
+pub(crate) fn is_full(waiting: usize) -> bool
+    ensures { result ≡ nat_le 1000 waiting }
+{
+    MAIL_LIMIT <= waiting
 }
 
 /// The queues that are served.
@@ -79,6 +91,9 @@ struct Ticking<C> {
 }
 
 impl<C: Clock> Beat for Ticking<C> {
+    // Of the wall clock no contract knows anything.
+    ghost ticks = { λ _ _ _. Unit {0} };
+
     fn next(&mut self) -> Option<Moment> {
         thread::sleep(&self.clock, Duration::from_millis(TICK_MILLISECONDS));
         Some(moment_of_day(&self.clock))
@@ -193,6 +208,7 @@ fn start_queue<R: Wait + Threads + Copy + Send + 'static>(
     new: NewQueue,
     at: Moment,
 ) -> Result<(), Fault> {
+    let name = new.name;
     let target = target_of(&new.settings);
     let limits = queues.limits();
     let (desk, mut pass) = open_desk(host, alloc, uid, new, limits, at)?;
@@ -201,7 +217,7 @@ fn start_queue<R: Wait + Threads + Copy + Send + 'static>(
     let (mailbox, mails) = unbounded::<Letter, Global>(alloc)?;
     let actor = Actor::new(Arc::try_clone(&desk)?, own, uid, limits);
     start_actor(rt, alloc, actor, mails, Arc::try_clone(queues)?)?;
-    queues.serve(rt, Served::new(uid, desk, pass, mailbox), target)
+    queues.serve(rt, Served::new(uid, name, desk, pass, mailbox), target)
 }
 
 /// Makes a queue at a moment. `QueueNameExists` where its name is there, `OverLimit` where there are as

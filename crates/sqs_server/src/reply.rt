@@ -7,7 +7,7 @@ ghost use Rattle.http.specs.StatusCode.{IsStatusCode};
 ghost use Rattle.message.specs.Fault.{Meets};
 ghost use Rattle.message.specs.declared.fault.Fault.TheVariants.{OutOfMemory};
 ghost use Rattle.serde_json.specs.Written.{compact_text};
-ghost use Rattle.sqs_server.specs.Sent.{HoldsBody, denied, refused, reply_headers, sent_for};
+ghost use Rattle.sqs_server.specs.Sent.{HoldsBody, busy, denied, refused, reply_headers, sent_for};
 
 use crate::head::Denial;
 use aws_json::{ReplyShape, fault_text, reply_text, status};
@@ -38,6 +38,18 @@ pub(crate) fn denied(denial: Denial) -> Sent
     };
     Sent {
         status,
+        body: Bytes::from_static(text.as_bytes()),
+    }
+}
+
+/// What is sent where too much mail waits for a queue. Its status is one at which clients try again.
+pub(crate) fn busy() -> Sent
+    ensures { result ≡ busy }
+{
+    let text =
+        r#"{"__type":"com.amazonaws.sqs#ServiceUnavailable","message":"Too many requests wait for the queue."}"#;
+    Sent {
+        status: 500,
         body: Bytes::from_static(text.as_bytes()),
     }
 }

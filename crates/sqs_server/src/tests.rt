@@ -4,8 +4,10 @@
 mod conversations;
 
 use crate::arguments::{Refusal, configuration_in};
+use crate::queues::{Letter, is_full};
 use crate::serving::{listen, serve};
 use crossbeam_channel::{Receiver, unbounded};
+use queue_actor::Mail;
 use std::alloc::{AllocError, Global};
 use std::io::{ErrorKind, Read, Write};
 use std::net::{Ipv4Addr, Net, SocketAddr, TcpStream};
@@ -256,6 +258,18 @@ fn is_as_wanted(came: Option<&String>, verb: &str, wanted: &str) -> bool {
         Some(came) => came.as_str() == wanted,
         None => true,
     }
+}
+
+/// A thousand mails fill a mailbox, and one less does not.
+#[test]
+fn thousand_mails(rt: HostRuntime) -> Result<(), Fail> {
+    let (mailbox, _mails) = unbounded::<Letter, Global>(rt.alloc())?;
+    for count in 0..1_000u32 {
+        assert!(rt; !is_full(mailbox.len()), "{count} mails");
+        assert!(rt; mailbox.send(&rt, Mail::End).is_ok());
+    }
+    assert!(rt; is_full(mailbox.len()));
+    Ok(())
 }
 
 /// How many clients the lines have: their letters go up from A.

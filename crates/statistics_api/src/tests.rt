@@ -1,5 +1,6 @@
 //! Each path, method and text. The texts were written by hand from docs/PROFILE.md, with the keys in
-//! byte order; the numbers were chosen so that no two of a queue's are the same.
+//! byte order; the numbers were chosen so that no two of a queue's are the same. Texts with numbers that
+//! are 0 stand in the stored runs of `sqs_replay`, as in `order_of_offers`.
 
 use super::*;
 use alarm::AlarmState;
@@ -79,259 +80,91 @@ fn queues(alloc: Global) -> Result<Vec<Sheet>, Fault> {
     Ok(sheets)
 }
 
-/// What is told of a path by GET.
-fn got(alloc: Global, path: &str, sheets: &[Sheet]) -> Result<String, Fault> {
-    asked(alloc, "GET", path, sheets)
-}
-
-/// What a method is told of a path: the status and the text.
-fn asked(alloc: Global, method: &str, path: &str, sheets: &[Sheet]) -> Result<String, Fault> {
+/// What a method is told of a path: the text, and before it the status where that is not 200. By a word
+/// alone it is a text that the paths are told, of the queue jobs or of all queues.
+fn told(alloc: Global, sheets: &[Sheet], call: &str) -> Result<String, Fault> {
+    match call {
+        "sheets" => return sheets_text(alloc, sheets),
+        "sheet" => return sheet_text(alloc, &jobs(alloc)?),
+        "rows" => return rows_text(alloc, jobs(alloc)?.rows.as_slice()),
+        "alarms" => return alarms_text(alloc, jobs(alloc)?.alarms.as_slice()),
+        _ => {}
+    }
+    let (method, path) = call.rsplit_once(' ').unwrap_or((call, ""));
     let (status, text) = answer(alloc, method, path, sheets);
-    Ok(format!(in alloc; "{status} {}", text.as_str())?)
+    match (status, text.as_str()) {
+        (200, text) => Ok(String::from_str(alloc, text)?),
+        (500, r#"{"message":"out of memory"}"#) => Err(Fault::OutOfMemory),
+        (status, text) => Ok(format!(in alloc; "{status} {text}")?),
+    }
 }
 
-/// Asserts what the paths of a text are told. Its lines are by turns a path and the answer.
-fn agrees(rt: &impl Abort, alloc: Global, sheets: &[Sheet], text: &str) -> Result<(), Fail> {
-    let mut path = None;
-    for line in text.lines() {
-        match path {
-            None => path = Some(line),
-            Some(asked) => {
-                assert_eq!(rt; got(alloc, asked, sheets)?.as_str(), line, "{asked}");
-                path = None;
-            }
-        }
+/// Asserts what is told of each call of a line. A call whose memory is refused is made again.
+fn hold(rt: &impl Abort, alloc: Global, sheets: &[Sheet], line: &str) -> Result<(), Fail> {
+    let (calls, wanted) = line.split_once(" => ").ok_or("what is told of it")?;
+    for call in calls.split(" | ") {
+        let told = match told(alloc, sheets, call) {
+            Err(Fault::OutOfMemory) => told(alloc, sheets, call)?,
+            told => told?,
+        };
+        assert_eq!(rt; told.as_str(), wanted, "{call}");
     }
-    assert!(rt; path.is_none());
     Ok(())
 }
 
-/// Without a queue the list is empty, and no queue is found.
-#[test]
-fn no_queues(rt: HostRuntime) -> Result<(), Fail> {
-    agrees(
-        &rt,
-        rt.alloc(),
-        &[],
-        r#"/statistics/queues
-200 {"queues":[]}
-/statistics/queues/none
-404 {"message":"not found"}"#,
-    )
-}
-
-/// A queue, its rows and its alarms; of two of one name it is the first.
-#[test]
-fn one_queue(rt: HostRuntime) -> Result<(), Fail> {
-    agrees(
-        &rt,
-        rt.alloc(),
-        queues(rt.alloc())?.as_slice(),
-        r#"/statistics/queues/jobs
-200 {"age":1,"clock":4500,"current":{"deadLettersArrived":11,"deleted":12,"emptyReceives":13,"received":14,"refused":15,"sent":16,"sentSize":17},"delayed":2,"inFlight":3,"lines":6,"name":"jobs","visible":4}
-/statistics/queues/jobs/rows
-200 {"rows":[{"age":120,"deadLettersArrived":110,"delayed":121,"deleted":111,"emptyReceives":112,"inFlight":122,"minute":100,"received":113,"refused":114,"sent":115,"sentSize":116,"visible":123},{"age":220,"deadLettersArrived":210,"delayed":221,"deleted":211,"emptyReceives":212,"inFlight":222,"minute":200,"received":213,"refused":214,"sent":215,"sentSize":216,"visible":223}]}
-/statistics/queues/jobs/alarms
-200 {"alarms":[{"name":"deep","state":"INSUFFICIENT_DATA"},{"name":"calm","state":"OK"},{"name":"busy","state":"ALARM"}]}
-/statistics/queues/a/rows
-200 {"rows":[]}
-/statistics/queues/a/alarms
-200 {"alarms":[]}"#,
-    )
-}
-
-/// All queues stand in the order of their names' bytes, whatever order they come in, and those of one
-/// name as they came.
-#[test]
-fn all_queues(rt: HostRuntime) -> Result<(), Fail> {
-    let sheets = queues(rt.alloc())?;
-    let text = sheets_text(rt.alloc(), sheets.as_slice())?;
-    let mut told = String::new(rt.alloc());
-    for part in text.split("\"lines\":") {
-        told.push_str(part.split("\",\"visible\"").next().unwrap_or(""))?;
-        told.push('\n')?;
-    }
-    let wanted =
-        r#"{"queues":[{"age":1,"clock":4500,"current":{"deadLettersArrived":11,"deleted":12,"emptyReceives":13,"received":14,"refused":15,"sent":16,"sentSize":17},"delayed":2,"inFlight":3,
-7,"name":"B
-8,"name":"a
-6,"name":"jobs
-10,"name":"jobs
-9,"name":"jobs-2
+/// What is told of the queues of [`queues`], with `|` between calls that are told the same. What begins
+/// with `//` says what the next lines show.
+const CASES: &str = r#"// A queue without rows and alarms.
+GET /statistics/queues/a/rows => {"rows":[]}
+GET /statistics/queues/a/alarms => {"alarms":[]}
+// A path that is none of the four, or a queue that is not there, is not found.
+GET  | GET / | GET /statistics | GET /statistics/queue | GET statistics/queues | GET /statistics/queues/ | GET /statistics/queues//rows => 404 {"message":"not found"}
+GET /statistics/queues/jobs/ | GET /statistics/queues/jobs/row | GET /statistics/queues/jobs/rows/ | GET /statistics/queues/jobs/rowsa | GET /statistics/queues/jobs/Alarms | GET /statistics/queues/jobs/rows/alarms => 404 {"message":"not found"}
+GET /statistics/queues/Jobs | GET /statistics/queues/j%6fbs | GET /statistics/queues/job | GET /statistics/queues/jobs?x | GET /statistics/queues/ü => 404 {"message":"not found"}
+// On one of the four paths another method than GET is not allowed, also where the queue is not there;
+// elsewhere nothing is found.
+POST /statistics/queues | HEAD /statistics/queues | get /statistics/queues | GET  /statistics/queues |  /statistics/queues => 405 {"message":"method not allowed"}
+POST /statistics/queues/jobs | HEAD /statistics/queues/jobs | get /statistics/queues/jobs | GET  /statistics/queues/jobs |  /statistics/queues/jobs => 405 {"message":"method not allowed"}
+POST /statistics/queues/none | HEAD /statistics/queues/none | get /statistics/queues/none | GET  /statistics/queues/none |  /statistics/queues/none => 405 {"message":"method not allowed"}
+POST /statistics/queues/none/rows | HEAD /statistics/queues/none/rows | get /statistics/queues/none/rows | GET  /statistics/queues/none/rows |  /statistics/queues/none/rows => 405 {"message":"method not allowed"}
+POST /statistics/queues/none/alarms | HEAD /statistics/queues/none/alarms | get /statistics/queues/none/alarms | GET  /statistics/queues/none/alarms |  /statistics/queues/none/alarms => 405 {"message":"method not allowed"}
+POST /foo | HEAD /foo | get /foo | GET  /foo |  /foo => 404 {"message":"not found"}
+POST /statistics/queues/ | HEAD /statistics/queues/ | get /statistics/queues/ | GET  /statistics/queues/ |  /statistics/queues/ => 404 {"message":"not found"}
+POST /statistics/queues/jobs/ | HEAD /statistics/queues/jobs/ | get /statistics/queues/jobs/ | GET  /statistics/queues/jobs/ |  /statistics/queues/jobs/ => 404 {"message":"not found"}
 "#;
-    assert_eq!(rt; told.as_str(), wanted);
-    let answered = got(rt.alloc(), "/statistics/queues", sheets.as_slice())?;
-    let listed = format!(in rt.alloc(); "200 {text}")?;
-    assert_eq!(rt; answered.as_str(), listed.as_str());
-    Ok(())
-}
 
-/// A path that is none of the four, or a queue that is not there, is not found.
+/// Each text by its path and alone. All queues stand in the order of their names' bytes, whatever order
+/// they come in, and those of one name as they came; the first of these is the one of that name.
+const CALLS: &str =
+    r#"GET /statistics/queues | sheets => {"queues":[{"age":1,"clock":4500,"current":{"deadLettersArrived":11,"deleted":12,"emptyReceives":13,"received":14,"refused":15,"sent":16,"sentSize":17},"delayed":2,"inFlight":3,"lines":7,"name":"B","visible":4},{"age":1,"clock":4500,"current":{"deadLettersArrived":11,"deleted":12,"emptyReceives":13,"received":14,"refused":15,"sent":16,"sentSize":17},"delayed":2,"inFlight":3,"lines":8,"name":"a","visible":4},{"age":1,"clock":4500,"current":{"deadLettersArrived":11,"deleted":12,"emptyReceives":13,"received":14,"refused":15,"sent":16,"sentSize":17},"delayed":2,"inFlight":3,"lines":6,"name":"jobs","visible":4},{"age":1,"clock":4500,"current":{"deadLettersArrived":11,"deleted":12,"emptyReceives":13,"received":14,"refused":15,"sent":16,"sentSize":17},"delayed":2,"inFlight":3,"lines":10,"name":"jobs","visible":4},{"age":1,"clock":4500,"current":{"deadLettersArrived":11,"deleted":12,"emptyReceives":13,"received":14,"refused":15,"sent":16,"sentSize":17},"delayed":2,"inFlight":3,"lines":9,"name":"jobs-2","visible":4}]}
+GET /statistics/queues/jobs | sheet => {"age":1,"clock":4500,"current":{"deadLettersArrived":11,"deleted":12,"emptyReceives":13,"received":14,"refused":15,"sent":16,"sentSize":17},"delayed":2,"inFlight":3,"lines":6,"name":"jobs","visible":4}
+GET /statistics/queues/jobs/rows | rows => {"rows":[{"age":120,"deadLettersArrived":110,"delayed":121,"deleted":111,"emptyReceives":112,"inFlight":122,"minute":100,"received":113,"refused":114,"sent":115,"sentSize":116,"visible":123},{"age":220,"deadLettersArrived":210,"delayed":221,"deleted":211,"emptyReceives":212,"inFlight":222,"minute":200,"received":213,"refused":214,"sent":215,"sentSize":216,"visible":223}]}
+GET /statistics/queues/jobs/alarms | alarms => {"alarms":[{"name":"deep","state":"INSUFFICIENT_DATA"},{"name":"calm","state":"OK"},{"name":"busy","state":"ALARM"}]}
+"#;
+
+/// Where there is no queue, none is found; and each line of [`CASES`] is told as it says.
 #[test]
-fn other_paths(rt: HostRuntime) -> Result<(), Fail> {
+fn cases(rt: HostRuntime) -> Result<(), Fail> {
+    let list = r#"GET /statistics/queues => {"queues":[]}"#;
+    hold(&rt, rt.alloc(), &[], list)?;
+    let queue = r#"GET /statistics/queues/none => 404 {"message":"not found"}"#;
+    hold(&rt, rt.alloc(), &[], queue)?;
     let sheets = queues(rt.alloc())?;
-    for path in [
-        "",
-        "/",
-        "/statistics",
-        "/statistics/queue",
-        "statistics/queues",
-        "/statistics/queues/",
-        "/statistics/queues//rows",
-        "/statistics/queues/jobs/",
-        "/statistics/queues/jobs/row",
-        "/statistics/queues/jobs/rows/",
-        "/statistics/queues/jobs/rowsa",
-        "/statistics/queues/jobs/Alarms",
-        "/statistics/queues/jobs/rows/alarms",
-        "/statistics/queues/Jobs",
-        "/statistics/queues/j%6fbs",
-        "/statistics/queues/job",
-        "/statistics/queues/jobs?x",
-        "/statistics/queues/ü",
-    ] {
-        let answered = got(rt.alloc(), path, sheets.as_slice())?;
-        assert_eq!(rt;
-            answered.as_str(),
-            r#"404 {"message":"not found"}"#,
-            "{path}"
-        );
+    for line in CASES.lines().filter(|line| !line.starts_with("//")) {
+        hold(&rt, rt.alloc(), sheets.as_slice(), line)?;
     }
     Ok(())
-}
-
-/// On one of the four paths another method than GET is not allowed, also where the queue is not there;
-/// elsewhere nothing is found.
-#[test]
-fn methods(rt: HostRuntime) -> Result<(), Fail> {
-    let sheets = queues(rt.alloc())?;
-    for method in ["POST", "HEAD", "get", "GET ", ""] {
-        for path in [
-            "/statistics/queues",
-            "/statistics/queues/jobs",
-            "/statistics/queues/none",
-            "/statistics/queues/none/rows",
-            "/statistics/queues/none/alarms",
-        ] {
-            let told = asked(rt.alloc(), method, path, sheets.as_slice())?;
-            assert_eq!(rt;
-                told.as_str(),
-                r#"405 {"message":"method not allowed"}"#,
-                "{method} {path}"
-            );
-        }
-        for path in ["/foo", "/statistics/queues/", "/statistics/queues/jobs/"] {
-            let told = asked(rt.alloc(), method, path, sheets.as_slice())?;
-            assert_eq!(rt;
-                told.as_str(),
-                r#"404 {"message":"not found"}"#,
-                "{method} {path}"
-            );
-        }
-    }
-    Ok(())
-}
-
-/// A queue whose counts are those of two sends, a receive and a refused request.
-fn counted(alloc: Global) -> Result<Sheet, Fault> {
-    let mut sheet = sheet(alloc, "jobs", 6)?;
-    sheet.gauges = Gauges {
-        visible: 2,
-        delayed: 0,
-        in_flight: 0,
-        age: 3,
-    };
-    sheet.current = Flows::none();
-    sheet.current.sent = 2;
-    sheet.current.sent_size = 2;
-    sheet.current.received = 1;
-    sheet.current.refused = 1;
-    Ok(sheet)
-}
-
-/// The texts alone are those that the paths are told.
-#[test]
-fn texts(rt: HostRuntime) -> Result<(), Fail> {
-    let sheet = counted(rt.alloc())?;
-    let text = sheet_text(rt.alloc(), &sheet)?;
-    let wanted =
-        r#"{"age":3,"clock":4500,"current":{"deadLettersArrived":0,"deleted":0,"emptyReceives":0,"received":1,"refused":1,"sent":2,"sentSize":2},"delayed":0,"inFlight":0,"lines":6,"name":"jobs","visible":2}"#;
-    assert_eq!(rt; text.as_str(), wanted);
-    let mut row = Row {
-        minute: 0,
-        flows: Flows::none(),
-        gauges: Gauges {
-            visible: 0,
-            delayed: 0,
-            in_flight: 0,
-            age: 0,
-        },
-    };
-    row.flows.sent = 1;
-    row.flows.sent_size = 5;
-    row.flows.received = 2;
-    row.flows.deleted = 3;
-    let text = rows_text(rt.alloc(), &[row])?;
-    let wanted =
-        r#"{"rows":[{"age":0,"deadLettersArrived":0,"delayed":0,"deleted":3,"emptyReceives":0,"inFlight":0,"minute":0,"received":2,"refused":0,"sent":1,"sentSize":5,"visible":0}]}"#;
-    assert_eq!(rt; text.as_str(), wanted);
-    let alarms = [(QueueName::read("deep")?, AlarmState::InsufficientData)];
-    let text = alarms_text(rt.alloc(), &alarms)?;
-    let wanted = r#"{"alarms":[{"name":"deep","state":"INSUFFICIENT_DATA"}]}"#;
-    assert_eq!(rt; text.as_str(), wanted);
-    Ok(())
-}
-
-/// How long the text is that a path is told.
-fn length_of(alloc: Global, path: &str, sheets: &[Sheet]) -> Result<usize, Fault> {
-    match answer(alloc, "GET", path, sheets) {
-        (200, text) => Ok(text.as_str().len()),
-        (500, text) if text.as_str() == r#"{"message":"out of memory"}"# => Err(Fault::OutOfMemory),
-        _ => Err(Fault::UnsupportedOperation),
-    }
-}
-
-/// Queues, also where memory was refused before.
-fn queues_again(alloc: Global) -> Result<Vec<Sheet>, Fault> {
-    match queues(alloc) {
-        Err(Fault::OutOfMemory) => queues(alloc),
-        sheets => sheets,
-    }
-}
-
-/// The four texts one after another.
-fn four_texts(alloc: Global, sheets: &[Sheet]) -> Result<usize, Fault> {
-    let mut length = sheets_text(alloc, sheets)?.len();
-    for sheet in sheets {
-        length = length.saturating_add(sheet_text(alloc, sheet)?.len());
-        length = length.saturating_add(rows_text(alloc, sheet.rows.as_slice())?.len());
-        length = length.saturating_add(alarms_text(alloc, sheet.alarms.as_slice())?.len());
-    }
-    Ok(length)
 }
 
 /// With ample memory each path answers, and where memory was refused it answers 500, and then its text.
 #[test]
 fn refused_memory(rt: HostRuntime) -> Result<(), Fail> {
-    let sheets = queues_again(rt.alloc())?;
-    let mut lengths = 0_usize;
-    for path in [
-        "/statistics/queues",
-        "/statistics/queues/jobs",
-        "/statistics/queues/jobs/rows",
-        "/statistics/queues/jobs/alarms",
-    ] {
-        let length = match length_of(rt.alloc(), path, sheets.as_slice()) {
-            Err(Fault::OutOfMemory) => length_of(rt.alloc(), path, sheets.as_slice())?,
-            length => length?,
-        };
-        lengths = lengths.saturating_add(length);
-    }
-    assert!(rt; lengths > 1000);
-    let length = match four_texts(rt.alloc(), sheets.as_slice()) {
-        Err(Fault::OutOfMemory) => four_texts(rt.alloc(), sheets.as_slice())?,
-        length => length?,
+    let sheets = match queues(rt.alloc()) {
+        Err(Fault::OutOfMemory) => queues(rt.alloc())?,
+        sheets => sheets?,
     };
-    assert!(rt; length > lengths);
+    for line in CALLS.lines() {
+        hold(&rt, rt.alloc(), sheets.as_slice(), line)?;
+    }
     Ok(())
 }

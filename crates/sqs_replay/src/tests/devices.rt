@@ -1,4 +1,4 @@
-//! Lines cut from an input, and devices that give or take little at a time or fail.
+//! Runs over devices that give or take little at a time, or fail.
 
 ghost use Rattle.std.specs.Prelude.{ℕ, []};
 ghost use Rattle.std.proofs.Common.{refl, ap};
@@ -53,78 +53,50 @@ impl Lines for Toy {
     }
 }
 
-/// What a run of the server over an input gives, and how many lines it has answered.
-fn run_toy<I: Inlet, O: Outlet>(
-    rt: &HostRuntime,
-    most: u64,
-    inlet: &mut I,
-    outlet: &mut O,
-) -> (Result<(), ReplayFault>, u64) {
-    let mut toy = Toy { count: 0, most };
-    let mut ticks = Ticks::new(rt);
-    let result = run_lines(rt.alloc(), &mut toy, inlet, outlet, &mut ticks);
-    (result, toy.count)
-}
-
-/// Inputs, and what the server answers to them, by turns, with a `|` between them.
-const CUTS: &str =
-    "||a\nb|0 1\n1 1\n|a\nbc\n|0 1\n1 2\n|\n\n||\r\n||\r||\r\r\n|0 1\n|a\r\n\r\nbcd\r|0 1\n1 3\n|a\rb\n|0 3\n";
-
-#[test]
-fn cuts_lines(rt: HostRuntime) -> Result<(), Fail> {
-    let mut input = b"".as_slice();
-    let mut is_text = false;
-    for part in CUTS.split('|') {
-        if is_text {
-            let mut outlet = Device::new(Vec::new(rt.alloc()));
-            let mut inlet = Device::new(input);
-            let (result, _count) = run_toy(&rt, u64::MAX, &mut inlet, &mut outlet);
-            same(result, Ok(()))?;
-            same(outlet.into_inner().as_slice(), part.as_bytes())?;
-        }
-        input = part.as_bytes();
-        is_text = !is_text;
-    }
-    Ok(())
-}
-
-/// A reader that gives at most so many bytes at a time, and fails once it was read so often.
+/// A reader and writer that gives or takes at most so many bytes at once, and so many in all. Asked for
+/// more, it `starves` for want of memory, or `blocks` and takes nothing, or is `unplugged`.
 #[derive(Drop)]
-struct Drip<'a> {
-    rest: &'a [u8],
-    size: usize,
-    reads: usize,
-}
-
-impl io::Read for Drip<'_> {
-    fn read(&mut self, buffer: &mut [u8]) -> io::Result<usize> {
-        if self.reads == 0 {
-            return Err(io::Error::other("unplugged"));
-        }
-        self.reads -= 1;
-        let count = self.size.min(self.rest.len()).min(buffer.len());
-        buffer[..count].copy_from_slice(&self.rest[..count]);
-        self.rest = &self.rest[count..];
-        Ok(count)
-    }
-}
-
-/// A writer that takes at most so many bytes at a time, and fails once it was written to so often.
-#[derive(Drop)]
-struct Narrow {
+struct Flawed<'a> {
+    given: &'a [u8],
     taken: Vec<u8>,
     size: usize,
-    writes: usize,
+    left: usize,
+    way: &'a str,
+    calls: u64,
 }
 
-impl io::Write for Narrow {
-    fn write(&mut self, bytes: &[u8]) -> io::Result<usize> {
-        if self.writes == 0 {
-            return Err(io::Error::other("full"));
+impl Flawed<'_> {
+    /// How many bytes a call may give or take.
+    fn room(&mut self) -> io::Result<usize> {
+        self.calls = self.calls.saturating_add(1);
+        if self.left > 0 {
+            return Ok(self.size.min(self.left));
         }
-        self.writes -= 1;
-        let count = self.size.min(bytes.len());
+        match self.way {
+            "starves" => Err(io::Error::from(io::ErrorKind::OutOfMemory)),
+            "blocks" => Ok(0),
+            _ => Err(io::Error::other("unplugged")),
+        }
+    }
+}
+
+impl io::Read for Flawed<'_> {
+    fn read(&mut self, buffer: &mut [u8]) -> io::Result<usize> {
+        let room = self.room()?;
+        let count = room.min(self.given.len()).min(buffer.len());
+        buffer[..count].copy_from_slice(&self.given[..count]);
+        self.given = &self.given[count..];
+        self.left = self.left.saturating_sub(count);
+        Ok(count)
+    }
+}
+
+impl io::Write for Flawed<'_> {
+    fn write(&mut self, bytes: &[u8]) -> io::Result<usize> {
+        let room = self.room()?;
+        let count = room.min(bytes.len());
         self.taken.extend_from_slice(&bytes[..count])?;
+        self.left = self.left.saturating_sub(count);
         Ok(count)
     }
 
@@ -133,324 +105,194 @@ impl io::Write for Narrow {
     }
 }
 
-/// Asserts what is written of two lines where so many reads of one byte succeed, and how many lines
-/// the server was asked.
-fn reads_bytes(
+/// Runs, one a line, whose cells are:
+///
+/// - the server: a `replay`, one to whose outlet no byte and a byte are written before it begins, a
+///   `toy`, or a toy that runs out of memory after so many lines;
+/// - its input;
+/// - the flaw: which device fails and in which way; how many bytes both give or take at once, by turns,
+///   and how many the flawed one does in all, or each number from one to another. One more than the
+///   input has are asked of the inlet, to find its end;
+/// - the outcome: `done` or the fault; how often the inlet failed and was refused memory, and how often
+///   the outlet; and, where that is told, how many lines the toy answered, and the calls of each device;
+/// - the output, of which exactly as many bytes are written as the outlet takes.
+///
+/// The lines of `<path>` end at its bytes 38, 97 and 267, and their answers at 59, 170 and 310. The first
+/// line of `<two>` ends at its byte 35. What `~` stands for makes the line as long as a line may be.
+const RUNS: &str = "toy||<whole>|done 0 0 0 0, 0 1 0.|
+toy|a;b|<whole>|done 0 0 0 0, 2 2 2.|0 1;1 1;
+toy|a;bc;|<whole>|done 0 0 0 0, 2 2 2.|0 1;1 2;
+toy|;;|<whole>|done 0 0 0 0, 0 2 0.|
+toy|^;|<whole>|done 0 0 0 0, 0 2 0.|
+toy|^|<whole>|done 0 0 0 0, 0 2 0.|
+toy|^^;|<whole>|done 0 0 0 0, 1 2 1.|0 1;
+toy|a^;^;bcd^|<whole>|done 0 0 0 0, 2 2 2.|0 1;1 3;
+toy|a^b;|<whole>|done 0 0 0 0, 1 2 1.|0 3;
+toy 2|a;b;c;|<whole>|out of memory 0 0 0 0, 2 1 2.|0 1;1 1;
+toy|a;b|reads unplugged 1 9|done 0 0 0 0, 2 4 8.|0 1;1 1;
+toy|a;b|reads unplugged 1 4|done 0 0 0 0, 2 4 8.|0 1;1 1;
+toy|a;b|reads unplugged 1 3|read failed 1 0 0 0, 1 4 4.|0 1;
+toy|a;b|reads unplugged 1 2|read failed 1 0 0 0, 1 3 4.|0 1;
+toy|a;b|reads unplugged 1 1|read failed 1 0 0 0, 0 2 0.|
+toy|a;b|reads unplugged 1 0|read failed 1 0 0 0, 0 1 0.|
+toy|a;b|writes unplugged 3 8|done 0 0 0 0, 2 2 4.|0 1;1 1;
+toy|a;b|writes unplugged 3 7|write failed 0 0 1 0|0 1;1 1;
+toy|a;b|writes unplugged 3 3|write failed 0 0 1 0|0 1;1 1;
+toy|a;b|writes unplugged 3 0|write failed 0 0 1 0|0 1;1 1;
+toy|a;b|reads starves 4 0|out of memory 0 1 0 0, 0 1 0.|
+toy|a;b|writes starves 4 0|out of memory 0 0 0 1, 1 1 1.|
+again|<path>|writes blocks 4 0|write failed 0 0 2 0, 0 10 2.|
+replay|<path>|reads unplugged 1,7,267 0-37|read failed 1 0 0 0|
+replay|<path>|reads unplugged 1,7,267 38-96|read failed 1 0 0 0|<url>
+replay|<path>|reads unplugged 1,7,267 97-266|read failed 1 0 0 0|<url><sent>
+replay|<path>|reads unplugged 1,7,267 267|read failed 1 0 0 0|<url><sent><counts>
+replay|<path>|reads unplugged 1 268|done 0 0 0 0, 0 268 310.|<url><sent><counts>
+replay|<path>|reads unplugged 7 268|done 0 0 0 0, 0 40 45.|<url><sent><counts>
+replay|<path>|reads unplugged 267 268|done 0 0 0 0, 0 2 3.|<url><sent><counts>
+replay|<path>|writes unplugged 1,7,140 0-309|write failed 0 0 1 0|<url><sent><counts>
+replay|<path>|writes unplugged 1 310|done 0 0 0 0, 0 268 310.|<url><sent><counts>
+replay|<path>|writes unplugged 7 310|done 0 0 0 0, 0 40 45.|<url><sent><counts>
+replay|<path>|writes unplugged 140 310|done 0 0 0 0, 0 3 3.|<url><sent><counts>
+replay|<two>|reads unplugged 1 0-34|read failed 1 0 0 0|
+replay|<two>|reads unplugged 1 35-69|read failed 1 0 0 0|<url>
+replay|<two>|reads unplugged 1 70|done 0 0 0 0, 0 70 118.|<url><url>
+replay|<two>|writes unplugged 1 0-117|write failed 0 0 1 0|<url><url>
+replay|<two>|writes unplugged 1 118|done 0 0 0 0, 0 70 118.|<url><url>
+replay|1 Tick ~{}^;2 Tick {}|<whole>|done 0 0 0 0|200 {};200 {};
+replay|1 Tick ~ {}^;2 Tick {}|<whole>|done 0 0 0 0|<unread>200 {};
+replay|1 Tick ~   {};2 Tick {}|<whole>|done 0 0 0 0|<unread>200 {};";
+
+/// What stands in [`RUNS`] for something longer. Besides, `;` is a line feed, `^` a carriage return, and
+/// `~` 8,388,695 blanks.
+const WORDS: &str = r#"<whole> reads unplugged 99999999 99999999
+<path> 1000 CreateQueue {"QueueName":"jobs"};1000 SendMessage {"QueueUrl":"jobs","MessageBody":"hello"};1500 GetQueueAttributes {"QueueUrl":"jobs","AttributeNames":["ApproximateNumberOfMessages","ApproximateNumberOfMessagesDelayed","ApproximateNumberOfMessagesNotVisible"]};
+<two> 1 CreateQueue {"QueueName":"jobs"};2 GetQueueUrl {"QueueName":"jobs"}
+<url> 200 {"QueueUrl":"http://localhost:9324/000000000000/jobs"};
+<sent> 200 {"MD5OfMessageBody":"5d41402abc4b2a76b9719d911017c592","MessageId":"00000000-0000-0001-0000-000000000000"};
+<counts> 200 {"Attributes":{"ApproximateNumberOfMessages":"1","ApproximateNumberOfMessagesDelayed":"0","ApproximateNumberOfMessagesNotVisible":"0"}};
+<unread> 400 {"__type":"com.amazonaws.sqs#SerializationException","message":"The request cannot be read."};"#;
+
+/// What stands in front of a mark and behind it.
+fn cut(text: &str, mark: char) -> (&str, &str) {
+    text.split_once(mark).unwrap_or((text, ""))
+}
+
+const THIRTY_FIVE_BLANKS: &str = "                                   ";
+
+/// A cell with all that its words stand for.
+fn spelled(alloc: Global, cell: &str) -> Result<String, Fail> {
+    let mut text = String::from_str(alloc, cell)?;
+    for line in WORDS.lines() {
+        let (word, meaning) = cut(line, ' ');
+        text = text.as_str().replace(alloc, word, meaning)?;
+    }
+    text = text.as_str().replace(alloc, "^", "\r")?;
+    text = text.as_str().replace(alloc, ";", "\n")?;
+    if cell.find('~').is_none() {
+        return Ok(text);
+    }
+    let mut blanks = String::new(alloc);
+    for _ in 0..239_677 {
+        blanks.push_str(THIRTY_FIVE_BLANKS)?;
+    }
+    Ok(text.as_str().replace(alloc, "~", blanks.as_str())?)
+}
+
+/// How a run of a server from one device to another ends, and how many lines a toy has answered.
+fn run(
     rt: &HostRuntime,
-    reads: usize,
-    wanted: Result<(), ReplayFault>,
-    text: &str,
-    lines: u64,
-) -> Result<(), Fail> {
-    let mut inlet = Device::new(Drip {
-        rest: b"a\nb",
-        size: 1,
-        reads,
-    });
-    let mut outlet = Device::new(Vec::new(rt.alloc()));
-    let (result, count) = run_toy(rt, u64::MAX, &mut inlet, &mut outlet);
-    same(result, wanted)?;
-    same(count, lines)?;
-    same(inlet.failures(), u64::from(result.is_err()))?;
-    same(inlet.refusals(), 0)?;
-    same(outlet.into_inner().as_slice(), text.as_bytes())?;
-    Ok(())
+    server: &str,
+    inlet: &mut impl Inlet,
+    outlet: &mut impl Outlet,
+) -> Result<(Result<(), ReplayFault>, u64), Fail> {
+    let (alloc, mut ticks) = (rt.alloc(), Ticks::new(rt));
+    if server == "again" {
+        same(outlet.write(b""), Ok(()))?;
+        same(outlet.write(b"a"), Err(ReplayFault::Write))?;
+    }
+    let (name, most) = cut(server, ' ');
+    if name != "toy" {
+        let config = Config::with_limits(alloc, Limits::default());
+        return Ok((replay(alloc, config, inlet, outlet, &mut ticks), 0));
+    }
+    let most = most.parse().unwrap_or(u64::MAX);
+    let mut toy = Toy { count: 0, most };
+    let result = run_lines(alloc, &mut toy, inlet, outlet, &mut ticks);
+    Ok((result, toy.count))
 }
 
-/// The fourth read finds the end, where it comes that far.
-#[test]
-fn reads_a_byte_at_a_time(rt: HostRuntime) -> Result<(), Fail> {
-    reads_bytes(&rt, 9, Ok(()), "0 1\n1 1\n", 2)?;
-    reads_bytes(&rt, 4, Ok(()), "0 1\n1 1\n", 2)?;
-    reads_bytes(&rt, 3, Err(ReplayFault::Read), "0 1\n", 1)?;
-    reads_bytes(&rt, 2, Err(ReplayFault::Read), "0 1\n", 1)?;
-    reads_bytes(&rt, 1, Err(ReplayFault::Read), "", 0)?;
-    reads_bytes(&rt, 0, Err(ReplayFault::Read), "", 0)
-}
-
-/// Asserts what is written of the answers to two lines where so many writes of three bytes succeed.
-fn writes_bytes(
+/// The outcome of such a run, and what was written.
+fn outcome_of(
     rt: &HostRuntime,
-    writes: usize,
-    wanted: Result<(), ReplayFault>,
-    text: &str,
-) -> Result<(), Fail> {
-    let mut inlet = Device::new(b"a\nb".as_slice());
-    let mut outlet = Device::new(Narrow {
-        taken: Vec::new(rt.alloc()),
-        size: 3,
-        writes,
-    });
-    let (result, _count) = run_toy(rt, u64::MAX, &mut inlet, &mut outlet);
-    same(result, wanted)?;
-    same(outlet.failures(), u64::from(result.is_err()))?;
-    same(outlet.refusals(), 0)?;
-    same(outlet.into_inner().taken.as_slice(), text.as_bytes())?;
+    server: &str,
+    inlet: Flawed<'_>,
+    outlet: Flawed<'_>,
+) -> Result<(String, Vec<u8>), Fail> {
+    let (mut inlet, mut outlet) = (Device::new(inlet), Device::new(outlet));
+    let (result, lines) = run(rt, server, &mut inlet, &mut outlet)?;
+    let end = match result {
+        Ok(()) => "done",
+        Err(fault) => fault.text(),
+    };
+    let (failed, refused, reads) = (inlet.failures(), inlet.refusals(), inlet.reads());
+    let (blocked, starved, outlet) = (outlet.failures(), outlet.refusals(), outlet.into_inner());
+    let counts = format!(in rt.alloc(); "{failed} {refused} {blocked} {starved}")?;
+    let writes = outlet.calls;
+    let told = format!(in rt.alloc(); "{end} {}, {lines} {reads} {writes}.", counts.as_str())?;
+    Ok((told, outlet.taken))
+}
+
+/// Asserts the outcome and the output of a row, for each number of bytes of its flaw.
+fn run_row(rt: &HostRuntime, line: &str) -> Result<(), Fail> {
+    let (server, cells) = cut(line, '|');
+    let (input, cells) = cut(cells, '|');
+    let (flaw, cells) = cut(cells, '|');
+    let (wanted, output) = cut(cells, '|');
+    let (input, output) = (spelled(rt.alloc(), input)?, spelled(rt.alloc(), output)?);
+    let (flaw, output) = (spelled(rt.alloc(), flaw)?, output.as_bytes());
+    let (side, flaw) = cut(flaw.as_str(), ' ');
+    let (way, flaw) = cut(flaw, ' ');
+    let (sizes, range) = cut(flaw, ' ');
+    let (first, last) = cut(range, '-');
+    let first = first.parse().unwrap_or(usize::MAX);
+    let last = last.parse().unwrap_or(first);
+    same(first <= last && last < usize::MAX, true)?;
+    for size in sizes.split(',') {
+        let size = size.parse().unwrap_or(0);
+        for left in first..last.saturating_add(1) {
+            let (gives, takes) = match side {
+                "reads" => (left, usize::MAX),
+                _ => (usize::MAX, left),
+            };
+            let inlet = device(rt.alloc(), input.as_str(), size, gives, way);
+            let outlet = device(rt.alloc(), input.as_str(), size, takes, way);
+            let (told, written) = outcome_of(rt, server, inlet, outlet)?;
+            let wrote = written.as_slice() == &output[..output.len().min(takes)];
+            if !wrote || !told.as_str().starts_with(wanted) {
+                let told = told.as_str();
+                return Err(Fail::new(format_args!("{line}: at {size} {left} {told} {wrote}")));
+            }
+        }
+    }
     Ok(())
 }
 
-#[test]
-fn writes_a_part(rt: HostRuntime) -> Result<(), Fail> {
-    writes_bytes(&rt, 4, Ok(()), "0 1\n1 1\n")?;
-    writes_bytes(&rt, 3, Err(ReplayFault::Write), "0 1\n1 1")?;
-    writes_bytes(&rt, 1, Err(ReplayFault::Write), "0 1")?;
-    writes_bytes(&rt, 0, Err(ReplayFault::Write), "")
-}
-
-#[test]
-fn stops_where_memory_runs_out(rt: HostRuntime) -> Result<(), Fail> {
-    let mut inlet = Device::new(b"a\nb\nc\n".as_slice());
-    let mut outlet = Device::new(Vec::new(rt.alloc()));
-    let (result, count) = run_toy(&rt, 2, &mut inlet, &mut outlet);
-    same(result, Err(ReplayFault::OutOfMemory))?;
-    same(count, 2)?;
-    same(inlet.failures(), 0)?;
-    same(inlet.reads(), 1)?;
-    same(outlet.failures(), 0)?;
-    same(outlet.into_inner().as_slice(), b"0 1\n1 1\n".as_slice())?;
-    Ok(())
-}
-
-/// A reader and writer that needs memory and finds none.
-#[derive(Drop)]
-struct Starved;
-
-impl io::Read for Starved {
-    fn read(&mut self, _buffer: &mut [u8]) -> io::Result<usize> {
-        Err(io::Error::from(io::ErrorKind::OutOfMemory))
-    }
-}
-
-impl io::Write for Starved {
-    fn write(&mut self, _bytes: &[u8]) -> io::Result<usize> {
-        Err(io::Error::from(io::ErrorKind::OutOfMemory))
-    }
-
-    fn flush(&mut self) -> io::Result<()> {
-        Ok(())
-    }
-}
-
-#[test]
-fn tells_a_device_without_memory_from_one_that_fails(rt: HostRuntime) -> Result<(), Fail> {
-    let mut outlet = Device::new(Starved);
-    same(outlet.write(b"a"), Err(ReplayFault::OutOfMemory))?;
-    same(outlet.failures(), 0)?;
-    same(outlet.refusals(), 1)?;
-    let mut inlet = Device::new(Starved);
-    same(inlet.read(&mut [0; 4]), Err(ReplayFault::OutOfMemory))?;
-    same(inlet.failures(), 0)?;
-    same(inlet.refusals(), 1)?;
-    same(inlet.reads(), 1)?;
-    Ok(())
-}
-
-/// A writer that takes nothing.
-#[derive(Drop)]
-struct Blocked;
-
-impl io::Write for Blocked {
-    fn write(&mut self, _bytes: &[u8]) -> io::Result<usize> {
-        Ok(0)
-    }
-
-    fn flush(&mut self) -> io::Result<()> {
-        Ok(())
-    }
-}
-
-#[test]
-fn gives_up_a_writer_that_takes_nothing(rt: HostRuntime) -> Result<(), Fail> {
-    let mut outlet = Device::new(Blocked);
-    same(outlet.write(b""), Ok(()))?;
-    same(outlet.failures(), 0)?;
-    same(outlet.write(b"a"), Err(ReplayFault::Write))?;
-    same(outlet.failures(), 1)?;
-    let result = run_first_path(&rt, &mut Device::new(FIRST_PATH.as_bytes()), &mut outlet);
-    same(result, Err(ReplayFault::Write))?;
-    same(outlet.failures(), 2)?;
-    Ok(())
-}
-
-/// A queue is created, a message sent to it, and its messages counted.
-const FIRST_PATH: &str = r#"1000 CreateQueue {"QueueName":"jobs"}
-1000 SendMessage {"QueueUrl":"jobs","MessageBody":"hello"}
-1500 GetQueueAttributes {"QueueUrl":"jobs","AttributeNames":["ApproximateNumberOfMessages","ApproximateNumberOfMessagesDelayed","ApproximateNumberOfMessagesNotVisible"]}
-"#;
-
-const FIRST_ANSWERS: &str = r#"200 {"QueueUrl":"http://localhost:9324/000000000000/jobs"}
-200 {"MD5OfMessageBody":"5d41402abc4b2a76b9719d911017c592","MessageId":"00000000-0000-0001-0000-000000000000"}
-200 {"Attributes":{"ApproximateNumberOfMessages":"1","ApproximateNumberOfMessagesDelayed":"0","ApproximateNumberOfMessagesNotVisible":"0"}}
-"#;
-
-/// Replays from one device to another.
-fn run_first_path<I: Inlet, O: Outlet>(
-    rt: &HostRuntime,
-    inlet: &mut I,
-    outlet: &mut O,
-) -> Result<(), ReplayFault> {
-    let config = Config::with_limits(rt.alloc(), Limits::default());
-    let mut ticks = Ticks::new(rt);
-    replay(rt.alloc(), config, inlet, outlet, &mut ticks)
-}
-
-/// How many of the bytes are line feeds.
-fn line_feeds(bytes: &[u8]) -> usize {
-    bytes.iter().filter(|byte| **byte == b'\n').count()
-}
-
-/// Whether so many reads of so many bytes suffice for the first path. If not, the replay ends with
-/// that fault, and the lines read whole are answered, and no other.
-fn is_read(rt: &HostRuntime, size: usize, reads: usize) -> Result<bool, Fail> {
-    let input = FIRST_PATH.as_bytes();
-    let mut inlet = Device::new(Drip {
-        rest: input,
+/// A device that gives a text, or takes others.
+fn device<'a>(alloc: Global, text: &'a str, size: usize, left: usize, way: &'a str) -> Flawed<'a> {
+    Flawed {
+        given: text.as_bytes(),
+        taken: Vec::new(alloc),
         size,
-        reads,
-    });
-    let mut outlet = Device::new(Vec::new(rt.alloc()));
-    let result = run_first_path(rt, &mut inlet, &mut outlet);
-    same(inlet.failures(), u64::from(result.is_err()))?;
-    let written = outlet.into_inner();
-    same(
-        FIRST_ANSWERS.as_bytes().starts_with(written.as_slice()),
-        true,
-    )?;
-    if result == Ok(()) {
-        same(written.len(), FIRST_ANSWERS.len())?;
-        return Ok(true);
+        left,
+        way,
+        calls: 0,
     }
-    same(result, Err(ReplayFault::Read))?;
-    same(written.last().copied().unwrap_or(b'\n'), b'\n')?;
-    let read = reads.saturating_mul(size).min(input.len());
-    same(line_feeds(written.as_slice()), line_feeds(&input[..read]))?;
-    Ok(false)
 }
 
-/// Whether so many writes of so many bytes suffice for the first path. If not, the replay ends with
-/// that fault, and what was taken before stays written.
-fn is_written(rt: &HostRuntime, size: usize, writes: usize) -> Result<bool, Fail> {
-    let mut outlet = Device::new(Narrow {
-        taken: Vec::new(rt.alloc()),
-        size,
-        writes,
-    });
-    let mut inlet = Device::new(FIRST_PATH.as_bytes());
-    let result = run_first_path(rt, &mut inlet, &mut outlet);
-    same(inlet.failures(), 0)?;
-    same(outlet.failures(), u64::from(result.is_err()))?;
-    let written = outlet.into_inner().taken;
-    same(
-        FIRST_ANSWERS.as_bytes().starts_with(written.as_slice()),
-        true,
-    )?;
-    if result == Ok(()) {
-        same(written.len(), FIRST_ANSWERS.len())?;
-        return Ok(true);
-    }
-    same(result, Err(ReplayFault::Write))?;
-    same(size > 1 || written.len() == writes, true)?;
-    Ok(false)
-}
-
-/// Asserts that so many reads of so many bytes suffice and fewer do not.
-fn reads_first_path(rt: &HostRuntime, size: usize, reads: usize) -> Result<(), Fail> {
-    for fewer in 0..reads {
-        same(is_read(rt, size, fewer)?, false)?;
-    }
-    same(is_read(rt, size, reads)?, true)
-}
-
-/// Asserts that so many writes of so many bytes suffice and fewer do not.
-fn writes_first_path(rt: &HostRuntime, size: usize, writes: usize) -> Result<(), Fail> {
-    for fewer in 0..writes {
-        same(is_written(rt, size, fewer)?, false)?;
-    }
-    same(is_written(rt, size, writes)?, true)
-}
-
-/// The input has 267 bytes, and one read more finds its end. The answers have 59, 111 and 140 bytes,
-/// and each is written by itself.
 #[test]
-fn each_call_that_fails(rt: HostRuntime) -> Result<(), Fail> {
-    reads_first_path(&rt, 1, 268)?;
-    reads_first_path(&rt, 7, 40)?;
-    reads_first_path(&rt, 267, 2)?;
-    writes_first_path(&rt, 1, 310)?;
-    writes_first_path(&rt, 7, 45)?;
-    writes_first_path(&rt, 140, 3)
-}
-
-/// Two lines of 34 bytes, the second of which no line feed ends.
-const TWO_LINES: &str = r#"1 CreateQueue {"QueueName":"jobs"}
-2 GetQueueUrl {"QueueName":"jobs"}"#;
-
-/// The answer to each of them, 59 bytes.
-const URL_ANSWER: &str = r#"200 {"QueueUrl":"http://localhost:9324/000000000000/jobs"}
-"#;
-
-/// Asserts how two lines end where so many reads of one byte succeed, and exactly what is written.
-fn reads_two_lines(
-    rt: &HostRuntime,
-    reads: usize,
-    wanted: Result<(), ReplayFault>,
-    text: &str,
-) -> Result<(), Fail> {
-    let mut inlet = Device::new(Drip {
-        rest: TWO_LINES.as_bytes(),
-        size: 1,
-        reads,
-    });
-    let mut outlet = Device::new(Vec::new(rt.alloc()));
-    let result = run_first_path(rt, &mut inlet, &mut outlet);
-    same(result, wanted)?;
-    same(inlet.failures(), u64::from(result.is_err()))?;
-    same(outlet.into_inner().as_slice(), text.as_bytes())?;
+fn runs(rt: HostRuntime) -> Result<(), Fail> {
+    for line in RUNS.lines() {
+        run_row(&rt, line)?;
+    }
     Ok(())
-}
-
-/// Where a read fails, exactly the lines read whole are answered: none before the line feed, which is
-/// the 35th byte, then the first, and the second only where the end was found, by the 70th read.
-#[test]
-fn each_read_of_two_lines_that_fails(rt: HostRuntime) -> Result<(), Fail> {
-    for reads in 0..35 {
-        reads_two_lines(&rt, reads, Err(ReplayFault::Read), "")?;
-    }
-    for reads in 35..70 {
-        reads_two_lines(&rt, reads, Err(ReplayFault::Read), URL_ANSWER)?;
-    }
-    let both = format!(in rt.alloc(); "{URL_ANSWER}{URL_ANSWER}")?;
-    reads_two_lines(&rt, 70, Ok(()), both.as_str())
-}
-
-/// Asserts how two lines end where so many writes of one byte succeed, and exactly what is written.
-fn writes_two_lines(
-    rt: &HostRuntime,
-    writes: usize,
-    wanted: Result<(), ReplayFault>,
-    text: &[u8],
-) -> Result<(), Fail> {
-    let mut inlet = Device::new(TWO_LINES.as_bytes());
-    let mut outlet = Device::new(Narrow {
-        taken: Vec::new(rt.alloc()),
-        size: 1,
-        writes,
-    });
-    let result = run_first_path(rt, &mut inlet, &mut outlet);
-    same(result, wanted)?;
-    same(outlet.failures(), u64::from(result.is_err()))?;
-    same(outlet.into_inner().taken.as_slice(), text)?;
-    Ok(())
-}
-
-/// Where a write fails, exactly the bytes taken before it are written.
-#[test]
-fn each_write_of_two_lines_that_fails(rt: HostRuntime) -> Result<(), Fail> {
-    let both = format!(in rt.alloc(); "{URL_ANSWER}{URL_ANSWER}")?;
-    let text = both.as_bytes();
-    same(text.len(), 118)?;
-    for writes in 0..text.len() {
-        writes_two_lines(&rt, writes, Err(ReplayFault::Write), &text[..writes])?;
-    }
-    writes_two_lines(&rt, 118, Ok(()), text)
 }

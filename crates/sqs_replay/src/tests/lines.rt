@@ -1,41 +1,8 @@
-//! The longest line, and the parts of a line.
+//! The parts of a line.
 
-use super::{agrees, same};
+use super::same;
 use crate::{InputLine, read_line};
 use std::test::Fail;
-
-const DONE: &str = "200 {}\n";
-
-const UNREAD: &str =
-    r#"400 {"__type":"com.amazonaws.sqs#SerializationException","message":"The request cannot be read."}
-"#;
-
-/// Asserts what is answered to a line of so many bytes and what stands behind it.
-fn agrees_at_length(
-    rt: &HostRuntime,
-    length: usize,
-    rest: &[u8],
-    wanted: &str,
-) -> Result<(), Fail> {
-    let mut input = Vec::new(rt.alloc());
-    input.extend_from_slice(b"1 Tick ")?;
-    for _ in 9..length {
-        input.push(b' ')?;
-    }
-    input.extend_from_slice(b"{}")?;
-    input.extend_from_slice(rest)?;
-    agrees(rt, "", input.as_slice(), wanted)
-}
-
-/// A line of 8,388,704 bytes is read, without its line feed and the one carriage return before it. A
-/// longer one is not, whatever it says, and the next line is.
-#[test]
-fn longest_line(rt: HostRuntime) -> Result<(), Fail> {
-    let unread = format!(in rt.alloc(); "{UNREAD}{DONE}")?;
-    agrees_at_length(&rt, 8_388_704, b"\r\n2 Tick {}", "200 {}\n200 {}\n")?;
-    agrees_at_length(&rt, 8_388_705, b"\r\n2 Tick {}", unread.as_str())?;
-    agrees_at_length(&rt, 8_388_707, b"\n2 Tick {}", unread.as_str())
-}
 
 /// The parts of a line, with a `|` before each, or nothing where it cannot be read.
 fn parts_of(rt: &HostRuntime, line: &[u8]) -> Result<String, Fail> {

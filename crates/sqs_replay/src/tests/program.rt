@@ -19,84 +19,71 @@ fn asked(rt: &HostRuntime, arguments: &str) -> Result<Result<Option<String>, Ref
     Ok(path_among(Ok(given.into_iter())))
 }
 
-#[test]
-fn arguments(rt: HostRuntime) -> Result<(), Fail> {
-    same(asked(&rt, "sqs_replay")?, Ok(None))?;
-    let path = String::from_str(rt.alloc(), "config.toml")?;
-    same(asked(&rt, "sqs_replay config.toml")?, Ok(Some(path)))?;
-    same(
-        asked(&rt, "sqs_replay config.toml more")?,
-        Err(Refusal::Usage),
-    )?;
-    let no_text = io::Error::from(io::ErrorKind::InvalidData);
-    same(path_among(Err(no_text)), Err(Refusal::Usage))?;
-    let no_memory = Refusal::Replay(ReplayFault::OutOfMemory);
-    let refused = io::Error::from(io::ErrorKind::OutOfMemory);
-    same(path_among(Err(refused)), Err(no_memory))?;
-    Ok(())
-}
-
-/// The refusal of the configuration of a file with such a text, if it is one.
-fn refusal_of(rt: &HostRuntime, text: &str) -> Result<Option<Refusal>, Fail> {
-    let bytes = String::from_str(rt.alloc(), text)?.into_bytes();
+/// The refusal of the configuration of a file with such bytes, if it is one.
+fn refusal_of(rt: &HostRuntime, text: &[u8]) -> Result<Option<Refusal>, Fail> {
+    let mut bytes = Vec::new(rt.alloc());
+    bytes.extend_from_slice(text)?;
     Ok(configuration_in(rt.alloc(), Ok(bytes)).err())
 }
 
-#[test]
-fn configurations(rt: HostRuntime) -> Result<(), Fail> {
-    same(default_configuration(rt.alloc()).is_ok(), true)?;
-    same(refusal_of(&rt, "[limits]\nmax_lines = 4\n")?, None)?;
-    let syntax = Refusal::Config(ConfigFault::Syntax);
-    same(refusal_of(&rt, "[")?, Some(syntax))?;
-    let mut no_text = Vec::new(rt.alloc());
-    no_text.push(0xFF)?;
-    let refusal = configuration_in(rt.alloc(), Ok(no_text)).err();
-    same(refusal, Some(syntax))?;
-    let absent = io::Error::from(io::ErrorKind::NotFound);
-    let refusal = configuration_in(rt.alloc(), Err(absent)).err();
-    same(refusal, Some(Refusal::Replay(ReplayFault::Read)))?;
-    let refused = io::Error::from(io::ErrorKind::OutOfMemory);
-    let refusal = configuration_in(rt.alloc(), Err(refused)).err();
-    same(refusal, Some(Refusal::Replay(ReplayFault::OutOfMemory)))?;
-    Ok(())
-}
+/// Refusals, each with what the program tells of it and its status: of two arguments, of arguments that
+/// are no text and for which there is no memory; of a file that is no configuration, no text, absent, and
+/// for which there is no memory; and the others.
+const REFUSALS: &str = "Usage: usage: sqs_replay [config.toml], status 2
+Usage: usage: sqs_replay [config.toml], status 2
+Replay(OutOfMemory): sqs_replay: out of memory, status 1
+Config(Syntax): sqs_replay: config: Syntax, status 1
+Config(Syntax): sqs_replay: config: Syntax, status 1
+Replay(Read): sqs_replay: read failed, status 1
+Replay(OutOfMemory): sqs_replay: out of memory, status 1
+Config(UnknownKey): sqs_replay: config: UnknownKey, status 1
+Config(OutOfMemory): sqs_replay: out of memory, status 1
+Replay(Write): sqs_replay: write failed, status 1
+";
 
-/// Asserts what a refusal tells, and the status after it.
-fn tells(rt: &HostRuntime, refusal: Refusal, text: &str, status: u8) -> Result<(), Fail> {
+/// Tells a refusal as a line of [`REFUSALS`].
+fn tell(told: &mut String, refusal: Refusal) -> Result<(), Fail> {
     let (what, why) = message_of(refusal);
-    let told = format!(in rt.alloc(); "{what}{why}")?;
-    same(told.as_str(), text)?;
-    same(exit_code(&Err(refusal)) == ExitCode::from(status), true)?;
+    write!(told, "{refusal:?}: {what}{why}, status ")?;
+    for status in 0..=9u8 {
+        if exit_code(&Err(refusal)) == ExitCode::from(status) {
+            write!(told, "{status}\n")?;
+        }
+    }
     Ok(())
 }
 
 #[test]
 fn refusals(rt: HostRuntime) -> Result<(), Fail> {
+    let (alloc, mut told) = (rt.alloc(), String::new(rt.alloc()));
+    let path = String::from_str(alloc, "config.toml")?;
+    same(asked(&rt, "sqs_replay")?, Ok(None))?;
+    same(asked(&rt, "sqs_replay config.toml")?, Ok(Some(path)))?;
+    same(default_configuration(alloc).is_ok(), true)?;
+    same(refusal_of(&rt, b"[limits]\nmax_lines = 4\n")?, None)?;
     same(exit_code(&Ok(())) == ExitCode::from(0), true)?;
-    tells(&rt, Refusal::Usage, "usage: sqs_replay [config.toml]", 2)?;
-    let config = Refusal::Config(ConfigFault::UnknownKey);
-    tells(&rt, config, "sqs_replay: config: UnknownKey", 1)?;
-    let config = Refusal::Config(ConfigFault::OutOfMemory);
-    tells(&rt, config, "sqs_replay: out of memory", 1)?;
-    let read = Refusal::Replay(ReplayFault::Read);
-    tells(&rt, read, "sqs_replay: read failed", 1)?;
-    let write = Refusal::Replay(ReplayFault::Write);
-    tells(&rt, write, "sqs_replay: write failed", 1)?;
-    let memory = Refusal::Replay(ReplayFault::OutOfMemory);
-    tells(&rt, memory, "sqs_replay: out of memory", 1)
-}
-
-/// Asserts the number and the text of a fault.
-fn is_numbered(rt: &HostRuntime, fault: ReplayFault, code: u8, text: &str) -> Result<(), Fail> {
-    same(fault.code(), code)?;
-    same(fault.text(), text)?;
-    same(fault.to_string(rt.alloc())?.as_str(), text)?;
+    for refusal in [
+        asked(&rt, "sqs_replay config.toml more")?.err(),
+        path_among(Err(io::Error::from(io::ErrorKind::InvalidData))).err(),
+        path_among(Err(io::Error::from(io::ErrorKind::OutOfMemory))).err(),
+        refusal_of(&rt, b"[")?,
+        refusal_of(&rt, b"\xFF")?,
+        configuration_in(alloc, Err(io::Error::from(io::ErrorKind::NotFound))).err(),
+        configuration_in(alloc, Err(io::Error::from(io::ErrorKind::OutOfMemory))).err(),
+        Some(Refusal::Config(ConfigFault::UnknownKey)),
+        Some(Refusal::Config(ConfigFault::OutOfMemory)),
+        Some(Refusal::Replay(ReplayFault::Write)),
+    ] {
+        tell(&mut told, refusal.ok_or("a refusal")?)?;
+    }
+    same(told.as_str(), REFUSALS)?;
+    for (fault, code, text) in [
+        (ReplayFault::Read, 1, "read failed"),
+        (ReplayFault::Write, 2, "write failed"),
+        (ReplayFault::OutOfMemory, 3, "out of memory"),
+    ] {
+        same((fault.code(), fault.text()), (code, text))?;
+        same(fault.to_string(rt.alloc())?.as_str(), text)?;
+    }
     Ok(())
-}
-
-#[test]
-fn faults(rt: HostRuntime) -> Result<(), Fail> {
-    is_numbered(&rt, ReplayFault::Read, 1, "read failed")?;
-    is_numbered(&rt, ReplayFault::Write, 2, "write failed")?;
-    is_numbered(&rt, ReplayFault::OutOfMemory, 3, "out of memory")
 }

@@ -20,7 +20,7 @@ returns-clause-moved g c =
     let confirms : Confirms told c.args.at c.in-Some.parcel c.match-deliver.command =
     elim c.match-deliver.branch [
       | in-Accepted w ↦ inl (w.in-Accepted.field-0, subst (λ d. told c.args.at c.in-Some.parcel d) w.in-Accepted.is c.deliver.ensures, w.command-is)
-      | in-Gone w ↦ inr (subst (λ d. told c.args.at c.in-Some.parcel d) w.in-Gone.is c.deliver.ensures, w.command-is)
+      | in-Gone w ↦ inr (w.in-Gone.field-0, subst (λ d. told c.args.at c.in-Some.parcel d) w.in-Gone.is c.deliver.ensures, w.command-is)
     ] in
     moved_asked told c.args.at c.args.self.now.pass c.ask-reply.new.self.pass c.ask.new.self.pass c.in-Some.parcel c.match-deliver.command c.ask-reply.result c.ask.result
     c.is_ok.result c.is_ok.ensures.value c.ask-reply.ensures.call (sym c.parcel_of.ensures ∙ c.in-Some.is) c.ask.ensures.call confirms

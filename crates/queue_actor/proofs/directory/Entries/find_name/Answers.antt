@@ -1,0 +1,11 @@
+use Rattle.std.proofs.Common.{◌≡◌, sym, ap, ◌∙◌}
+use Rattle.std.specs.Str.{bytes_eq}
+use Rattle.std.proofs.lemmas.List.Quantifiers.{position-Some}
+use Rattle.std.proofs.lemmas.Slice.Eq.{bytes_eq-Decides}
+use Rattle.queue_actor.proofs.directory.Entries.find_name.Goals as goal
+
+pub returns-in_ok-again-in-Some-clause-name : goal.returns-in_ok-again-in-Some-clause-name
+returns-in_ok-again-in-Some-clause-name g c =
+    let queue = c.index_mut.result.now in
+    let found = position-Some (λ q. bytes_eq q.name c.args.name.now) c.args.self.now.served.items c.in-Some.place queue (sym c.place_named.ensures ∙ c.in-Some.is) in
+    c.in_ok-again-in-Some.ensures.other.1 ∙ ap (λ q. q.name) c.index_mut.ensures.value ∙ (bytes_eq-Decides _ _).0 found.1
