@@ -1,81 +1,113 @@
-//! Conversations with a registry and a name directory. Where memory is refused, a call is made again:
-//! every allocation may be the one that is refused, and only that one.
+//! Conversations with a registry and a name directory.
 
 use super::*;
 
-/// A registry, a name directory, and what their calls take.
+/// A registry, a name directory, what their calls take, and what was told last.
 #[derive(Drop)]
 pub(super) struct Talk {
     alloc: Global,
     house: House,
     catalog: Catalog,
     ticks: Ticks,
+    text: String,
 }
 
-/// Whether a call that was refused memory left the queue of a uid as it was, but for its clock: that of
-/// the queue that is called has moved, that of a queue that a parcel goes to or leaves may have.
-fn is_kept(line: &str, own: u64, before: Option<Look>, after: Option<Look>) -> bool {
-    let (Some(before), Some(after)) = (before, after) else {
-        return before == after;
-    };
-    let (call, _, uid, at, _) = parts(line);
-    let may_stay = uid != own || call == "hand" || call == "move";
-    let may_move = (uid == own) != (call == "hand") || call == "move";
-    let (clock, later) = (after.clock, at.later(before.clock));
-    let is_at_a_clock = may_stay && clock == before.clock || may_move && clock == later;
-    is_at_a_clock && after == Look { clock, ..before }
+/// The parts of a line: its call, the queue's name, its uid, the moment, and a number.
+fn parts(line: &str) -> (&str, &str, u64, Moment, u64) {
+    let mut words = line.split(' ');
+    let call = words.next().unwrap_or("");
+    let name = words.next().unwrap_or("");
+    let at = Moment::new(words.next().unwrap_or("").parse().unwrap_or(0));
+    let number = words.next().unwrap_or("").parse().unwrap_or(0);
+    let uid = name.parse().unwrap_or(0);
+    (call, name, uid, at.unwrap_or(Moment::zero()), number)
 }
 
-/// The steps of a text.
-fn steps(alloc: Global, text: &str) -> Result<Vec<HouseStep>, Fault> {
-    let mut steps = Vec::new(alloc);
-    for line in text.lines() {
-        if let Some((call, _)) = line.split_once(" = ") {
-            steps.push(step(alloc, call)?)?;
+/// The attributes that a line requests: each word of it with an equals sign.
+fn requested(alloc: Global, line: &str) -> Result<Wish, Fault> {
+    let mut wish = Wish::new();
+    for word in line.split(' ') {
+        if let Some((name, value)) = word.split_once("=") {
+            wish.put(alloc, name, value)?;
         }
     }
-    Ok(steps)
+    Ok(wish)
 }
 
-/// The names in a list, each by its length. In one text no two are of one length.
-fn lengths(names: Vec<QueueName>) -> u64 {
-    let mut told = 0u64;
-    for name in names.as_slice() {
-        told = behind(told, name.as_text().len() as u64);
-    }
-    told
+/// The step of a line. A call that is none has a look.
+fn step(alloc: Global, line: &str) -> Result<HouseStep, Fault> {
+    let (call, name, uid, at, number) = parts(line);
+    let (source, target, delay, timeout) = (uid, number, None, None);
+    let wish = requested(alloc, line)?;
+    let command = match call {
+        "create" => {
+            let name = QueueName::read(name)?;
+            return Ok(HouseStep::Create { at, name, wish });
+        }
+        "delete" => return Ok(HouseStep::Delete { at, uid }),
+        "hand" => return Ok(HouseStep::HandOver { at, source }),
+        "confirm" => return Ok(HouseStep::Confirm { at, source }),
+        "advance" => return Ok(HouseStep::Advance { at }),
+        "send" => {
+            let body = String::from_str(alloc, "hello")?;
+            let content = Content::new(alloc, body, Vec::new(alloc))?;
+            Command::Send { content, delay }
+        }
+        "receive" => {
+            let maximum = Maximum::new(1).ok_or(Fault::InvalidParameterValue)?;
+            Command::Receive { maximum, timeout }
+        }
+        "set" => Command::Set { wish, target },
+        "settle" => Command::Settle { number },
+        "orphan" => Command::Orphan { target },
+        "close" => Command::Close,
+        _ => Command::Look,
+    };
+    Ok(HouseStep::Perform { at, uid, command })
 }
 
-/// The queues that a run counts, each by its uid and its visible messages.
-fn counted(run: &HouseRun) -> u64 {
-    let mut told = 0u64;
-    for metrics in run.metrics.as_slice() {
-        told = behind(behind(told, metrics.uid), metrics.gauges.visible);
-    }
-    told
+/// Tells what a look sees: the clock, the entries of the journal, and how many messages are visible,
+/// delayed and in flight.
+fn tell_look(text: &mut String, look: &Look) -> Result<(), Fault> {
+    let (at, lines, gauges) = (look.clock.milliseconds(), look.lines, look.gauges);
+    let (visible, delayed) = (gauges.visible, gauges.delayed);
+    Ok(write!(
+        text,
+        "{at} {lines} {visible} {delayed} {}",
+        gauges.in_flight
+    )?)
 }
 
-/// What the answer at a place of a run tells, by the line of its step.
-fn answer_at(run: &HouseRun, place: usize, line: &str) -> Result<Result<u64, Fault>, Fail> {
-    match run.answers.get(place) {
-        Some(answer) => Ok(told(parts(line).0, answer)),
-        None => Err(Fail::from("an answer")),
+/// Tells how many names a list has, and which.
+fn tell_names(text: &mut String, names: &Vec<QueueName>) -> Result<(), Fault> {
+    write!(text, "{}", names.len())?;
+    for name in names {
+        write!(text, " {}", name.as_text())?;
     }
+    Ok(())
+}
+
+/// A failure unless what a line gave is what was wanted.
+fn same<T: Debug + Drop + PartialEq>(line: &str, told: T, wanted: T) -> Result<(), Fail> {
+    if told == wanted {
+        return Ok(());
+    }
+    Err(Fail::new(format_args!("{line}: {told:?}, not {wanted:?}")))
 }
 
 impl Talk {
     /// A registry with the limits and the queues of a configuration, and an empty directory.
     fn open(rt: &HostRuntime, config: &str) -> Result<Talk, Fault> {
-        let alloc = rt.alloc();
+        let (alloc, ticks) = (rt.alloc(), Ticks::new(rt));
         let config = config_from_text(alloc, config).map_err(|_| Fault::OutOfMemory)?;
         let house = House::new(alloc, &config, Moment::zero())?;
-        let catalog = Catalog::new(alloc)?;
-        let ticks = Ticks::new(rt);
+        let (catalog, text) = (Catalog::new(alloc)?, String::with_capacity(alloc, 200)?);
         Ok(Talk {
             alloc,
             house,
             catalog,
             ticks,
+            text,
         })
     }
 
@@ -86,206 +118,151 @@ impl Talk {
         Ok(talk)
     }
 
-    /// What the queue of a uid tells. Its clock does not move.
-    fn look(&mut self, uid: u64) -> Option<Look> {
-        let (at, command) = (Moment::zero(), Command::Look);
-        let answer = self
-            .house
-            .step(self.alloc, uid, at, command, &mut self.ticks);
-        match &answer {
-            Ok(Reply::Looked(look)) => Some(*look),
-            _ => None,
-        }
-    }
-
-    /// The uids of some names, and what the queues of the first three uids tell. It takes no memory.
-    fn seen(&mut self) -> Result<(u64, Option<Look>, Option<Look>, Option<Look>), Fault> {
-        let mut uids = 0u64;
-        for name in ["jobs", "dlq", "other", "backup", "archive"] {
-            let name = QueueName::read(name)?;
-            uids = behind(uids, self.house.find(&name).unwrap_or(0));
-            uids = behind(uids, self.catalog.find(&name).unwrap_or(0));
-        }
-        Ok((uids, self.look(1), self.look(2), self.look(3)))
-    }
-
-    /// Asks what a line asks, where that leaves all as it is.
-    fn ask(&self, line: &str) -> Result<Option<u64>, Fault> {
-        let (call, name, uid, _, _) = parts(line);
-        Ok(Some(match call {
-            "find" => self.house.find(&QueueName::read(name)?).unwrap_or(0),
-            "state" => self.house.state(uid).is_some() as u64,
-            "list" => lengths(self.house.list(self.alloc, name)?),
-            "sources" => lengths(self.house.sources(self.alloc, uid)?),
-            "entry" => self.catalog.find(&QueueName::read(name)?).unwrap_or(0),
-            "names" => lengths(self.catalog.list(self.alloc, name)?),
-            "users" => lengths(self.catalog.sources(self.alloc, uid)?),
-            _ => return Ok(None),
-        }))
-    }
-
-    /// Adds a queue to the directory, or answers 0 where its name is there.
-    fn add(&mut self, name: &str, target: u64) -> Result<u64, Fault> {
-        let name = QueueName::read(name)?;
-        match self.catalog.find(&name) {
-            None => self.catalog.add(self.alloc, name, target),
-            Some(_) => Ok(0),
-        }
-    }
-
-    /// Takes out the queue of a uid, which has to be handed over closed, and gives what it tells.
-    fn take(&mut self, uid: u64, at: Moment) -> Result<u64, Fault> {
-        let mut taken: QueueState = self.house.take_queue(self.alloc, uid, at, &mut self.ticks)?;
-        let look = taken.look(Moment::zero(), &mut self.ticks);
-        Ok(if look.closed { looked(&look) } else { 0 })
-    }
-
-    /// Makes the call of a line that is no step, where it is none.
-    fn change(&mut self, line: &str) -> Result<Option<u64>, Fault> {
-        let (call, name, uid, at, _) = parts(line);
-        let (alloc, target) = (self.alloc, at.milliseconds());
-        Ok(Some(match call {
-            "take" => self.take(uid, at)?,
-            "move" => self.house.move_one(alloc, uid, at, &mut self.ticks)? as u64,
-            "add" => self.add(name, target)?,
-            "remove" => self.catalog.remove(uid) as u64,
-            "target" => self.catalog.set_target(uid, target) as u64,
-            _ => return self.ask(line),
-        }))
-    }
-
-    /// Makes the call of a line, whose step this is.
-    fn call(&mut self, line: &str, step: HouseStep) -> Result<u64, Fault> {
-        if let Some(told) = self.change(line)? {
-            return Ok(told);
-        }
-        let (alloc, ticks) = (self.alloc, &mut self.ticks);
-        match step {
-            HouseStep::Create { at, name, wish } => self.house.create(alloc, at, name, wish),
+    /// Makes the call of a step.
+    fn make(&mut self, step: HouseStep) -> Result<HouseReply, Fault> {
+        let (alloc, house, ticks) = (self.alloc, &mut self.house, &mut self.ticks);
+        Ok(match step {
+            HouseStep::Create { at, name, wish } => {
+                HouseReply::Created(house.create(alloc, at, name, wish)?)
+            }
             HouseStep::Delete { at, uid } => {
-                self.house.delete_queue(alloc, uid, at, ticks)?;
-                Ok(uid)
+                HouseReply::Deleted(house.take_queue(alloc, uid, at, ticks)?)
             }
             HouseStep::Perform { at, uid, command } => {
-                let reply = self.house.step(alloc, uid, at, command, ticks)?;
-                told(parts(line).0, &Ok(HouseReply::Performed(reply)))
+                HouseReply::Performed(house.step(alloc, uid, at, command, ticks)?)
             }
             HouseStep::HandOver { at, source } => {
-                Ok(self.house.arrive_one(alloc, source, at, ticks)? as u64)
+                HouseReply::HandedOver(Ok(house.arrive_one(alloc, source, at, ticks)?))
             }
-            HouseStep::Confirm { .. } => Err(Fault::UnsupportedOperation),
+            HouseStep::Confirm { .. } => return Err(Fault::UnsupportedOperation),
             HouseStep::Advance { at } => {
-                self.house.advance_all(at, ticks);
-                Ok(0)
+                house.advance_all(at, ticks);
+                HouseReply::Advanced
             }
-        }
+        })
     }
 
-    /// Makes a call, and tells whether its parcel had arrived before. One that was refused memory changed
-    /// nothing but clocks, unless a parcel arrived, and is made again.
-    fn make(&mut self, call: &str) -> Result<(Result<u64, Fault>, bool), Fail> {
-        let alloc = self.alloc;
-        let made = step(alloc, call).or_else(|_| step(alloc, call))?;
-        let before = self.seen()?;
-        let answer = self.call(call, made);
-        if answer != Err(Fault::OutOfMemory) {
-            return Ok((answer, false));
+    /// Tells the answer to a step, each kind in its own words: of a queue that was deleted what a look
+    /// sees.
+    fn tell(&mut self, answer: Result<HouseReply, Fault>) -> Result<(), Fault> {
+        let text = &mut self.text;
+        text.clear();
+        match answer {
+            Ok(HouseReply::Created(uid)) => write!(text, "created {uid}")?,
+            Ok(HouseReply::Deleted(mut queue)) => {
+                write!(text, "deleted {}: ", queue.uid())?;
+                let look = queue.look(Moment::zero(), &mut self.ticks);
+                tell_look(text, &look)?;
+            }
+            Ok(HouseReply::Performed(Reply::Sent(posted))) => {
+                write!(text, "sent {}", posted.number)?;
+            }
+            Ok(HouseReply::Performed(Reply::Received(offers))) => {
+                write!(text, "offered {}", offers.as_slice().len())?;
+            }
+            Ok(HouseReply::Performed(Reply::Looked(look))) => tell_look(text, &look)?,
+            Ok(HouseReply::HandedOver(Ok(moved))) => write!(text, "{moved:?}")?,
+            Ok(HouseReply::HandedOver(Err(fault))) | Err(fault) => text.push_str(fault.name())?,
+            Ok(other) => write!(text, "{other:?}")?,
         }
-        let after = self.seen()?;
-        same(call, after.0, before.0)?;
-        let (lines, later) = (
-            before.1.map(|look| look.lines),
-            after.1.map(|look| look.lines),
-        );
-        let has_arrived = call.starts_with("move ") && later != lines;
-        same(
-            call,
-            has_arrived || is_kept(call, 1, before.1, after.1),
-            true,
-        )?;
-        same(call, is_kept(call, 2, before.2, after.2), true)?;
-        same(call, is_kept(call, 3, before.3, after.3), true)?;
-        Ok((self.call(call, step(alloc, call)?), has_arrived))
+        Ok(())
     }
 
-    /// Has a conversation, in which each call has to answer what its line says; a move whose parcel had
-    /// arrived before is told that it did so again.
-    pub(super) fn hold(&mut self, text: &str) -> Result<(), Fail> {
-        for line in text.lines() {
-            if let Some((call, wanted)) = line.split_once(" = ") {
-                let (answer, has_arrived) = self.make(call)?;
-                agrees(call, answer, if has_arrived { "2" } else { wanted })?;
+    /// Makes the call of a line, and tells its answer.
+    fn call(&mut self, line: &str) -> Result<(), Fault> {
+        let (call, name, uid, at, _) = parts(line);
+        let (alloc, target) = (self.alloc, at.milliseconds());
+        let (house, catalog, text) = (&mut self.house, &mut self.catalog, &mut self.text);
+        text.clear();
+        match call {
+            "find" => write!(text, "{:?}", house.find(&QueueName::read(name)?))?,
+            "state" => write!(text, "{}", house.state(uid).is_some())?,
+            "list" => tell_names(text, &house.list(alloc, name)?)?,
+            "sources" => tell_names(text, &house.sources(alloc, uid)?)?,
+            "move" => write!(
+                text,
+                "{:?}",
+                house.move_one(alloc, uid, at, &mut self.ticks)?
+            )?,
+            "drop" => write!(
+                text,
+                "{:?}",
+                house.delete_queue(alloc, uid, at, &mut self.ticks)?
+            )?,
+            "entry" => write!(text, "{:?}", catalog.find(&QueueName::read(name)?))?,
+            "names" => tell_names(text, &catalog.list(alloc, name)?)?,
+            "users" => tell_names(text, &catalog.sources(alloc, uid)?)?,
+            "remove" => write!(text, "{}", catalog.remove(uid))?,
+            "target" => write!(text, "{}", catalog.set_target(uid, target))?,
+            "add" => {
+                let name = QueueName::read(name)?;
+                if catalog.find(&name).is_none() {
+                    write!(text, "added {}", catalog.add(alloc, name, target)?)?;
+                }
+            }
+            _ => {
+                let answer = self.make(step(alloc, line)?)?;
+                self.tell(Ok(answer))?;
             }
         }
         Ok(())
     }
 
-    /// Runs the steps of a text. Where memory for its lists is refused, nothing is done.
-    fn run(&mut self, text: &str) -> Result<HouseRun, Fail> {
-        let alloc = self.alloc;
-        let steps = steps(alloc, text).or_else(|_| steps(alloc, text))?;
-        let before = self.seen()?;
-        let run = match self.house.run(alloc, &steps, 0, 0, &mut self.ticks) {
-            Err(Fault::OutOfMemory) => {
-                same(text, self.seen()?, before)?;
-                self.house.run(alloc, &steps, 0, 0, &mut self.ticks)?
+    /// Has a conversation, in which each call has to answer what its line says. One that finds no memory
+    /// is made again, and may then answer what stands behind `or`.
+    pub(super) fn hold(&mut self, text: &str) -> Result<(), Fail> {
+        for line in text.lines() {
+            let (call, wanted) = line.split_once(" => ").ok_or("an answer")?;
+            let (wanted, or) = wanted.split_once(" or ").unwrap_or((wanted, wanted));
+            let mut answer = self.call(call);
+            let is_again = answer == Err(Fault::OutOfMemory);
+            if is_again {
+                answer = self.call(call);
             }
-            run => run?,
-        };
-        same(text, run.answers.len(), steps.len())?;
-        Ok(run)
+            if let Err(fault) = answer {
+                self.tell(Err(fault))?;
+            }
+            let told = self.text.as_str();
+            if !is_again || told != or {
+                same(line, told, wanted)?;
+            }
+        }
+        Ok(())
     }
 
-    /// Holds the answer of a step in a list to what its line says, and tells whether no step was refused so
-    /// far. One that was refused memory left its queue as it was, or made none, and is run again alone; so
-    /// is one behind it that confirms what was not handed over.
-    fn goes_on(
-        &mut self,
-        line: &str,
-        answer: Result<u64, Fault>,
-        is_whole: bool,
-        before: (Option<Look>, Option<Look>, Option<Look>),
-    ) -> Result<bool, Fail> {
-        let Some((step, wanted)) = line.split_once(" = ") else {
-            return Ok(is_whole);
-        };
-        let (call, _, uid, _, _) = parts(step);
-        let is_early = !is_whole && call == "confirm";
-        let is_refused = answer == Err(Fault::OutOfMemory);
-        if is_early {
-            same(step, answer, Ok(0))?;
+    /// Runs the steps of a text. One that finds no memory for its lists does nothing.
+    fn run(&mut self, text: &str) -> Result<HouseRun, Fault> {
+        let mut steps = Vec::new(self.alloc);
+        for line in text.lines() {
+            let (call, _) = line.split_once(" => ").unwrap_or((line, ""));
+            steps.push(step(self.alloc, call)?)?;
         }
-        if is_refused {
-            let (own, was) = match uid {
-                1 => (1, before.0),
-                2 => (2, before.1),
-                _ => (3, before.2),
-            };
-            same(step, is_kept(step, own, was, self.look(own)), true)?;
-        }
-        let answer = if is_early || is_refused {
-            answer_at(&self.run(line)?, 0, step)?
-        } else {
-            answer
-        };
-        agrees(step, answer, wanted)?;
-        Ok(is_whole && !is_refused)
+        self.house.run(self.alloc, &steps, 0, 0, &mut self.ticks)
     }
 
     /// Runs a list of steps, each of which has to answer what its line says, and counts the queues after
-    /// it. The steps after one that was refused memory are answered as ever, but for one that confirms what
-    /// was not handed over.
+    /// it: how many there are, and each by its uid and its visible messages. A step that finds no memory is run again alone.
     pub(super) fn list(&mut self, text: &str, counts: &str) -> Result<(), Fail> {
-        let (_, first, second, third) = self.seen()?;
-        let run = self.run(text)?;
-        let mut is_whole = true;
-        for (place, line) in text.lines().enumerate() {
-            let answer = answer_at(&run, place, line)?;
-            is_whole = self.goes_on(line, answer, is_whole, (first, second, third))?;
+        let mut run = match self.run(text) {
+            Err(Fault::OutOfMemory) => self.run(text)?,
+            run => run?,
+        };
+        same(text, run.answers.len(), text.lines().count())?;
+        for (line, answer) in text.lines().zip(run.answers) {
+            let (_, wanted) = line.split_once(" => ").ok_or("an answer")?;
+            self.tell(answer)?;
+            if self.text.as_str() == Fault::OutOfMemory.name() {
+                let mut again = self.run(line)?;
+                self.tell(again.answers.pop().ok_or("an answer")?)?;
+                run.metrics = again.metrics;
+            }
+            same(line, self.text.as_str(), wanted)?;
         }
-        if is_whole {
-            same(text, counted(&run), as_one(counts))?;
+        self.text.clear();
+        write!(self.text, "{}", run.metrics.len())?;
+        for queue in run.metrics {
+            write!(self.text, " {}:{}", queue.uid, queue.gauges.visible)?;
         }
-        same(text, counted(&self.run("")?), as_one(counts))
+        same(text, self.text.as_str(), counts)
     }
 }
