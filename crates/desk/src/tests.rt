@@ -1,22 +1,56 @@
 //! Passes of one desk, in one thread and in several. What is wanted was worked out by hand from what
 //! each command does, and never taken from the program.
 
-mod callers;
 mod cases;
-mod gates;
-mod memory;
 mod threads;
 
 use super::*;
 use journal::{Moment, Ticks};
 use message::{Content, Fault, QueueName};
 use queue_config::{Limits, Settings};
-use queue_core::{Command, Look, Maximum, Offer, Offers, QueueState, Reply, Timeout};
-use receipt_handle::Handle;
+use queue_core::{Command, Maximum, QueueState, Reply, Timeout};
 use std::alloc::Global;
 use std::process::Abort;
 use std::sync::Wait;
+use std::sync::atomic::{AtomicU64, Ordering};
 use std::test::Fail;
+use std::thread;
+
+/// How often a thread looks at a word before it gives up.
+const MOST_LOOKS: u64 = 10_000_000;
+
+/// A gate that adds up the numbers of the turns that it is told of, and 100 for each. It holds a turn
+/// until the sum is enough, to which others may add.
+#[derive(Drop)]
+struct Barrier {
+    sum: AtomicU64,
+    enough: u64,
+}
+
+impl Barrier {
+    fn new(enough: u64) -> Barrier {
+        let sum = AtomicU64::new(0);
+        Barrier { sum, enough }
+    }
+
+    /// Waits until the sum is so much at least, and adds 1000 where it waited too long.
+    fn wait_for(&self, wanted: u64) {
+        for _ in 0..MOST_LOOKS {
+            if wanted <= self.sum.load(Ordering::SeqCst) {
+                return;
+            }
+            thread::yield_now();
+        }
+        self.sum.fetch_add(1000, Ordering::SeqCst);
+    }
+}
+
+impl Gate for Barrier {
+    fn in_turn<R: Wait>(&self, _rt: &R, turn: u64) {
+        self.sum.fetch_add(turn.wrapping_add(100), Ordering::SeqCst);
+        self.wait_for(self.enough);
+    }
+}
 
 /// A queue that was opened at 0 under the uid 1, with the default settings.
 fn open(alloc: Global) -> Result<QueueState, Fault> {
@@ -25,90 +59,61 @@ fn open(alloc: Global) -> Result<QueueState, Fault> {
     QueueState::open(alloc, 1, name, settings, limits, rules, Moment::zero())
 }
 
-/// The number that a text is.
-fn number(text: &str) -> Result<u64, Fault> {
-    text.parse::<u64>()
-        .map_err(|_| Fault::InvalidParameterValue)
-}
-
-/// The time of so many milliseconds.
-fn moment(milliseconds: u64) -> Result<Moment, Fault> {
-    Moment::new(milliseconds).ok_or(Fault::InvalidParameterValue)
-}
-
 /// The first word of a text, and what stands behind it.
 fn first_word(text: &str) -> (&str, &str) {
     text.split_once(' ').unwrap_or((text, ""))
 }
 
-/// A receive of so many messages at most, for so many seconds, or under the queue's timeout.
-fn receive(text: &str) -> Result<Command, Fault> {
-    let (messages, seconds) = first_word(text);
-    let messages = u8::try_from(number(messages)?).map_err(|_| Fault::InvalidParameterValue)?;
-    let timeout = match seconds.parse::<u32>() {
-        Ok(seconds) => Timeout::new(seconds),
-        Err(_) => None,
-    };
-    Ok(Command::Receive {
-        maximum: Maximum::new(messages).ok_or(Fault::InvalidParameterValue)?,
-        timeout,
+/// The time of the milliseconds that a text is.
+fn moment(text: &str) -> Result<Moment, Fault> {
+    let milliseconds = text.parse().unwrap_or(u64::MAX);
+    Moment::new(milliseconds).ok_or(Fault::InvalidParameterValue)
+}
+
+/// The command that a text says: `send` a body, `receive` a number of messages at most, for so many seconds
+/// or under the queue's timeout, or `look`, `parcel`, `close`.
+fn command(alloc: Global, text: &str) -> Result<Command, Fault> {
+    let (verb, rest) = first_word(text);
+    let (messages, seconds) = first_word(rest);
+    Ok(match verb {
+        "send" => {
+            let (body, delay) = (String::from_str(alloc, rest)?, None);
+            let content = Content::new(alloc, body, Vec::new(alloc))?;
+            Command::Send { content, delay }
+        }
+        "receive" => {
+            let maximum = Maximum::new(messages.parse().unwrap_or(0));
+            let maximum = maximum.ok_or(Fault::InvalidParameterValue)?;
+            let timeout = seconds.parse().ok().and_then(Timeout::new);
+            Command::Receive { maximum, timeout }
+        }
+        "look" => Command::Look,
+        "parcel" => Command::FirstParcel,
+        "close" => Command::Close,
+        _ => return Err(Fault::UnsupportedOperation),
     })
 }
 
-/// The command that a text says: `send` a body, `receive` a number of messages at most, or `look`,
-/// `parcel`, `close`.
-fn command(alloc: Global, text: &str) -> Result<Command, Fault> {
-    let (verb, rest) = first_word(text);
-    match verb {
-        "send" => Ok(Command::Send {
-            content: Content::new(alloc, String::from_str(alloc, rest)?, Vec::new(alloc))?,
-            delay: None,
-        }),
-        "receive" => receive(rest),
-        "look" => Ok(Command::Look),
-        "parcel" => Ok(Command::FirstParcel),
-        "close" => Ok(Command::Close),
-        _ => Err(Fault::UnsupportedOperation),
-    }
-}
-
-/// Offers as a text: of each its number, its receipt, its body and when it was sent.
-fn told_offers(alloc: Global, offers: &[Offer]) -> Result<String, Fault> {
-    let mut text = String::from_str(alloc, "offered")?;
-    for offer in offers {
-        let one = format!(in alloc;
-            " {}.{} {} of {}",
-            offer.number,
-            offer.receipt,
-            offer.content.body(),
-            offer.sent.milliseconds()
-        )?;
-        text.push_str(one.as_str())?;
-    }
-    Ok(text)
-}
-
-/// What a look sees, as a text.
-fn told_look(alloc: Global, look: &Look) -> Result<String, Fault> {
-    let closed = if look.closed { ", closed" } else { "" };
-    Ok(format!(in alloc;
-        "{} visible, {} entries at {}{closed}",
-        look.gauges.visible,
-        look.lines,
-        look.clock.milliseconds()
-    )?)
-}
-
-/// An answer as a text: the number of a message that was sent, offers, what a look sees, `no parcel`,
-/// `done`, or the refusal.
-fn told(alloc: Global, answer: &Result<Reply, Fault>) -> Result<String, Fault> {
+/// Tells an answer: the number of a message that was sent; of each offer its number, its receipt, its body
+/// and when it was sent; what a look sees; and any other as it is named.
+fn tell(text: &mut String, answer: &Result<Reply, Fault>) -> Result<(), Fault> {
     match answer {
-        Ok(Reply::Sent(posted)) => Ok(format!(in alloc; "sent {}", posted.number)?),
-        Ok(Reply::Received(offers)) => told_offers(alloc, offers.as_slice()),
-        Ok(Reply::Looked(look)) => told_look(alloc, look),
-        Ok(Reply::Parcel(None)) => Ok(String::from_str(alloc, "no parcel")?),
-        Ok(Reply::Done) => Ok(String::from_str(alloc, "done")?),
-        Ok(other) => Ok(format!(in alloc; "{other:?}")?),
-        Err(fault) => Ok(format!(in alloc; "{fault:?}")?),
+        Ok(Reply::Sent(posted)) => write!(text, "sent {}", posted.number)?,
+        Ok(Reply::Received(offers)) => {
+            text.push_str("offered")?;
+            for offer in offers.as_slice() {
+                let (body, sent) = (offer.content.body(), offer.sent.milliseconds());
+                write!(text, " {}.{} {body} of {sent}", offer.number, offer.receipt)?;
+            }
+        }
+        Ok(Reply::Looked(look)) => {
+            let (visible, lines) = (look.gauges.visible, look.lines);
+            let closed = if look.closed { ", closed" } else { "" };
+            let at = look.clock.milliseconds();
+            write!(text, "{visible} visible, {lines} entries at {at}{closed}")?;
+        }
+        Ok(other) => write!(text, "{other:?}")?,
+        Err(fault) => text.push_str(fault.name())?,
     }
+    Ok(())
 }

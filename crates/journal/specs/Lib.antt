@@ -1,4 +1,5 @@
 pub mod Moment
 pub mod Ticks
+pub mod Order
 pub mod Journal
 pub mod Mark

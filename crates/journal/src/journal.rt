@@ -1,6 +1,6 @@
 //! The list of lines.
 
-ghost use Rattle.std.specs.Prelude.{◌≡◌, ◌≤◌, ◌↔◌, ◌⊎◌, [], ◌∷◌, ◌++◌, length, drop, map, slice_get, IfOk, IfErr, OnOk, OnErr, IsErrOf};
+ghost use Rattle.std.specs.Prelude.{◌≡◌, ◌<◌, ◌≤◌, ◌↔◌, ◌⊎◌, [], ◌∷◌, ◌++◌, length, drop, map, slice_get, IfOk, IfErr, OnOk, OnErr, IsErrOf};
 ghost use Rattle.std.specs.Option.{option_copied};
 ghost use Rattle.message.specs.Content.{content_size};
 ghost use Rattle.message.specs.declared.fault.Fault.TheVariants.{JournalFull, OutOfMemory};
@@ -14,19 +14,25 @@ use message::Fault;
 use std::alloc::Global;
 use std::marker::Model;
 
-/// The lines of a queue, oldest first, and how many there may be.
+/// The lines of a queue, oldest first, and how many there may be. Contracts see also for how many lines
+/// more there is memory for sure: that many [`Journal::reserve`] has promised and no push has taken.
 #[derive(Debug, Drop)]
 pub struct Journal {
     lines: Vec<Line>,
     limit: usize,
+    /// How many lines there are, and how many more were promised a place.
+    room: usize,
 }
 
 impl Model for Journal {
+    ghost use Rattle.std.specs.Prelude.{◌-◌, ◌≤◌, length, vec_capacity};
     ghost use Rattle.journal.specs.Journal.{Lines};
 
     ghost Value = { Lines };
 
-    ghost view = { λ j. record { lines = j.lines.items; limit = j.limit } };
+    ghost view = { λ j. record { lines = j.lines.items; limit = j.limit; spare = j.room - length j.lines.items } };
+
+    ghost invariant = { λ j. (length j.lines.items ≤ j.room) × (j.room ≤ vec_capacity j.lines) };
 }
 
 impl Journal {
@@ -40,6 +46,7 @@ impl Journal {
         Ok(Journal {
             lines: Vec::new(alloc),
             limit,
+            room: 0,
         })
     }
 
@@ -55,7 +62,31 @@ impl Journal {
             return Err(Fault::JournalFull);
         }
         self.lines.push(line)?;
+        self.room = self.room.max(self.lines.len());
         Ok(())
+    }
+
+    /// Makes room for so many lines more, which [`Journal::push_reserved`] then adds without memory.
+    /// `OutOfMemory` is the only refusal; the journal is then as it was.
+    pub fn reserve(&mut self, _alloc: Global, additional: usize) -> Result<(), Fault>
+        ensures lines { self.new ≡ record self.old { spare = self.new.spare } }
+        ensures ok { OnOk result (additional ≤ self.new.spare) }
+        ensures not_less { self.old.spare ≤ self.new.spare }
+        ensures errors { IfErr result (λ fault. fault ≡ OutOfMemory) }
+        ensures err { OnErr result (self.new ≡ self.old) }
+    {
+        self.lines.reserve(additional)?;
+        self.room = self.room.max(self.lines.len() + additional);
+        Ok(())
+    }
+
+    /// Adds a line at the end, at a place that was reserved, in a journal that is not at its limit.
+    pub fn push_reserved(&mut self, line: Line)
+        requires spare { 1 ≤ self.old.spare }
+        requires place { length self.old.lines < self.old.limit }
+        ensures { self.new ≡ with_line self.old line }
+    {
+        self.lines.push_reserved(line);
     }
 
     /// How many lines there are.

@@ -6,11 +6,14 @@
 //!   definitions serves both. [`Origin`] is where a dead letter comes from.
 //! - [`Numbers`]: a list of message numbers.
 //! - [`Journal`]: a list of lines with a limit. [`Journal::push`] adds one at the end or leaves the
-//!   journal as it was; nothing else changes it.
+//!   journal as it was. [`Journal::reserve`] makes room for lines, which [`Journal::push_reserved`] then
+//!   adds without memory; nothing else changes it.
 //! - [`Marks`]: a list of marks. [`Journal::marks`] gives those of the lines from a place on.
-//! - [`Ticks`]: the operation counter. A line read by [`Journal::line`] or [`Journal::marks`] costs one.
+//! - [`Ticks`]: the operation counter. A line read by [`Journal::line`] or [`Journal::marks`] costs one, and
+//!   so does a comparison of two pairs of a moment and a number by [`Ticks::before`].
 //!
-//! Contracts see a journal as the list of its lines and its limit, and marks as their list.
+//! Contracts see a journal as the list of its lines, its limit and how many more lines it has memory for,
+//! and marks as their list.
 #![tactic(auto)]
 
 mod entry;

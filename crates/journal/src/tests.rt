@@ -11,6 +11,12 @@ fn number(text: &str) -> Result<u64, Fault> {
     text.parse::<u64>().map_err(|_| Fault::UnsupportedOperation)
 }
 
+/// The pair of a moment and a number that a text is.
+fn pair(text: &str) -> Result<(u64, u64), Fault> {
+    let (moment, rest) = text.split_once(' ').unwrap_or((text, ""));
+    Ok((number(moment)?, number(rest)?))
+}
+
 /// The time of the milliseconds that a text is.
 fn moment(text: &str) -> Result<Moment, Fault> {
     Moment::new(number(text)?).ok_or(Fault::InvalidParameterValue)
@@ -73,7 +79,19 @@ fn told(alloc: Global, talk: &mut (Journal, Ticks), call: &str) -> Result<String
             let later = one.later(other).milliseconds();
             write!(text, "{later} {} {}", one < other, one > other)?;
         }
+        "before" => {
+            let (one, other) = rest.split_once(" and ").unwrap_or((rest, ""));
+            write!(text, "{}", ticks.before(pair(one)?, pair(other)?))?;
+        }
         "journal" => *journal = Journal::new(alloc, number(rest)? as usize)?,
+        "reserved" => {
+            let (at, rest) = rest.split_once(' ').unwrap_or((rest, ""));
+            let (at, event) = (moment(at)?, event(alloc, rest)?);
+            let mut fresh = Journal::new(alloc, 2)?;
+            fresh.reserve(alloc, 2)?;
+            fresh.push_reserved(Entry { at, event });
+            *journal = fresh;
+        }
         "read" => {
             for place in rest.split(' ') {
                 let place = number(place)? as usize;
@@ -96,7 +114,7 @@ fn told(alloc: Global, talk: &mut (Journal, Ticks), call: &str) -> Result<String
 }
 
 /// What is told of each call, with `|` between calls that are told the same; nothing of a new journal with
-/// a limit, nor of a push that is done. Each place is read by a peek and once more. Ticks are counted on.
+/// a limit, nor of one that takes two lines and has one at a reserved place, nor of a push that is done. Each place is read by a peek and once more. Ticks are counted on.
 const CALLS: &str = "\
 // Times end before 2^62 milliseconds. The later of two, and whether it is the second or the first.
 later 0 1 => 1 true false
@@ -128,6 +146,15 @@ marks 3 | marks 4 | marks 18446744073709551615 => [] of 0, 25 ticks
 journal 5 | 0 sent text | 0 received 30 3,1 - 0 | 0 received 0 - 1 7 | 0 closed | 0 received 30 5,3,5,0,18446744073709551615,1,2,4,9,8,7,5 - 0
 read 0 1 => 0 Sent { delay: 7, content: Content { parts: Parts { body: \"text\", attributes: [], size: 4 } } }; 0 Sent { delay: 7, content: Content { parts: Parts { body: \"text\", attributes: [], size: 4 } } }; 0 Received { timeout: 30, offered: Numbers { numbers: [3, 1] }, leaving: Numbers { numbers: [] }, target: 0 }; 0 Received { timeout: 30, offered: Numbers { numbers: [3, 1] }, leaving: Numbers { numbers: [] }, target: 0 }; 5 lines, 27 ticks
 marks 0 => [Entry { at: Moment { milliseconds: 0 }, event: Sent { delay: 7, content: 4 } }, Entry { at: Moment { milliseconds: 0 }, event: Received { timeout: 30, offered: Numbers { numbers: [3, 1] }, leaving: Numbers { numbers: [] }, target: 0 } }, Entry { at: Moment { milliseconds: 0 }, event: Received { timeout: 0, offered: Numbers { numbers: [] }, leaving: Numbers { numbers: [1] }, target: 7 } }, Entry { at: Moment { milliseconds: 0 }, event: Closed }, Entry { at: Moment { milliseconds: 0 }, event: Received { timeout: 30, offered: Numbers { numbers: [5, 3, 5, 0, 18446744073709551615, 1, 2, 4, 9, 8, 7, 5] }, leaving: Numbers { numbers: [] }, target: 0 } }] of 5, 32 ticks
+// Pairs go by the moment, and by the number where the moments are equal. A comparison costs one tick.
+before 4 9 and 5 0 | before 5 0 and 5 1 | before 0 18446744073709551615 and 18446744073709551615 0 => true
+before 5 0 and 4 9 | before 5 1 and 5 0 | before 5 1 and 5 1 => false
+// A line at a reserved place stands as one that was pushed, and counts for the limit.
+reserved 10 deleted 4
+read 0 1 => 10 Deleted { number: 4 }; 10 Deleted { number: 4 }; none; none; 1 lines, 40 ticks
+20 deleted 5
+20 deleted 99 | 20 deleted 99 => JournalFull
+read 1 => 20 Deleted { number: 5 }; 20 Deleted { number: 5 }; 2 lines, 41 ticks
 ";
 
 /// Each call is told as its line says. One that finds no memory changes nothing, and is made again: so this

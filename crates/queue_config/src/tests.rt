@@ -5,83 +5,64 @@
 use super::*;
 use message::Fault;
 use std::alloc::Global;
-use std::process::Abort;
 use std::test::Fail;
-use texts::{ALARM_FAULTS, ALARM_PAIRS, ALARMS, FORMS, MANY, PAIRS, POLICIES, TEXTS};
+use texts::TEXTS;
 
 mod texts;
 
 /// The keys of an alarm and their values, which `..` stands for in its table.
-const USUAL: [(&str, &str); 6] = [
-    ("queue = ", "\"a\""),
-    ("name = ", "\"x\""),
-    ("metric = ", "\"RefusedCalls\""),
-    ("operator = ", "\"LessThanThreshold\""),
-    ("threshold = ", "0"),
-    ("minutes = ", "2"),
-];
+const USUAL: &str =
+    r#"queue = "a", name = "x", metric = "RefusedCalls", operator = "LessThanThreshold", threshold = 0, minutes = 2"#;
 
-/// Adds the keys that an alarm is given, and those of [`USUAL`] that are not among them.
-fn add_alarm(text: &mut String, given: &str) -> Result<(), Fail> {
-    text.push_str(given)?;
-    let mut is_first = given.is_empty();
-    for (key, value) in USUAL {
-        if given.find(key).is_none() {
-            text.push_str(if is_first { "" } else { ", " })?;
-            write!(text, "{key}{value}")?;
-            is_first = false;
-        }
-    }
-    Ok(())
-}
-
-/// Adds the text behind a number so many times, each time with its own number in the place of `#`.
-fn add_times(text: &mut String, again: &str) -> Result<(), Fail> {
-    let (count, body) = again.split_once(' ').unwrap_or(("0", ""));
-    let (before, after) = body.split_once('#').unwrap_or((body, ""));
-    for number in 0..count.parse::<u32>().unwrap_or(0) {
-        write!(text, "{before}{number}{after}")?;
-    }
-    Ok(())
-}
-
-/// A text with what stands between round brackets as often as its number says.
+/// A text with what stands between round brackets as often as its number says, each time with its own
+/// number in the place of `#`.
 fn repeated(alloc: Global, line: &str) -> Result<String, Fail> {
     let mut text = String::new(alloc);
     for part in line.split('(') {
         let (again, rest) = part.split_once(')').unwrap_or(("", part));
-        add_times(&mut text, again)?;
+        let (count, body) = again.split_once(' ').unwrap_or(("0", ""));
+        let (before, after) = body.split_once('#').unwrap_or((body, ""));
+        for number in 0..count.parse::<u32>().unwrap_or(0) {
+            write!(text, "{before}{number}{after}")?;
+        }
         text.push_str(rest)?;
     }
     Ok(text)
 }
 
-/// Adds a line of a configuration, with the keys that `..` stands for.
-fn add_line(text: &mut String, line: &str) -> Result<(), Fail> {
-    let mut tables = line.split('{');
-    text.push_str(tables.next().unwrap_or(""))?;
-    for table in tables {
-        text.push('{')?;
-        match table.split_once("..") {
-            Some((given, rest)) => {
-                add_alarm(text, given)?;
-                text.push_str(rest)?;
+/// Adds the table of an alarm, or another, with the keys of [`USUAL`] that it does not have in the
+/// place of `..`.
+fn add_table(text: &mut String, table: &str) -> Result<(), Fail> {
+    let Some((given, rest)) = table.split_once("..") else {
+        return Ok(text.push_str(table)?);
+    };
+    let mut is_first = given.is_empty();
+    text.push_str(given)?;
+    for usual in USUAL.split(", ") {
+        let (key, _) = usual.split_once('=').ok_or("a key")?;
+        if given.find(key).is_none() {
+            if !is_first {
+                text.push_str(", ")?;
             }
-            None => text.push_str(table)?,
+            text.push_str(usual)?;
+            is_first = false;
         }
     }
-    text.push('\n')?;
+    text.push_str(rest)?;
     Ok(())
 }
 
 /// The configuration that a text of [`texts`] stands for.
 fn spelled(alloc: Global, text: &str) -> Result<String, Fail> {
-    let repeated = repeated(alloc, text)?;
     let mut spelled = String::new(alloc);
-    if !text.is_empty() {
-        for line in repeated.as_str().split('|') {
-            add_line(&mut spelled, line)?;
+    for line in repeated(alloc, text)?.as_str().split('|') {
+        let mut tables = line.split('{');
+        spelled.push_str(tables.next().unwrap_or(""))?;
+        for table in tables {
+            spelled.push('{')?;
+            add_table(&mut spelled, table)?;
         }
+        spelled.push('\n')?;
     }
     Ok(spelled)
 }
@@ -95,10 +76,8 @@ fn tell_changes(text: &mut String, before: Settings, settings: Settings) -> Resu
             write!(text, " {}={number}", row_of(setting).key)?;
         }
     }
-    if settings.redrive_policy == before.redrive_policy {
-        return Ok(());
-    }
     match settings.redrive_policy {
+        policy if policy == before.redrive_policy => {}
         Some(policy) => {
             let (name, target) = (policy.name, policy.target);
             let count = policy.max_receive_count;
@@ -109,55 +88,27 @@ fn tell_changes(text: &mut String, before: Settings, settings: Settings) -> Resu
     Ok(())
 }
 
-/// Tells an alarm with the uid of its queue: its name, and its rule.
-fn tell_alarm(text: &mut String, alarm: ConfiguredAlarm) -> Result<(), Fail> {
-    let (queue, rule) = (alarm.queue, alarm.rule);
-    let (metric, operator) = (rule.metric.name(), rule.operator.name());
-    let (threshold, minutes, breaches) = (rule.threshold, rule.minutes, rule.breaches);
-    let name = rule.name.as_text();
-    write!(
-        text,
-        "; {name} of {queue}: {metric} {operator} {threshold}, "
-    )?;
-    write!(text, "{breaches} of {minutes}")?;
-    Ok(())
-}
-
-/// What the text of a line is read as.
-fn told(alloc: Global, line: &str) -> Result<String, Fail> {
-    let mut text = String::new(alloc);
-    let config = match config_from_text(alloc, spelled(alloc, line)?.as_str()) {
+/// Tells what is read: the number and the name of a fault; or the limits, the queues, and the alarms, each
+/// with the uid of its queue.
+fn tell(text: &mut String, read: Result<Config, ConfigFault>) -> Result<(), Fail> {
+    text.clear();
+    let config = match read {
         Ok(config) => config,
-        Err(fault) => {
-            write!(text, "{} {}", fault.code(), fault.name())?;
-            return Ok(text);
-        }
+        Err(fault) => return Ok(write!(text, "{} {}", fault.code(), fault.name())?),
     };
     let limits = config.limits;
     write!(text, "{} {}", limits.max_lines, limits.in_flight)?;
     for queue in &config.queues {
         write!(text, "; {}", queue.name.as_text())?;
-        tell_changes(&mut text, Settings::default(), queue.settings)?;
+        tell_changes(text, Settings::default(), queue.settings)?;
     }
     for alarm in &config.alarms {
-        tell_alarm(&mut text, *alarm)?;
-    }
-    Ok(text)
-}
-
-/// Asserts what the texts of a line are read as.
-fn read_as(rt: &impl Abort, alloc: Global, line: &str) -> Result<(), Fail> {
-    let (text, wanted) = line.split_once(" => ").ok_or("a text and an answer")?;
-    let wanted = repeated(alloc, wanted)?;
-    let (before, rest) = text.split_once('<').unwrap_or((text, ""));
-    let (values, after) = rest.split_once('>').unwrap_or(("", ""));
-    for value in values.split(';') {
-        let text = format!(in alloc; "{before}{value}{after}")?;
-        assert_eq!(rt;
-            told(alloc, text.as_str())?.as_str(),
-            wanted.as_str(),
-            "{text}"
-        );
+        let (queue, rule) = (alarm.queue, alarm.rule);
+        let (name, metric) = (rule.name.as_text(), rule.metric.name());
+        let (operator, threshold) = (rule.operator.name(), rule.threshold);
+        write!(text, "; {name} of {queue}: {metric}")?;
+        write!(text, " {operator} {threshold}, ")?;
+        write!(text, "{} of {}", rule.breaches, rule.minutes)?;
     }
     Ok(())
 }
@@ -165,18 +116,17 @@ fn read_as(rt: &impl Abort, alloc: Global, line: &str) -> Result<(), Fail> {
 /// Each text of [`texts`] is read as its line says.
 #[test]
 fn configurations(rt: HostRuntime) -> Result<(), Fail> {
-    for text in [
-        TEXTS,
-        FORMS,
-        PAIRS,
-        POLICIES,
-        ALARMS,
-        ALARM_FAULTS,
-        ALARM_PAIRS,
-        MANY,
-    ] {
-        for line in text.lines() {
-            read_as(&rt, rt.alloc(), line)?;
+    let (alloc, mut told) = (rt.alloc(), String::new(rt.alloc()));
+    for line in TEXTS.lines().filter(|line| !line.starts_with("//")) {
+        let (text, wanted) = line.split_once(" => ").ok_or("a text and an answer")?;
+        let wanted = repeated(alloc, wanted)?;
+        let (before, rest) = text.split_once('<').unwrap_or((text, ""));
+        let (values, after) = rest.split_once('>').unwrap_or(("", ""));
+        for value in values.split(';') {
+            let text = format!(in alloc; "{before}{value}{after}")?;
+            let read = config_from_text(alloc, spelled(alloc, text.as_str())?.as_str());
+            tell(&mut told, read)?;
+            assert_eq!(rt; told.as_str(), wanted.as_str(), "{text}");
         }
     }
     Ok(())
@@ -198,16 +148,16 @@ max_receive_count = 1
 
 /// What each prefix of the example gives, from the empty one on, a line for each of its lines: a
 /// configuration, or the fault Syntax or WrongKind.
-const PREFIXES: &str = "CSSSSSSSC
-CSSSSSSSSSSSSC
-C
-CSSSSSSSSW
-WSSSSSSSSSSSSC
-C
-CSSSSSSSSW
-WSSSSSSSSSSSSC
-CSSSSSSSSSSSSSSSSSSSSSC
-CSSSSSSSSSSSSSSSSSSSSSSSSSW
+const PREFIXES: &str = "CSSSSSSSC\
+CSSSSSSSSSSSSC\
+C\
+CSSSSSSSSW\
+WSSSSSSSSSSSSC\
+C\
+CSSSSSSSSW\
+WSSSSSSSSSSSSC\
+CSSSSSSSSSSSSSSSSSSSSSC\
+CSSSSSSSSSSSSSSSSSSSSSSSSSW\
 WSSSSSSSSSSSSSSSSSSSSCC";
 
 /// What bytes give, as a letter of [`PREFIXES`].
@@ -223,21 +173,12 @@ fn letter(alloc: Global, bytes: &[u8]) -> char {
 /// Each prefix of the example is a configuration or a fault. Bytes that are no text are no TOML.
 #[test]
 fn prefixes(rt: HostRuntime) -> Result<(), Fail> {
-    let alloc = rt.alloc();
-    let mut prefix = String::new(alloc);
-    let mut rest = EXAMPLE.chars();
-    let mut is_whole = false;
-    for wanted in PREFIXES.chars() {
-        if wanted != '\n' {
-            assert!(rt; !is_whole);
-            assert_eq!(rt; letter(alloc, prefix.as_bytes()), wanted, "{prefix}");
-            match rest.next() {
-                Some(next) => prefix.push(next)?,
-                None => is_whole = true,
-            }
-        }
+    let (alloc, mut letters) = (rt.alloc(), String::new(rt.alloc()));
+    for end in 0..=EXAMPLE.len() {
+        let prefix = EXAMPLE.as_bytes().get(..end).ok_or("a prefix")?;
+        letters.push(letter(alloc, prefix))?;
     }
-    assert!(rt; is_whole);
+    assert_eq!(rt; letters.as_str(), PREFIXES);
     assert_eq!(rt; letter(alloc, b"# \xFF\n"), 'S');
     Ok(())
 }
@@ -247,21 +188,34 @@ const BEFORE: &str =
     r#"DelaySeconds=7|VisibilityTimeout=8|MessageRetentionPeriod=90|ReceiveMessageWaitTimeSeconds=9|MaximumMessageSize=2048|RedrivePolicy={"deadLetterTargetArn":"arn:aws:sqs:::old","maxReceiveCount":9}"#;
 
 /// A request: the uid that the name of a dead-letter queue stands for, and attributes one after the
-/// other, with `|` between them. Behind the arrow: of each attribute `done` or the number of its
-/// refusal, what the request changes of the settings, and whether they have all of it before. Of two
-/// values of one name the second counts; one that is refused leaves the request as it was. A policy
-/// that is of another uid is another one. The empty text clears the policy.
+/// other, with `|` between them. Before a `/` stands what was requested of the defaults before, in the
+/// place of [`BEFORE`]. Behind the arrow: of each attribute `done` or the number of its refusal, the name
+/// of the dead-letter queue that is asked for, whether the settings have all of it before, and what it
+/// changes of them. Of two values of one name the second counts; one that is refused leaves the request
+/// as it was. A policy that is of another uid is another one. The empty text clears the policy. Behind
+/// `-` stands the uid of a queue that is gone then: a policy is cleared for its own dead-letter queue
+/// alone.
 const REQUESTS: &str = r#"7 => agrees
 8 => agrees
 7 DelaySeconds=5|DelaySeconds=7 => done done agrees
 7 DelaySeconds=7|DelaySeconds=5 => done done delay_seconds=5
 7 DelaySeconds=1|VisibilityTimeout=2|MessageRetentionPeriod=61|ReceiveMessageWaitTimeSeconds=3|MaximumMessageSize=1025|DelaySeconds=901|VisibilityTimeout=|MessageRetentionPeriod=59|ReceiveMessageWaitTimeSeconds=-1|MaximumMessageSize=five|visibilitytimeout=5|Policy=5 => done done done done done 4 4 4 4 4 3 done delay_seconds=1 visibility_timeout=2 retention_seconds=61 wait_seconds=3 maximum_message_size=1025
-7 RedrivePolicy={"deadLetterTargetArn":"arn:aws:sqs:::dead","maxReceiveCount":3} => done dead#7 after 3
-7 RedrivePolicy=|RedrivePolicy={"deadLetterTargetArn":"arn:aws:sqs:::dead","maxReceiveCount":3} => done done dead#7 after 3
-7 RedrivePolicy={"deadLetterTargetArn":"arn:aws:sqs:::dead","maxReceiveCount":3}|RedrivePolicy= => done done no policy
-7 RedrivePolicy={"deadLetterTargetArn":"arn:aws:sqs:::dead","maxReceiveCount":3}|RedrivePolicy={"deadLetterTargetArn":"arn:aws:sqs:::dead","maxReceiveCount":0} => done 4 dead#7 after 3
-7 RedrivePolicy={"deadLetterTargetArn":"arn:aws:sqs:::old","maxReceiveCount":9} => done agrees
-8 RedrivePolicy={"deadLetterTargetArn":"arn:aws:sqs:::old","maxReceiveCount":9} => done old#8 after 9
+7 RedrivePolicy={"deadLetterTargetArn":"arn:aws:sqs:::dead","maxReceiveCount":3} => done for dead dead#7 after 3
+7 RedrivePolicy=|RedrivePolicy={"deadLetterTargetArn":"arn:aws:sqs:::dead","maxReceiveCount":3} => done done for dead dead#7 after 3
+7 RedrivePolicy={"deadLetterTargetArn":"arn:aws:sqs:::dead","maxReceiveCount":3}|RedrivePolicy= => done done for none no policy
+7 RedrivePolicy={"deadLetterTargetArn":"arn:aws:sqs:::dead","maxReceiveCount":3}|RedrivePolicy={"deadLetterTargetArn":"arn:aws:sqs:::dead","maxReceiveCount":0} => done 4 for dead dead#7 after 3
+7 RedrivePolicy={"deadLetterTargetArn":"arn:aws:sqs:::old","maxReceiveCount":9} => done for old agrees
+8 RedrivePolicy={"deadLetterTargetArn":"arn:aws:sqs:::old","maxReceiveCount":9} => done for old old#8 after 9
+5 - / - => agrees
+7 - / RedrivePolicy={"deadLetterTargetArn":"arn:aws:sqs:elasticmq:000000000000:dead","maxReceiveCount":3} => done for dead dead#7 after 3
+7 RedrivePolicy={"deadLetterTargetArn":"arn:aws:sqs:elasticmq:000000000000:dead","maxReceiveCount":3} / RedrivePolicy={"deadLetterTargetArn":"arn:aws:sqs:elasticmq:000000000000:dead","maxReceiveCount":3} => done for dead agrees
+8 RedrivePolicy={"deadLetterTargetArn":"arn:aws:sqs:elasticmq:000000000000:dead","maxReceiveCount":3} / RedrivePolicy={"deadLetterTargetArn":"arn:aws:sqs:elasticmq:000000000000:dead","maxReceiveCount":3} => done for dead dead#8 after 3
+8 RedrivePolicy={"deadLetterTargetArn":"arn:aws:sqs:elasticmq:000000000000:dead","maxReceiveCount":3} / - => agrees
+7 - / RedrivePolicy= => done for none agrees
+7 RedrivePolicy={"deadLetterTargetArn":"arn:aws:sqs:elasticmq:000000000000:dead","maxReceiveCount":3} / RedrivePolicy= => done for none no policy
+7-8 - / RedrivePolicy={"deadLetterTargetArn":"arn:aws:sqs:elasticmq:000000000000:dead","maxReceiveCount":3} => done for dead dead#7 after 3
+8-7 - / RedrivePolicy={"deadLetterTargetArn":"arn:aws:sqs:elasticmq:000000000000:dead","maxReceiveCount":3} => done for dead dead#8 after 3
+7-7 - / RedrivePolicy={"deadLetterTargetArn":"arn:aws:sqs:elasticmq:000000000000:dead","maxReceiveCount":3} => done for dead
 "#;
 
 /// Requests the attributes of a text, and tells what they are answered.
@@ -279,55 +233,39 @@ fn put(alloc: Global, told: &mut String, text: &str) -> Result<Wish, Fail> {
 }
 
 /// What is told of a request.
-fn told_request(alloc: Global, target: u64, text: &str) -> Result<String, Fail> {
+fn told_request(alloc: Global, request: &str) -> Result<String, Fail> {
+    let (uids, texts) = request.split_once(' ').unwrap_or((request, ""));
+    let (before, text) = texts.split_once(" / ").unwrap_or((BEFORE, texts));
+    let (target, gone) = uids.split_once('-').unwrap_or((uids, ""));
+    let (target, gone) = (target.parse().unwrap_or(0), gone.parse().unwrap_or(0));
     let mut told = String::new(alloc);
-    let before = Settings::default().with(&put(alloc, &mut told, BEFORE)?, 7);
+    let before = Settings::default().with(&put(alloc, &mut told, before)?, 7);
     told.clear();
     let wish = put(alloc, &mut told, text)?;
+    match wish.target() {
+        Some(Some(name)) => write!(told, " for {}", name.as_text())?,
+        Some(None) => told.push_str(" for none")?,
+        None => {}
+    }
     let settings = before.with(&wish, target);
-    tell_changes(&mut told, before, settings)?;
     if before.agrees(&wish, target) {
         told.push_str(" agrees")?;
     }
     if !settings.agrees(&wish, target) {
         told.push_str(" differs afterwards")?;
     }
+    tell_changes(&mut told, before, settings.without_target(gone))?;
     Ok(told)
 }
 
-const DEAD_AFTER_3: &str =
-    r#"RedrivePolicy={"deadLetterTargetArn":"arn:aws:sqs:elasticmq:000000000000:dead","maxReceiveCount":3}"#;
-
-/// Each line of [`REQUESTS`] is told as it says. The name of the dead-letter queue is that which is
-/// asked for. Settings agree with a policy of the same queue, by its uid, and with a clearing where
-/// there is no policy. A policy is cleared for its own dead-letter queue alone.
+/// Each line of [`REQUESTS`] is told as it says.
 #[test]
 fn requests(rt: HostRuntime) -> Result<(), Fail> {
-    let alloc = rt.alloc();
     for line in REQUESTS.lines() {
         let (request, wanted) = line.split_once(" => ").ok_or("a request and an answer")?;
-        let (target, text) = request.split_once(' ').unwrap_or((request, ""));
-        let told = told_request(alloc, target.parse().unwrap_or(0), text)?;
+        let told = told_request(rt.alloc(), request)?;
         assert_eq!(rt; told.as_str().trim_start(), wanted, "{line}");
     }
-    let (none, mut told) = (Settings::default(), String::new(alloc));
-    let (nothing, wish) = (Wish::new(), put(alloc, &mut told, DEAD_AFTER_3)?);
-    assert!(rt; nothing.target() == None);
-    let name = wish.target().ok_or("a policy")?.ok_or("a name")?;
-    assert_eq!(rt; name.as_text(), "dead");
-    let settings = none.with(&wish, 7);
-    assert!(rt; settings.agrees(&wish, 7) && !settings.agrees(&wish, 8));
-    assert!(rt; settings.agrees(&nothing, 8) && !none.agrees(&wish, 7));
-    assert!(rt; none.with(&nothing, 5) == none && none.agrees(&nothing, 5));
-
-    let clearing = put(alloc, &mut told, "RedrivePolicy=")?;
-    assert!(rt; clearing.target() == Some(None));
-    assert!(rt; !settings.agrees(&clearing, 7) && none.agrees(&clearing, 7));
-    assert!(rt; settings.with(&clearing, 7) == none);
-
-    let later = settings.with(&wish, 8);
-    assert!(rt; settings.without_target(8) == settings && later.without_target(7) == later);
-    assert!(rt; settings.without_target(7) == none && none.without_target(0) == none);
     Ok(())
 }
 
@@ -335,52 +273,47 @@ fn requests(rt: HostRuntime) -> Result<(), Fail> {
 const WORDS: &str =
     "DelaySeconds VisibilityTimeout MessageRetentionPeriod ReceiveMessageWaitTimeSeconds MaximumMessageSize NumberOfMessagesSent SentMessageSize NumberOfMessagesReceived NumberOfEmptyReceives NumberOfMessagesDeleted ApproximateNumberOfMessagesVisible ApproximateNumberOfMessagesDelayed ApproximateNumberOfMessagesNotVisible ApproximateAgeOfOldestMessage RefusedCalls DeadLettersArrived GreaterThanThreshold GreaterThanOrEqualToThreshold LessThanThreshold LessThanOrEqualToThreshold";
 
-/// Texts of digits up to the longest that are read, and one digit more, each with its number.
-const NUMBERS: &str = " => none
-0 => 0
-0000000000000000000 => 0
-4611686018427387904 => 4611686018427387904
-9999999999999999999 => 9999999999999999999
-10000000000000000000 => none
-999999999999999999\u{669} => none
-+1 => none
--1 => none";
+/// Texts of digits, each with how many there may be before it, and its number behind it: up to the
+/// longest that are read, and one digit more.
+const NUMBERS: &str = "19  => none
+19 0 => 0
+19 0000000000000000000 => 0
+19 4611686018427387904 => 4611686018427387904
+19 9999999999999999999 => 9999999999999999999
+19 10000000000000000000 => none
+19 999999999999999999\u{669} => none
+19 +1 => none
+19 -1 => none
+1 9 => 9
+1 10 => none
+0 0 => none";
 
 /// Each setting, metric and operator is that of its own name, and each number that of its digits.
 #[test]
 fn words(rt: HostRuntime) -> Result<(), Fail> {
-    let mut words = WORDS.split(' ');
+    let mut words = String::new(rt.alloc());
     for setting in ALL_SETTINGS {
-        let name = words.next().ok_or("a setting")?;
-        assert_eq!(rt; row_of(setting).name, name);
+        let name = row_of(setting).name;
         assert_eq!(rt; setting_named(name), Some(setting));
+        write!(words, "{name} ")?;
     }
     for metric in ALL_METRICS {
-        let name = words.next().ok_or("a metric")?;
-        assert_eq!(rt; metric.name(), name);
+        let name = metric.name();
         assert_eq!(rt; metric_named(name), Some(metric));
+        write!(words, "{name} ")?;
     }
     for operator in ALL_OPERATORS {
-        let name = words.next().ok_or("an operator")?;
-        assert_eq!(rt; operator.name(), name);
+        let name = operator.name();
         assert_eq!(rt; operator_named(name), Some(operator));
+        write!(words, "{name} ")?;
     }
-    assert_eq!(rt; words.next(), None);
-    for word in ["", "delay_seconds", "refusedcalls", "GreaterThan"] {
-        assert!(rt;
-            setting_named(word) == None && metric_named(word) == None,
-            "{word}"
-        );
-        assert!(rt; operator_named(word) == None, "{word}");
-    }
+    assert_eq!(rt; words.as_str().trim_end(), WORDS);
     for line in NUMBERS.lines() {
-        let (digits, wanted) = line.split_once(" => ").ok_or("digits and a number")?;
-        let wanted = wanted.parse::<u64>().ok();
-        assert_eq!(rt; decimal_number(digits, 19), wanted, "{line}");
+        let (text, wanted) = line.split_once(" => ").ok_or("digits and a number")?;
+        let (most, digits) = text.split_once(' ').ok_or("how many")?;
+        let number = decimal_number(digits, most.parse().unwrap_or(0).min(19));
+        assert_eq!(rt; number, wanted.parse().ok(), "{line}");
     }
-    assert_eq!(rt; decimal_number("9", 1), Some(9));
-    assert_eq!(rt; decimal_number("10", 1), None);
-    assert_eq!(rt; decimal_number("0", 0), None);
     Ok(())
 }
 
@@ -402,38 +335,37 @@ threshold = 4
 minutes = 3
 "#;
 
+/// What it is read as.
+const READ: &str =
+    "1000000 2; a b#2 after 3; b; deep of 2: RefusedCalls GreaterThanThreshold 4, 3 of 3";
+
+/// An attribute that is requested twice.
+const TWICE: &str =
+    r#"RedrivePolicy={"deadLetterTargetArn":"arn:aws:sqs:::dead","maxReceiveCount":3}|RedrivePolicy={"deadLetterTargetArn":"arn:aws:sqs:::dead","maxReceiveCount":3}"#;
+
 /// A call whose allocation is refused is `OutOfMemory`, changes nothing, and gives its value when it
 /// is made again; its number is that of the refusals. The gate runs this with ample memory; `rt try
 /// --test --fail-alloc N -- refused_memory` refuses the Nth allocation.
 #[test]
 fn refused_memory(rt: HostRuntime) -> Result<(), Fail> {
     let alloc = rt.alloc();
-    let config = match config_from_text(alloc, CONFIGURATION) {
-        Err(ConfigFault::OutOfMemory) => config_from_text(alloc, CONFIGURATION)?,
-        read => read?,
-    };
-    assert_eq!(rt; config.limits.in_flight, 2);
-    assert_eq!(rt; config.queues.len(), 2);
-    let settings = config.queues.first().ok_or("a queue")?.settings;
-    assert_eq!(rt; settings.redrive_policy.ok_or("a policy")?.target, 2);
-    let alarm = *config.alarms.first().ok_or("an alarm")?;
-    assert_eq!(rt; (alarm.queue, alarm.rule.breaches), (2, 3));
-    let bytes = b"limits.in_flight = 1";
-    let config = match config_from_bytes(alloc, bytes) {
-        Err(ConfigFault::OutOfMemory) => config_from_bytes(alloc, bytes)?,
-        read => read?,
-    };
-    let config = Config::with_limits(alloc, config.limits);
-    assert_eq!(rt; (config.limits.in_flight, config.queues.len()), (1, 0));
-    assert!(rt; config.alarms.is_empty());
+    let told = String::with_capacity(alloc, 200);
+    let mut told = told.or_else(|_| String::with_capacity(alloc, 200))?;
+    let read = config_from_text(alloc, CONFIGURATION);
+    let config = read.or_else(|_| config_from_text(alloc, CONFIGURATION))?;
+    let (limits, bytes) = (config.limits, CONFIGURATION.as_bytes());
+    tell(&mut told, Ok(config))?;
+    assert_eq!(rt; told.as_str(), READ);
+    let read = config_from_bytes(alloc, bytes);
+    tell(&mut told, read.or_else(|_| config_from_bytes(alloc, bytes)))?;
+    assert_eq!(rt; told.as_str(), READ);
+    tell(&mut told, Ok(Config::with_limits(alloc, limits)))?;
+    assert_eq!(rt; told.as_str(), "1000000 2");
 
-    let mut wish = Wish::new();
-    let (name, value) = DEAD_AFTER_3.split_once('=').ok_or("a name and a value")?;
-    if let Err(fault) = wish.put(alloc, name, value) {
-        assert_eq!(rt; fault, Fault::OutOfMemory);
-        assert!(rt; wish.target() == None);
-        wish.put(alloc, name, value)?;
-    }
+    told.clear();
+    let wish = put(alloc, &mut told, TWICE)?;
+    let answers = [" done done", " 18 done", " done 18"];
+    assert!(rt; answers.contains(&told.as_str()), "{told}");
     let target = wish.target().ok_or("a policy")?.ok_or("a name")?;
     assert_eq!(rt; target.as_text(), "dead");
     assert_eq!(rt; ConfigFault::OutOfMemory.code(), Fault::OutOfMemory.code());

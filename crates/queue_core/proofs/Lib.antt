@@ -1,5 +1,6 @@
 pub mod Scans
 pub mod TransferLemmas
+pub mod TallyLemmas
 pub mod LegalLemmas
 pub mod RunLemmas
 pub mod OrderLemmas

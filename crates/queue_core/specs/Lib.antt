@@ -3,6 +3,7 @@ pub mod States
 pub mod Queue
 pub mod Ranges
 pub mod Legal
+pub mod Tally
 pub mod Kept
 pub mod Run
 pub mod Metrics

@@ -33,6 +33,7 @@ mod parcel;
 mod reading;
 mod reply;
 mod state;
+mod tally;
 #[cfg(test)]
 mod tests;
 mod transfers;

@@ -1,10 +1,10 @@
 //! What is found by going through a journal. A function that computes a definition of `specs/` has
 //! its name.
 
-ghost use Rattle.std.specs.Prelude.{◌≡◌, ◌-◌, ◌/◌, ◌≤◌, length, if◌then◌else◌, ◌&&◌};
+ghost use Rattle.std.specs.Prelude.{◌≡◌, is_some, ◌-◌, ◌/◌, ◌≤◌, length, if◌then◌else◌, ◌&&◌};
 ghost use Rattle.std.specs.Option.{option_copied};
 ghost use Rattle.std.specs.List.{find};
-ghost use Rattle.queue_core.specs.Messages.{messages, content_of, message_count, settings_of, settings_after, created_time, modified_time, gives_settings, opens, closes_period, runs_out_in, is_expired, contains_number, offers_number, receive_count, first_receive_time, last_receive_time, loses, status_after, returns, due_after, course_after, course_of, due_time, is_present, is_returned, waits_for, awaits_transfer, closes, is_closed};
+ghost use Rattle.queue_core.specs.Messages.{effect_of, messages, content_of, message_count, settings_of, settings_after, created_time, modified_time, gives_settings, opens, closes_period, runs_out_in, is_expired, contains_number, offers_number, receive_count, first_receive_time, last_receive_time, loses, status_after, returns, due_after, course_after, course_of, due_time, is_present, is_returned, waits_for, awaits_transfer, closes, is_closed};
 ghost use Rattle.queue_core.specs.declared.facts.Status.TheVariants.{Present, Waiting};
 ghost use Rattle.queue_core.specs.States.{is_live, state_of, is_in_state, count_in_state, oldest_age, gauges_of, message_numbered};
 
@@ -41,7 +41,7 @@ pub(crate) fn content_of<'a>(lines: &Entries<'a>, message: &Message) -> Option<&
 }
 
 /// The settings after an event.
-fn settings_after(settings: Settings, event: &Event<Content>) -> Settings
+pub(crate) fn settings_after(settings: Settings, event: &Event<Content>) -> Settings
     ensures { result ≡ settings_after settings event.now }
 {
     match event {
@@ -69,8 +69,15 @@ fn opens(event: &Event<Content>) -> bool
     matches!(event, Event::Opened { .. })
 }
 
+/// Whether an event begins a message.
+pub(crate) fn begins(event: &Event<Content>) -> bool
+    ensures { result ≡ is_some (effect_of event.now).birth }
+{
+    matches!(event, Event::Sent { .. } | Event::Arrived { .. })
+}
+
 /// Whether an event gives the queue its settings.
-fn gives_settings(event: &Event<Content>) -> bool
+pub(crate) fn gives_settings(event: &Event<Content>) -> bool
     ensures { result ≡ gives_settings event.now }
 {
     matches!(event, Event::Opened { .. } | Event::Set { .. })
@@ -408,7 +415,7 @@ pub(crate) fn is_in_state(
 }
 
 /// Whether an event closes the queue.
-fn closes(event: &Event<Content>) -> bool
+pub(crate) fn closes(event: &Event<Content>) -> bool
     ensures { result ≡ closes event.now }
 {
     matches!(event, Event::Closed)

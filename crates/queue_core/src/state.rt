@@ -12,6 +12,7 @@ use crate::entries::Entries;
 use crate::facts::{Candidate, Message, MessageState};
 use crate::offers::{Offer, Offers};
 use crate::reply::{Look, Posted, Reply};
+use crate::tally::Tally;
 use crate::{order, reading};
 use journal::{Entry, Event, Journal, Moment, Ticks};
 use message::{Content, Fault, MessageId, QueueName};
@@ -50,23 +51,25 @@ pub struct QueueState {
     rules: Vec<AlarmRule>,
     clock: Moment,
     journal: Journal,
+    tally: Tally,
 }
 
 impl Model for QueueState {
     ghost use Rattle.queue_core.specs.Queue.{QueueHistory};
     ghost use Rattle.queue_core.specs.Kept.{IsKept};
+    ghost use Rattle.queue_core.specs.Tally.{Tallies};
 
     ghost Value = { QueueHistory };
 
     ghost view = { λ q. record { uid = q.uid; name = q.name; limits = q.limits; rules = q.rules.items; clock = q.clock; lines = q.journal.lines } };
 
-    ghost invariant = { λ q. IsKept (record { uid = q.uid; name = q.name; limits = q.limits; rules = q.rules.items; clock = q.clock; lines = q.journal.lines }) q.journal.limit };
+    ghost invariant = { λ q. IsKept (record { uid = q.uid; name = q.name; limits = q.limits; rules = q.rules.items; clock = q.clock; lines = q.journal.lines }) q.journal.limit × Tallies q.tally q.journal.lines };
 }
 
 impl QueueState {
     ghost use Rattle.journal.specs.declared.entry.Event.TheVariants.{Deleted, DeletedAgain, Refused};
     ghost use Rattle.queue_core.specs.declared.facts.MessageState.TheVariants.{InFlight};
-    ghost use Rattle.queue_core.specs.Messages.{is_closed, message_count, own_id, message_id, content_of, settings_of, receive_count, first_receive_time};
+    ghost use Rattle.queue_core.specs.Messages.{is_closed, created_time, modified_time, message_count, own_id, message_id, content_of, settings_of, receive_count, first_receive_time};
     ghost use Rattle.queue_core.specs.States.{is_live, is_in_state, is_numbered, gauges_of};
     ghost use Rattle.queue_core.specs.Queue.{at_moment, is_full, first_refusal, in_flight_count, offer_limit, is_exhausted, most_departures, scanned, offered_candidates, leaving_candidates, policy_target, offer_of, offers_of, is_valid_handle, is_latest_handle, holds_in_flight, holds_live, passes_twelve_hours, change_refusal, look_of, outcome_at, IsExact, with_event, after_answer, as_reply};
     ghost use Rattle.queue_core.specs.Ranges.{IsDelay, IsTimeout, IsMaximum};
@@ -98,6 +101,7 @@ impl QueueState {
             rules,
             clock: at,
             journal,
+            tally: Tally::opened(settings, at),
         })
     }
 
@@ -126,7 +130,7 @@ impl QueueState {
     fn is_closed(&self) -> bool
         ensures { result ≡ is_closed self.now.lines }
     {
-        reading::is_closed(&self.entries())
+        self.tally.is_closed
     }
 
     /// What refuses a command before anything of it is asked.
@@ -183,7 +187,21 @@ impl QueueState {
     pub fn settings(&self) -> Settings
         ensures { result ≡ settings_of self.now.lines }
     {
-        reading::settings_of(&self.entries())
+        self.tally.settings
+    }
+
+    /// When the queue was opened.
+    fn created(&self) -> Moment
+        ensures { result ≡ created_time self.now.lines }
+    {
+        self.tally.created
+    }
+
+    /// When the queue last got settings.
+    fn modified(&self) -> Moment
+        ensures { result ≡ modified_time self.now.lines }
+    {
+        self.tally.modified
     }
 
     /// Whether a content is larger than the queue takes.
@@ -206,7 +224,18 @@ impl QueueState {
     pub fn message_count(&self) -> u64
         ensures { result ≡ message_count self.now.lines }
     {
-        reading::message_count(&self.entries())
+        self.tally.messages
+    }
+
+    /// The same number, which can be counted on.
+    fn messages_so_far(&self) -> u64
+        ensures count { result ≡ message_count self.now.lines }
+        ensures small { result < 2 ^ 63 }
+    {
+        let count = self.message_count();
+        // The journal has at most one entry more than this, a number of 32 bits.
+        let _most = self.limits.max_lines;
+        count
     }
 
     /// Whether as many messages are in flight as may be.
@@ -459,7 +488,14 @@ impl QueueState {
         ensures errors { IfErr result (λ fault. fault ≡ OutOfMemory) }
     {
         let at = self.clock;
-        self.journal.push(alloc, Entry { at, event })
+        let tally = self.tally.after(self.messages_so_far(), at, &event);
+        match self.journal.push(alloc, Entry { at, event }) {
+            Ok(()) => {
+                self.tally = tally;
+                Ok(())
+            }
+            Err(fault) => Err(fault),
+        }
     }
 
     /// Refuses a command with an entry. With `OutOfMemory` in its place the queue is as it was.
@@ -718,8 +754,8 @@ impl QueueState {
         Look {
             gauges: self.gauges(),
             settings: self.settings(),
-            created: reading::created_time(&self.entries()),
-            modified: reading::modified_time(&self.entries()),
+            created: self.created(),
+            modified: self.modified(),
             lines: self.journal.len() as u64,
             clock: self.clock,
             closed: self.is_closed(),

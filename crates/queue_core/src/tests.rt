@@ -227,7 +227,7 @@ fn tell_answer(text: &mut String, answer: &Result<Reply, Fault>) -> Result<(), F
 }
 
 /// Tells of a `queue` its uid, its name and whether it has the default settings; how many `messages` it ever
-/// had; the `span` of its minutes and how many rows; the `row` of a minute; its counts `now` and what happened
+/// had; the `span` of its minutes and how many rows; the row of a `minute`; its counts `now` and what happened
 /// in its minute; the `name` and the `state` of the alarm at a place, and all states; the dead letter that is
 /// `waiting` first; the `line` at a place, and the `marks` from there on with the operations counted; of a
 /// dead letter that `arrives` whether it was known. It may `advance` the clock or `open` another queue. Tells
@@ -248,7 +248,7 @@ fn tell_reading(
         }
         "messages" => tell(text, &queue.message_count()),
         "span" => tell(text, &(queue.span(), queue.rows(alloc)?.len())),
-        "row" => tell(text, &queue.row(at)),
+        "minute" => tell(text, &queue.row(at)),
         "now" => tell(text, &(queue.gauges(), queue.current())),
         "name" => match queue.alarm_name(at as usize) {
             Some(name) => tell(text, &name.as_text()),
@@ -374,7 +374,7 @@ const NINTH: &str =
 const READINGS: &str = r#"open 99 125000 DelaySeconds 0
 queue => (2, "jobs", true)
 span => ((2, 2), 0)
-row 2 => None
+minute 2 => None
 240000 send 1 text => Sent(Posted { number: 0, id: MessageId { uid: 2, number: 0 } })
 now => (Gauges { visible: 1, delayed: 0, in_flight: 0, age: 0 }, Flows { sent: 1, sent_size: 4, received: 0, empty_receives: 0, deleted: 0, refused: 0, dead_letters_arrived: 0 })
 name 0 => "deep"
@@ -387,9 +387,9 @@ state 0 => (Some(Alarm), [Alarm])
 name 1 => "none"
 state 1 => (None, [Alarm])
 span => ((2, 6), 4)
-row 4 => Some(Row { minute: 4, flows: Flows { sent: 1, sent_size: 4, received: 0, empty_receives: 0, deleted: 0, refused: 0, dead_letters_arrived: 0 }, gauges: Gauges { visible: 1, delayed: 0, in_flight: 0, age: 59 } })
-row 1 => None
-row 18446744073709551615 => None
+minute 4 => Some(Row { minute: 4, flows: Flows { sent: 1, sent_size: 4, received: 0, empty_receives: 0, deleted: 0, refused: 0, dead_letters_arrived: 0 }, gauges: Gauges { visible: 1, delayed: 0, in_flight: 0, age: 59 } })
+minute 1 => None
+minute 18446744073709551615 => None
 "#;
 
 /// Calls whose allocation is refused answer `OutOfMemory`, move the clock and nothing else, and give

@@ -3,11 +3,13 @@
 //! are not the default, and each alarm with its queue's uid. `<A;B>` makes two texts of it, one with A
 //! in that place and one with B. `(16 TEXT)` is TEXT 16 times, with the numbers from 0 in the place of
 //! `#`, also behind the arrow. In the table of an alarm `..` stands for the keys of
-//! [`USUAL`](super::USUAL) that the table does not have. What each text is read as was computed with
-//! another reader of TOML, from the ranges and the order of the faults in docs/PROFILE.md.
+//! [`USUAL`](super::USUAL) that the table does not have. A line that begins with `//` says what those
+//! behind it show. What each text is read as was computed with another reader of TOML, from the ranges
+//! and the order of the faults in docs/PROFILE.md.
 
-/// Texts with one fault or none.
-pub(super) const TEXTS: &str = r#" => 1000000 120000
+/// What each configuration is read as.
+pub(super) const TEXTS: &str = r#"// Texts with one fault or none.
+ => 1000000 120000
 queue = [] => 1000000 120000
 [limits]|in_flight = 2||[[queue]]|name = "dead"||[[queue]]|name = "jobs"|visibility_timeout = 1 => 1000000 2; dead; jobs visibility_timeout=1
 limits.max_lines = 16777216|queue = [{name = "a"}, {wait_seconds = 20, name = "b", delay_seconds = 900}] => 16777216 120000; a; b delay_seconds=900 wait_seconds=20
@@ -23,10 +25,8 @@ queue = <1;[1]> => 3 WrongKind
 [[queue]]|name = <"a b";""> => 4 OutOfRange
 <[[queue]]|name = "a"|wait_seconds = 21;[[queue]]|name = "a"|maximum_message_size = 262145;[limits]|in_flight = 0|[[queue]]|nom = "a"> => 4 OutOfRange
 [[queue]]|name = "a"|[[queue]]|name = "A"|[[queue]]|name = "a" => 5 NameTwice
-"#;
-
-/// Forms of TOML: inline tables, dotted and quoted keys, numbers and values of every kind.
-pub(super) const FORMS: &str = r#"queue = [] => 1000000 120000
+// Forms of TOML: inline tables, dotted and quoted keys, numbers and values of every kind.
+queue = [] => 1000000 120000
 <queue = {};limits = [];queue = [[]];queue = [{}];limits.in_flight.x = 1;[limits.in_flight];[[queue]]|name.x = "a";[limits]|max_lines = 1.5> => 3 WrongKind
 limits = {} => 1000000 120000
 queue = [{name = "a", wait_seconds = 0x14}] => 1000000 120000; a wait_seconds=20
@@ -42,12 +42,9 @@ limits.in_flight = 1_000|limits.max_lines = 1 => 1 1000
 [[queue]]|name = "nnnnnnnnnnnnnnnnnnnnnnnnnnnnnnnnnnnnnnnnnnnnnnnnnnnnnnnnnnnnnnnnnnnnnnnnnnnnnnnn" => 1000000 120000; nnnnnnnnnnnnnnnnnnnnnnnnnnnnnnnnnnnnnnnnnnnnnnnnnnnnnnnnnnnnnnnnnnnnnnnnnnnnnnnn
 [[queue]]|name = <"nnnnnnnnnnnnnnnnnnnnnnnnnnnnnnnnnnnnnnnnnnnnnnnnnnnnnnnnnnnnnnnnnnnnnnnnnnnnnnnnn";"\u00e9"> => 4 OutOfRange
 [[queue]]|name = "a"|retention_seconds = 1209600|maximum_message_size = 262144 => 1000000 120000; a retention_seconds=1209600
-"#;
-
-/// Texts with two faults, each pair in either order, and two faults of one table, whose keys are
-/// judged in the order of their bytes.
-pub(super) const PAIRS: &str =
-    r#"<[[queue]]|name = "u"|zzz = 1|a =;[[queue]]|name = 5|a =;a =|[[queue]]|name = "u"|zzz = 1;a =|[[queue]]|name = 5;a =|[[queue]]|name = "r"|wait_seconds = 21> => 1 Syntax
+// Texts with two faults, each pair in either order, and two faults of one table, whose keys are
+// judged in the order of their bytes.
+<[[queue]]|name = "u"|zzz = 1|a =;[[queue]]|name = 5|a =;a =|[[queue]]|name = "u"|zzz = 1;a =|[[queue]]|name = 5;a =|[[queue]]|name = "r"|wait_seconds = 21> => 1 Syntax
 <[[queue]]|name = "r"|wait_seconds = 21|a =;[[queue]]|name = "a"|[[queue]]|name = "a"|a =;a =|[[queue]]|name = "a"|[[queue]]|name = "a"> => 1 Syntax
 <[[queue]]|name = "u"|zzz = 1|[[queue]]|name = 5;[[queue]]|name = "u"|zzz = 1|[[queue]]|name = "r"|wait_seconds = 21> => 2 UnknownKey
 <[[queue]]|name = 5|[[queue]]|name = "u"|zzz = 1;[[queue]]|name = 5|[[queue]]|name = "r"|wait_seconds = 21;[[queue]]|name = 5|[[queue]]|name = "a"|[[queue]]|name = "a"> => 3 WrongKind
@@ -58,13 +55,10 @@ pub(super) const PAIRS: &str =
 <[[queue]]|name = 5|aaa = 1;[[queue]]|aaa = 1|delay_seconds = 901;[[queue]]|delay_seconds = 901|aaa = 1> => 2 UnknownKey
 <[[queue]]|delay_seconds = 901|name = 5;[[queue]]|name = 5|delay_seconds = 901;[[queue]]|delay_seconds = 901|zzz = 1;[[queue]]|zzz = 1|delay_seconds = 901> => 4 OutOfRange
 <[[queue]]|name = "a b"|wait_seconds = "1";[[queue]]|wait_seconds = "1"|name = "a b"> => 4 OutOfRange
-"#;
-
-/// Dead-letter queues: the examples of docs/PROFILE.md, targets before and after their queue in the
-/// text, two queues that name each other; then targets that are not there, half a policy, and values
-/// of another kind or out of range; then texts with two faults.
-pub(super) const POLICIES: &str =
-    r#"[limits]|in_flight = 2||[[queue]]|name = "dead"||[[queue]]|name = "jobs"|visibility_timeout = 1|dead_letter_queue = "dead"|max_receive_count = 1 => 1000000 2; dead; jobs visibility_timeout=1 dead#1 after 1
+// Dead-letter queues: the examples of docs/PROFILE.md, targets before and after their queue in the
+// text, two queues that name each other; then targets that are not there, half a policy, and values
+// of another kind or out of range; then texts with two faults.
+[limits]|in_flight = 2||[[queue]]|name = "dead"||[[queue]]|name = "jobs"|visibility_timeout = 1|dead_letter_queue = "dead"|max_receive_count = 1 => 1000000 2; dead; jobs visibility_timeout=1 dead#1 after 1
 [[queue]]|name = "dead"|retention_seconds = 60|[[queue]]|name = "jobs"|visibility_timeout = 1|dead_letter_queue = "dead"|max_receive_count = 1 => 1000000 120000; dead retention_seconds=60; jobs visibility_timeout=1 dead#1 after 1
 [[queue]]|name = "jobs"|max_receive_count = 1000|dead_letter_queue = "dead"|[[queue]]|name = "other"|[[queue]]|name = "dead" => 1000000 120000; jobs dead#3 after 1000; other; dead
 queue = [{name = "a", dead_letter_queue = "b", max_receive_count = 3}, {name = "b", dead_letter_queue = "a", max_receive_count = 4}] => 1000000 120000; a b#2 after 3; b a#1 after 4
@@ -83,12 +77,9 @@ queue = [{name = "a"}, {name = "b", dead_letter_queue = "a", max_receive_count =
 <[[queue]]|delay_seconds = "1"|max_receive_count = 0;[[queue]]|name = "a"|max_receive_count = 1|[[queue]]|zzz = 1;[[queue]]|name = "a"|[[queue]]|name = "a"|dead_letter_queue = "b"> => 3 WrongKind
 <[[queue]]|name = 5|max_receive_count = 1001;[[queue]]|name = "a"|dead_letter_queue = "a"|max_receive_count = 1|[[queue]]|name = "b"|wait_seconds = 21> => 4 OutOfRange
 [[queue]]|name = "a"|dead_letter_queue = "b"|max_receive_count = 1|[[queue]]|name = "a" => 5 NameTwice
-"#;
-
-/// The example of docs/PROFILE.md with an alarm, every metric and operator, the ends of each range,
-/// and alarms of several queues.
-pub(super) const ALARMS: &str =
-    r#"[limits]|in_flight = 2||[[queue]]|name = "dead"||[[queue]]|name = "jobs"|visibility_timeout = 1|dead_letter_queue = "dead"|max_receive_count = 1||[[alarm]]|queue = "jobs"|name = "deep"|metric = "RefusedCalls"|operator = "GreaterThanOrEqualToThreshold"|threshold = 1|minutes = 1 => 1000000 2; dead; jobs visibility_timeout=1 dead#1 after 1; deep of 2: RefusedCalls GreaterThanOrEqualToThreshold 1, 1 of 1
+// The example of docs/PROFILE.md with an alarm, every metric and operator, the ends of each range,
+// and alarms of several queues.
+[limits]|in_flight = 2||[[queue]]|name = "dead"||[[queue]]|name = "jobs"|visibility_timeout = 1|dead_letter_queue = "dead"|max_receive_count = 1||[[alarm]]|queue = "jobs"|name = "deep"|metric = "RefusedCalls"|operator = "GreaterThanOrEqualToThreshold"|threshold = 1|minutes = 1 => 1000000 2; dead; jobs visibility_timeout=1 dead#1 after 1; deep of 2: RefusedCalls GreaterThanOrEqualToThreshold 1, 1 of 1
 alarm = [] => 1000000 120000
 queue = [{name = "a"}]|alarm = [{name = "m0", metric = "NumberOfMessagesSent", operator = "GreaterThanThreshold" ..}, {name = "m1", metric = "SentMessageSize", operator = "GreaterThanOrEqualToThreshold", threshold = 1 ..}, {name = "m2", metric = "NumberOfMessagesReceived", threshold = 2 ..}, {name = "m3", metric = "NumberOfEmptyReceives", operator = "LessThanOrEqualToThreshold", threshold = 3 ..}, {name = "m4", metric = "NumberOfMessagesDeleted", operator = "GreaterThanThreshold", threshold = 4 ..}, {name = "m5", metric = "ApproximateNumberOfMessagesVisible", operator = "GreaterThanOrEqualToThreshold", threshold = 5 ..}, {name = "m6", metric = "ApproximateNumberOfMessagesDelayed", threshold = 6 ..}, {name = "m7", metric = "ApproximateNumberOfMessagesNotVisible", operator = "LessThanOrEqualToThreshold", threshold = 7 ..}, {name = "m8", metric = "ApproximateAgeOfOldestMessage", operator = "GreaterThanThreshold", threshold = 8 ..}, {name = "m9", operator = "GreaterThanOrEqualToThreshold", threshold = 9 ..}, {name = "m10", metric = "DeadLettersArrived", threshold = 10 ..}] => 1000000 120000; a; m0 of 1: NumberOfMessagesSent GreaterThanThreshold 0, 2 of 2; m1 of 1: SentMessageSize GreaterThanOrEqualToThreshold 1, 2 of 2; m2 of 1: NumberOfMessagesReceived LessThanThreshold 2, 2 of 2; m3 of 1: NumberOfEmptyReceives LessThanOrEqualToThreshold 3, 2 of 2; m4 of 1: NumberOfMessagesDeleted GreaterThanThreshold 4, 2 of 2; m5 of 1: ApproximateNumberOfMessagesVisible GreaterThanOrEqualToThreshold 5, 2 of 2; m6 of 1: ApproximateNumberOfMessagesDelayed LessThanThreshold 6, 2 of 2; m7 of 1: ApproximateNumberOfMessagesNotVisible LessThanOrEqualToThreshold 7, 2 of 2; m8 of 1: ApproximateAgeOfOldestMessage GreaterThanThreshold 8, 2 of 2; m9 of 1: RefusedCalls GreaterThanOrEqualToThreshold 9, 2 of 2; m10 of 1: DeadLettersArrived LessThanThreshold 10, 2 of 2
 queue = [{name = "a"}]|alarm = [{breaches = 1 ..}] => 1000000 120000; a; x of 1: RefusedCalls LessThanThreshold 0, 1 of 2
@@ -102,11 +93,8 @@ queue = [{name = "a"}]|alarm = [{name = "nnnnnnnnnnnnnnnnnnnnnnnnnnnnnnnnnnnnnnn
 queue = [{name = "b"}, {name = "a"}]|alarm = [{name = "y" ..}, {..}] => 1000000 120000; b; a; y of 2: RefusedCalls LessThanThreshold 0, 2 of 2; x of 2: RefusedCalls LessThanThreshold 0, 2 of 2
 queue = [{name = "b"}, {name = "a"}]|alarm = [{..}, {queue = "b" ..}, {name = "X" ..}] => 1000000 120000; b; a; x of 2: RefusedCalls LessThanThreshold 0, 2 of 2; x of 1: RefusedCalls LessThanThreshold 0, 2 of 2; X of 2: RefusedCalls LessThanThreshold 0, 2 of 2
 [[alarm]]|queue = "b"|name = "x"|metric = "SentMessageSize"|operator = "GreaterThanThreshold"|threshold = 5|minutes = 3|breaches = 2|[[queue]]|name = "a"|[[queue]]|name = "b" => 1000000 120000; a; b; x of 2: SentMessageSize GreaterThanThreshold 5, 2 of 3
-"#;
-
-/// Alarms with one fault.
-pub(super) const ALARM_FAULTS: &str =
-    r#"<[[alarm]];alarm = {};[alarm]|queue = "a";alarm = [[]]> => 3 WrongKind
+// Alarms with one fault.
+<[[alarm]];alarm = {};[alarm]|queue = "a";alarm = [[]]> => 3 WrongKind
 alarm = <1;[1]> => 3 WrongKind
 alarms = [] => 2 UnknownKey
 queue = [{name = "a"}]|alarm = [<{more = 1 ..};{Metric = "RefusedCalls" ..}>] => 2 UnknownKey
@@ -134,12 +122,9 @@ queue = [{name = "a"}]|alarm = [{queue = "a", name = "x", metric = "RefusedCalls
 queue = [{name = "a"}]|alarm = [<{..}, {..};{..}, {name = "y" ..}, {metric = "SentMessageSize" ..}>] => 5 NameTwice
 queue = [{name = "a"}]|alarm = [{queue = <"b";"A";"ab"> ..}] => 6 NoSuchTarget
 queue = []|alarm = [{..}] => 6 NoSuchTarget
-"#;
-
-/// Alarms with two faults, pairs of tables in either order, and two faults of one table, whose keys
-/// are judged in the order of their bytes.
-pub(super) const ALARM_PAIRS: &str =
-    r#"queue = [{name = "a"}]|alarm = [<{zzz = 1 ..}, {metric = 1 ..};{zzz = 1 ..}, {minutes = 181 ..}>] => 2 UnknownKey
+// Alarms with two faults, pairs of tables in either order, and two faults of one table, whose keys
+// are judged in the order of their bytes.
+queue = [{name = "a"}]|alarm = [<{zzz = 1 ..}, {metric = 1 ..};{zzz = 1 ..}, {minutes = 181 ..}>] => 2 UnknownKey
 queue = [{name = "a"}]|alarm = [<{metric = 1 ..}, {zzz = 1 ..};{queue = "a", metric = "RefusedCalls", operator = "LessThanThreshold", threshold = 0, minutes = 2}, {zzz = 1 ..}>] => 3 WrongKind
 queue = [{name = "a"}]|alarm = [<{minutes = 181 ..}, {zzz = 1 ..};{name = "b", breaches = 3 ..}, {zzz = 1 ..};{minutes = 181 ..}, {metric = 1 ..}>] => 4 OutOfRange
 queue = [{name = "a"}]|alarm = [{zzz = 1 ..}, {queue = "a", metric = "RefusedCalls", operator = "LessThanThreshold", threshold = 0, minutes = 2}] => 2 UnknownKey
@@ -172,13 +157,10 @@ queue = [{name = "a"}]|alarm = [<{queue = "b" ..}, {queue = "b" ..};{queue = "b"
 queue = [{name = "a", dead_letter_queue = "a", max_receive_count = 1}]|alarm = [{queue = "b" ..}] => 6 NoSuchTarget
 queue = [{name = "a", dead_letter_queue = "c", max_receive_count = 1}]|alarm = [{..}] => 6 NoSuchTarget
 queue = [{name = "a"}]|alarm = [{..}, {zzz = 1 ..}, {..}] => 2 UnknownKey
-"#;
-
-/// The 1,001st queue and the 17th alarm of a queue, in the text or not, are refused before equal names
-/// and targets that are not there. Alarms of other queues do not count. 1,000 queues, and 16 alarms of a
-/// queue beside those of another, are read.
-pub(super) const MANY: &str =
-    r#"(1000 [[queue]]|name = "q#"|)dead_letter_queue = "q1000"|max_receive_count = 1 => 6 NoSuchTarget
+// The 1,001st queue and the 17th alarm of a queue, in the text or not, are refused before equal names
+// and targets that are not there. Alarms of other queues do not count. 1,000 queues, and 16 alarms of a
+// queue beside those of another, are read.
+(1000 [[queue]]|name = "q#"|)dead_letter_queue = "q1000"|max_receive_count = 1 => 6 NoSuchTarget
 (1000 [[queue]]|name = "q#"|)dead_letter_queue = "q1000"|max_receive_count = 1|[[queue]]|name = "q1" => 4 OutOfRange
 queue = [{name = "a"}, {name = "b"}]|alarm = [{queue = "b", name = "x0" ..}, (17 {name = "x#" ..}, ){queue = "b", name = "x1" ..}] => 4 OutOfRange
 queue = [{name = "a"}, {name = "b"}]|alarm = [{name = "x98" ..}, (15 {name = "x#" ..}, ){name = "x99" ..}] => 4 OutOfRange

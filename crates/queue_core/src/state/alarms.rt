@@ -76,7 +76,7 @@ impl QueueState {
         ensures count { result ≡ complete_minutes self.now.lines self.now.clock }
         ensures within { result ≤ window_end self.now.clock }
     {
-        let created = reading::created_time(&self.entries());
+        let created = self.created();
         window_end(self.clock).saturating_sub(minute_of(created))
     }
 

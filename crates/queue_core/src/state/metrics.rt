@@ -29,7 +29,7 @@ impl QueueState {
         ensures first { result.0 ≡ window_start (created_time self.now.lines) self.now.clock }
         ensures end { result.1 ≡ window_end self.now.clock }
     {
-        let created = reading::created_time(&self.entries());
+        let created = self.created();
         (window_start(created, self.clock), window_end(self.clock))
     }
 
@@ -66,7 +66,7 @@ impl QueueState {
         ensures window { result ≡ is_in_window (created_time self.now.lines) self.now.clock minute }
         ensures over { result ≡ true → minute_end minute ≤ self.now.clock }
     {
-        is_in_window(reading::created_time(&self.entries()), self.clock, minute)
+        is_in_window(self.created(), self.clock, minute)
     }
 
     /// The metrics of a minute that is over.

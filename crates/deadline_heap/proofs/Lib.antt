@@ -1,0 +1,6 @@
+pub mod Cost
+pub mod HeapOrder
+pub mod Keyed
+pub mod Moments
+pub mod Placing
+pub mod RowSearch

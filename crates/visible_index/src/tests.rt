@@ -1,0 +1,113 @@
+//! Talks with an index, by answers worked out by hand, and what it costs to put pairs in by falling moment.
+
+use super::*;
+use journal::Ticks;
+use message::Fault;
+use std::alloc::Global;
+use std::test::Fail;
+
+/// The number that a text is.
+fn number(text: &str) -> Result<u64, Fault> {
+    text.parse::<u64>().map_err(|_| Fault::UnsupportedOperation)
+}
+
+/// Does what a call says of an index and a count of ticks, and gives what is told. The text has its memory
+/// first, so that the call can be made again where memory is refused.
+fn told(alloc: Global, talk: &mut (VisibleIndex, Ticks), call: &str) -> Result<String, Fault> {
+    let (index, ticks) = talk;
+    let mut text = String::with_capacity(alloc, 500)?;
+    let mut words = call.split(' ');
+    let verb = words.next().unwrap_or("");
+    let moment = number(words.next().unwrap_or("0"))?;
+    let number = number(words.next().unwrap_or("0"))?;
+    match verb {
+        "reserve" => index.reserve(alloc, moment as usize)?,
+        "put" => {
+            index.reserve(alloc, 1)?;
+            index.put(moment, number, ticks);
+        }
+        "first" => write!(text, "{:?}", index.take_first())?,
+        "remove" => write!(text, "{}", index.remove(moment, number, ticks))?,
+        _ => {
+            for place in 0..index.len() {
+                if let Some((moment, number)) = index.get(place) {
+                    write!(text, "{moment} {number}, ")?;
+                }
+            }
+            write!(
+                text,
+                "{:?}, {} ticks",
+                index.get(index.len()),
+                ticks.count()
+            )?;
+        }
+    }
+    Ok(text)
+}
+
+/// What is told of each call, with `|` between calls that are told the same; nothing of a reserve or a
+/// put. Ticks are counted on: those of a search by halving, and one more where `remove` finds a pair that
+/// is not less.
+const CALLS: &str = "\
+list => None, 0 ticks
+first => None
+remove 0 0 => false
+// Pairs stand by moment, and by number where the moments are equal.
+reserve 3 | put 5 1 | put 5 0 | put 4 9
+list => 4 9, 5 0, 5 1, None, 3 ticks
+// A pair is taken out once.
+remove 5 0 => true
+remove 5 0 | remove 9 9 => false
+list => 4 9, 5 1, None, 10 ticks
+// A pair may be there twice, and then goes once at a time.
+put 5 1
+list => 4 9, 5 1, 5 1, None, 12 ticks
+// The least one is taken first, at no cost.
+first => Some((4, 9))
+first | first => Some((5, 1))
+first => None
+list => None, 12 ticks
+// The greatest moments and numbers.
+put 18446744073709551615 18446744073709551615 | put 0 18446744073709551615 | put 18446744073709551615 0
+list => 0 18446744073709551615, 18446744073709551615 0, 18446744073709551615 18446744073709551615, None, 15 ticks
+";
+
+/// Each call is told as its line says. One that finds no memory changes nothing, and is made again: so this
+/// passes with ample memory, and under `rt try --test --fail-alloc N`, which refuses the Nth allocation.
+#[test]
+fn refused_memory(rt: HostRuntime) -> Result<(), Fail> {
+    let alloc = rt.alloc();
+    let mut talk = (VisibleIndex::new(alloc), Ticks::new(&rt));
+    for line in CALLS.lines().filter(|line| !line.starts_with("//")) {
+        let (calls, wanted) = line.split_once(" => ").unwrap_or((line, ""));
+        for call in calls.split(" | ") {
+            let told = match told(alloc, &mut talk, call) {
+                Err(Fault::OutOfMemory) => told(alloc, &mut talk, call),
+                told => told,
+            };
+            let told = match &told {
+                Ok(text) => text.as_str(),
+                Err(fault) => fault.name(),
+            };
+            assert_eq!(rt; told, wanted, "{call}");
+        }
+    }
+    Ok(())
+}
+
+/// Whoever puts a thousand pairs in by falling moment compares 999 times at least: an index that compares
+/// by other means than the counter's would count less.
+#[test]
+fn falling_moments(rt: HostRuntime) -> Result<(), Fail> {
+    let alloc = rt.alloc();
+    let (mut index, mut ticks) = (VisibleIndex::new(alloc), Ticks::new(&rt));
+    for moment in (0..1000).rev() {
+        index.reserve(alloc, 1)?;
+        index.put(moment, 7, &mut ticks);
+    }
+    assert!(rt; ticks.count() >= 999);
+    for (place, wanted) in [(0, Some((0, 7))), (999, Some((999, 7))), (1000, None)] {
+        assert_eq!(rt; index.get(place), wanted, "{place}");
+    }
+    Ok(())
+}
