@@ -1,6 +1,6 @@
 //! The map of deadlines.
 
-ghost use Rattle.std.specs.Prelude.{◌≡◌, ℕ, ◌+◌, ◌*◌, ◌^◌, ◌<◌, ◌≤◌, if◌then◌else◌, is_some, None, IsSome, OnOk, OnErr};
+ghost use Rattle.std.specs.Prelude.{◌≡◌, ℕ, ◌+◌, ◌*◌, ◌^◌, ◌<◌, ◌≤◌, if◌then◌else◌, is_some, None, IsSome, IfNone, OnOk, OnErr};
 ghost use Rattle.std.specs.FinMap as finite;
 
 use crate::placed::PlacedPairs;
@@ -48,6 +48,7 @@ impl DeadlineHeap {
         ensures ok { OnOk result (additional ≤ self.new.spare) }
         ensures not_less { self.old.spare ≤ self.new.spare }
         ensures err { OnErr result (self.new ≡ self.old) }
+        ensures full { OnErr result (self.old.spare < additional) }
     {
         self.heap.reserve(additional)
     }
@@ -91,6 +92,7 @@ impl DeadlineHeap {
         ensures value { result ≡ finite.get self.old.moments number }
         ensures moments { self.new.moments ≡ finite.remove self.old.moments number }
         ensures spare { self.new.spare ≡ self.old.spare + (if is_some result then 1 else 0) }
+        ensures absent { IfNone result (ticks.new ≡ ticks.old) }
         ensures not_less { ticks.old ≤ ticks.new }
 
         // c is any number of binary digits in which the number of entries can be written.

@@ -46,6 +46,7 @@ impl PlacedPairs {
         ensures ok { OnOk result (additional ≤ self.new.spare) }
         ensures not_less { self.old.spare ≤ self.new.spare }
         ensures err { OnErr result (self.new ≡ self.old) }
+        ensures full { OnErr result (self.old.spare < additional) }
     {
         self.pairs.reserve(additional)?;
         self.places.reserve(additional)?;

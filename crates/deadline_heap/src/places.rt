@@ -1,6 +1,6 @@
 //! The place of each number.
 
-ghost use Rattle.std.specs.Prelude.{◌≡◌, ◌+◌, ◌≤◌, false, if◌then◌else◌, is_some, IfOk, IfErr, OnOk, OnErr};
+ghost use Rattle.std.specs.Prelude.{◌≡◌, ◌+◌, ◌<◌, ◌≤◌, false, if◌then◌else◌, is_some, IfOk, IfErr, OnOk, OnErr};
 ghost use Rattle.std.specs.FinMap as finite;
 ghost use Rattle.deadline_heap.specs.Rows.{IsRising, IsRowOf, IsGapFor};
 
@@ -51,6 +51,7 @@ impl Places {
         ensures ok { OnOk result (additional ≤ self.new.spare) }
         ensures not_less { self.old.spare ≤ self.new.spare }
         ensures err { OnErr result (self.new ≡ self.old) }
+        ensures full { OnErr result (self.old.spare < additional) }
     {
         self.rows.reserve(additional)?;
         self.room = self.room.max(self.rows.len() + additional);

@@ -6,7 +6,7 @@
 //! - [`VisibleIndex::reserve`] makes room, and is the only call that takes memory: what was promised a
 //!   place is put in without.
 //! - Every comparison of two pairs is one operation on the caller's counter. A call that looks for a
-//!   place makes no more than the binary digits of the number of pairs, and one.
+//!   place costs no more than four for each of the binary digits of the number of pairs, and four more.
 //!
 //! Contracts see an index as the list of its pairs, least first, and how many more can be put in without
 //! memory.
