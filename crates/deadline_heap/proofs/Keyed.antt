@@ -1,7 +1,7 @@
 -- Lists of a key and a value: what a map that is made of one answers, and what an edit of the list does to it.
-use Rattle.std.proofs.Common.{◌≡◌, ◌≢◌, ℕ, zero, suc, ◌+◌, ◌<◌, ◌≤◌, cond, List, [], ◌∷◌, ◌++◌, length, get_or, set, Option, Some, None, is_some, refl, sym, ap, ◌∙◌, subst, inl, inr, arith}
+use Rattle.std.proofs.Common.{◌≡◌, ◌≢◌, ℕ, zero, suc, ◌+◌, ◌<◌, cond, List, [], ◌∷◌, length, get_or, set, Option, Some, None, is_some, refl, sym, ap, ◌∙◌, subst, inl, inr, arith}
 use Rattle.std.specs.Cmp.{nat_cmp_total}
-use Rattle.std.specs.FinMap.{FinMap, find, get, from_entries, len, get-empty, get-insert, get-remove, get-from_entries, len-empty, len-insert, nat_cmp-IsAntisymmetric, same_map}
+use Rattle.std.specs.FinMap.{FinMap, find, get, from_entries, len, get-insert, get-remove, get-from_entries, len-empty, len-insert, nat_cmp-IsAntisymmetric, same_map}
 use Rattle.std.specs.FinMap as finite
 use Rattle.std.specs.List.{Contains, insert, remove}
 use Rattle.std.specs.Ordering.{nat_cmp, eq_by_cmp}

@@ -51,12 +51,14 @@ impl Journal {
     }
 
     /// Adds a line at the end. A journal at its limit answers `JournalFull`, and one that finds no
-    /// memory `OutOfMemory`; it is then as it was, and the line is dropped.
+    /// memory `OutOfMemory`; it is then as it was, and the line is dropped. Where places are reserved it
+    /// takes one of them, and finds memory.
     pub fn push(&mut self, _alloc: Global, line: Line) -> Result<(), Fault>
         ensures ok { OnOk result (self.new ≡ with_line self.old line) }
         ensures full { IsErrOf result JournalFull ↔ (self.old.limit ≤ length self.old.lines) }
         ensures errors { IfErr result (λ fault. (fault ≡ JournalFull) ⊎ (fault ≡ OutOfMemory)) }
         ensures err { OnErr result (self.new ≡ self.old) }
+        ensures reserved { IsErrOf result OutOfMemory → self.old.spare ≡ 0 }
     {
         if self.limit <= self.lines.len() {
             return Err(Fault::JournalFull);
@@ -66,14 +68,15 @@ impl Journal {
         Ok(())
     }
 
-    /// Makes room for so many lines more, which [`Journal::push_reserved`] then adds without memory.
-    /// `OutOfMemory` is the only refusal; the journal is then as it was.
+    /// Makes room for so many lines more, which [`Journal::push_reserved`] then adds without memory, up to the
+    /// journal's limit. `OutOfMemory` is the only refusal; the journal is then as it was.
     pub fn reserve(&mut self, _alloc: Global, additional: usize) -> Result<(), Fault>
         ensures lines { self.new ≡ record self.old { spare = self.new.spare } }
         ensures ok { OnOk result (additional ≤ self.new.spare) }
         ensures not_less { self.old.spare ≤ self.new.spare }
         ensures errors { IfErr result (λ fault. fault ≡ OutOfMemory) }
         ensures err { OnErr result (self.new ≡ self.old) }
+        ensures full { OnErr result (self.old.spare < additional) }
     {
         self.lines.reserve(additional)?;
         self.room = self.room.max(self.lines.len() + additional);

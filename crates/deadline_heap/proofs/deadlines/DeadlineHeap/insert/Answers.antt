@@ -1,4 +1,4 @@
-use Rattle.std.proofs.Common.{◌≡◌, ℕ, ◌+◌, suc, ◌∷◌, [], ◌++◌, None, List, length, ap, sym, ◌∙◌, subst, arith, length-append, pow-suc}
+use Rattle.std.proofs.Common.{◌≡◌, ℕ, ◌+◌, suc, ◌∷◌, [], ◌++◌, length, ap, sym, ◌∙◌, arith, length-append, pow-suc}
 use Rattle.std.specs.FinMap.{FinMap, get, len}
 use Rattle.std.specs.FinMap as finite
 use Rattle.std.specs.Ordering.{nat_cmp}

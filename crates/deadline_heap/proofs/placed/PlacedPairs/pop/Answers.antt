@@ -1,6 +1,4 @@
-use Rattle.std.proofs.Common.{◌≡◌, ℕ, ◌+◌, ◌∷◌, [], ◌++◌, true, List, length, is_some, refl, ap, sym, ◌∙◌, subst, arith, length-append}
-use Rattle.std.specs.FinMap.{FinMap, get}
-use Rattle.std.specs.Ordering.{nat_cmp}
+use Rattle.std.proofs.Common.{◌≡◌, ℕ, ◌+◌, ◌∷◌, [], ◌++◌, List, length, refl, ap, ◌∙◌, subst, arith, length-append}
 use Rattle.deadline_heap.specs.Placed.{IsPlaced}
 use Rattle.deadline_heap.proofs.Placing.{distinct_placed, is_some_last, placed_at, placed_popped}
 use Rattle.deadline_heap.proofs.placed.PlacedPairs.pop.Goals as goal
