@@ -7,12 +7,21 @@ use Rattle.atomic_table.proofs.shared.Seat.TheSendSync as seat
 use Rattle.atomic_table.proofs.shared.Shared.TheSendSync as shared
 use Rattle.atomic_table.proofs.send_lease.SendLease.TheSendSync as lease
 use Rattle.message.specs.contracts.content.Content as content
+use Rattle.message.specs.contracts.name.QueueName as name
 use Rattle.queue_config.specs.contracts.settings.Settings as settings
+use Rattle.queue_config.specs.contracts.limits.Limits as limits
+use Rattle.queue_config.specs.contracts.alarm_rule.AlarmRule as rule
+use Rattle.journal.specs.contracts.moment.Moment as moment
 use Rattle.journal.specs.contracts.numbers.Numbers as numbers
 use Rattle.journal.specs.contracts.entry.Event as event
 use Rattle.journal.specs.contracts.entry.Entry as entry
 use Rattle.journal.specs.contracts.journal.Journal as journal
 use Rattle.journal.specs.contracts.ticks.Ticks as ticks
+use Rattle.queue_core.specs.contracts.tally.Tally as tally
+use Rattle.queue_core.specs.contracts.record.Record as kept
+use Rattle.queue_core.specs.contracts.indices.Indices as indices
+use Rattle.queue_core.specs.contracts.index.MessageIndex as index
+use Rattle.queue_core.specs.contracts.accepted.Accepted as accepted
 use Rattle.queue_core.specs.contracts.state.QueueState as queue
 use Rattle.desk.specs.contracts.made.Made as made
 use Rattle.desk.specs.contracts.held.Held as held
@@ -45,8 +54,35 @@ ticks_send = search (sendable, crosses) depth 40 fits 100000
 made_send : IsSend made.the_row
 made_send = search (sendable, crosses) depth 40 fits 100000
 
+name_send : IsSend name.the_row
+name_send = search (sendable, crosses) depth 40 fits 100000
+
+limits_send : IsSend limits.the_row
+limits_send = search (sendable, crosses) depth 40 fits 100000
+
+rule_send : IsSend rule.the_row
+rule_send = search (name_send, sendable, crosses) depth 40 fits 100000
+
+moment_send : IsSend moment.the_row
+moment_send = search (sendable, crosses) depth 40 fits 100000
+
+tally_send : IsSend tally.the_row
+tally_send = search (settings_send, sendable, crosses) depth 40 fits 100000
+
+indices_send : IsSend indices.the_row
+indices_send = search (sendable, crosses) depth 40 fits 100000
+
+kept_send : IsSend kept.the_row
+kept_send = search (content_send, sendable, crosses) depth 40 fits 100000
+
+index_send : IsSend index.the_row
+index_send = search (kept_send, indices_send, sendable, crosses) depth 40 fits 100000
+
+accepted_send : IsSend accepted.the_row
+accepted_send = search (sendable, crosses) depth 40 fits 100000
+
 queue_send : IsSend queue.the_row
-queue_send = search (journal_send, sendable, crosses) depth 40 fits 100000
+queue_send = search (name_send, limits_send, rule_send, moment_send, journal_send, tally_send, index_send, accepted_send, sendable, crosses) depth 60 fits 1000000
 
 held_send : IsSend (held.the_row nopress.the_row (unit-field).row impl.ghosts)
 held_send = search (queue_send, ticks_send, made_send, sendable, crosses) depth 40 fits 100000

@@ -66,7 +66,9 @@ impl<P: Press> Desk<P> {
     {
         let start = Snapshot::of(&state);
         let held = Held::new(state, press, Ticks::new(rt));
-        let mut slots = Vec::with_capacity(alloc, 1)?;
+        let Ok(mut slots) = Vec::with_capacity(alloc, 1) else {
+            return Err(Fault::OutOfMemory);
+        };
         slots.push_reserved(Some(held));
         let Ok((table, seat)) = Table::new(alloc, &[0, 0], slots, &start) else {
             return Err(Fault::OutOfMemory);

@@ -1,11 +1,11 @@
 -- A legal journal stays legal as the clock moves on and as an entry that a command adds is added.
-use Rattle.std.proofs.Common.{◌≡◌, ℕ, ◌≤◌, ◌<◌, max, Bool, true, false, cond, List, [], ◌∷◌, ◌++◌, length, Option, Some, None, Result, Ok, Err, refl, sym, ap, ◌∙◌, subst, append_assoc, inl, inr, arith}
-use Rattle.std.specs.Prelude.{OnOk, OnErr, IfErr, IsErrOf, ◌⊎◌, nat_lt, nat_le, unwrap_or}
+use Rattle.std.proofs.Common.{◌≡◌, ℕ, ◌≤◌, ◌<◌, max, Bool, true, false, cond, List, [], ◌∷◌, ◌++◌, length, Option, Some, None, Result, Ok, Err, refl, sym, ap, ◌∙◌, subst, append_assoc, arith}
+use Rattle.std.specs.Prelude.{OnOk, OnErr, nat_lt, nat_le, unwrap_or}
 use Rattle.std.proofs.lemmas.List.{append-nil, length-append}
 use Rattle.std.proofs.lemmas.Bool.{false≢true, or_parts}
 use Rattle.std.proofs.lemmas.Bool.Decides.{nat_tests}
 use Rattle.message.specs.declared.fault.Fault.{Fault}
-use Rattle.message.specs.declared.fault.Fault.TheVariants.{InvalidParameterValue, OverLimit, ReceiptHandleIsInvalid, JournalFull, OutOfMemory}
+use Rattle.message.specs.declared.fault.Fault.TheVariants.{InvalidParameterValue, OverLimit, ReceiptHandleIsInvalid}
 use Rattle.message.specs.Content.{ContentText, content_size}
 use Rattle.queue_config.specs.Settings.{QueueSettings, RequestedAttributes, settings_with}
 use Rattle.receipt_handle.specs.declared.handle.Handle.{Handle}
@@ -25,6 +25,7 @@ use Rattle.queue_core.specs.States.{gauges_of}
 use Rattle.queue_core.specs.Queue.{QueueHistory, Outcome, at_moment, is_full, first_refusal, with_room, done, send_outcome, receive_outcome, change_outcome, delete_outcome, close_outcome, arrive_outcome, is_pending, settle_outcome, orphan_outcome, in_flight_count, offered_candidates, offers_of, received_event, change_refusal, is_valid_handle, holds_live, outcome_of, with_event, with_optional_event, look_of}
 use Rattle.queue_core.specs.Legal.{IsOrdered, IsCausedIn, AreCaused, BeginsAndFollows}
 use Rattle.queue_core.specs.Kept.{IsKept}
+use Rattle.queue_core.proofs.PushLemmas.{closed-push}
 
 IsOrdered-later : (from : ℕ) (lines : List (Entry ContentText)) (clock later : ℕ) → clock ≤ later → IsOrdered from lines clock → IsOrdered from lines later
 IsOrdered-later from [] clock later h p = omega arith
@@ -99,15 +100,12 @@ HasPlace-caused q commands.Look event h = absurd cc
 
 -- ---- one entry more
 
-is_closed-push : (lines : List (Entry ContentText)) (e : Entry ContentText) → is_closed (lines ++ e ∷ []) ≡ false → closes e.event ≡ false
-is_closed-push [] e h = (or_parts (closes e.event) false h).0
-is_closed-push (x ∷ xs) e h = is_closed-push xs e (or_parts (closes x.event) (is_closed (xs ++ e ∷ [])) h).1
-
 -- the entry that closes the queue takes the last place, and every other leaves it
 place_left-push : (q : QueueHistory) (event : Event ContentText) → HasPlace q event → is_closed (q.lines ++ record { at = q.clock; event = event } ∷ []) ≡ false
     → length (q.lines ++ record { at = q.clock; event = event } ∷ []) ≤ q.limits.max_lines
 place_left-push q event place unclosed =
-    let below = not_full q (place.room (is_closed-push q.lines (record { at = q.clock; event = event }) unclosed)) in
+    let still_open = or_parts (is_closed q.lines) (closes event) (sym (closed-push q.lines (record { at = q.clock; event = event })) ∙ unclosed) in
+    let below = not_full q (place.room still_open.1) in
     rw length-append (omega arith)
 
 IsKept-with_event : (q : QueueHistory) (limit : ℕ) (event : Event ContentText) → IsKept q limit → (k : IsCausedIn q event) → HasPlace q event → IsKept (with_event q event) limit
@@ -128,20 +126,6 @@ pub IsKept-pushed : {X : Type 0} (q : QueueHistory) (old new : Lines) (event : E
 IsKept-pushed q old new event (Ok x) e ok err h k =
     rw (ok, ← e) (IsKept-with_event q old.limit event h k (HasPlace-caused q k.command event k.added))
 IsKept-pushed q old new event (Err fault) e ok err h k = rw (err, ← e) h
-
--- the journal has a place for an event that a command causes
-pub below_limit : (q : QueueHistory) (limit : ℕ) (event : Event ContentText) → IsKept q limit → IsCausedIn q event → length q.lines < limit
-below_limit q limit event h k =
-    let left = h.place_left (HasPlace-caused q k.command event k.added).unclosed in
-    let room = h.room in
-    omega arith
-
--- so that a push is refused for want of memory alone
-pub only_memory : {X : Type 0} (r : Result X Fault) (limit n : ℕ) → (IsErrOf r JournalFull → limit ≤ n) → IfErr r (λ fault. (fault ≡ JournalFull) ⊎ (fault ≡ OutOfMemory)) → n < limit
-    → IfErr r (λ fault. fault ≡ OutOfMemory)
-only_memory (Ok x) limit n full h below = tt
-only_memory (Err fault) limit n full (inl is) below = absurd (let past = full (ap (λ (f : Fault). Err f) is) in omega arith)
-only_memory (Err fault) limit n full (inr is) below = is
 
 -- what each command adds to an open journal with room
 module _ (q : QueueHistory) (room : first_refusal q ≡ None) where

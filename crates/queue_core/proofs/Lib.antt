@@ -1,5 +1,4 @@
 pub mod Scans
-pub mod TransferLemmas
 pub mod TallyLemmas
 pub mod LegalLemmas
 pub mod RunLemmas
@@ -7,6 +6,16 @@ pub mod OrderLemmas
 pub mod MarkLemmas
 pub mod MetricLemmas
 pub mod OfferLemmas
+pub mod PushLemmas
+mod AlongLemmas
+pub mod CauseLemmas
+mod UnbornLemmas
+pub mod PendingLemmas
+mod FactLemmas
+mod ToldLemmas
+mod RecordLemmas
+mod PairLemmas
+mod IndexedLemmas
 mod StateLemmas
 mod RefusalLemmas
 mod BeforeLemmas
@@ -14,3 +23,17 @@ pub mod LastingLemmas
 mod CountedLemmas
 mod WindowLemmas
 mod RowLemmas
+mod SlotCountLemmas
+mod SlotLemmas
+mod MomentLemmas
+mod VisibleLemmas
+mod SlotsIndexedLemmas
+mod KeptRecordLemmas
+mod DueLemmas
+mod NumberLemmas
+mod ChangeLemmas
+mod AppliedLemmas
+mod ReceiveLemmas
+mod QuestionLemmas
+mod IndexLemmas
+mod AcceptedLemmas

@@ -1,6 +1,6 @@
 -- Metric rows: which entries change none of them, what they need of a content, and what they add up to.
-use Rattle.std.proofs.Common.{◌≡◌, ℕ, zero, suc, ◌+◌, ◌-◌, ◌*◌, ◌<◌, ◌≤◌, max, Bool, true, false, cond, eqb, List, [], ◌∷◌, ◌++◌, map, Result, refl, sym, ap, ◌∙◌, subst, arith}
-use Rattle.std.specs.Prelude.{nat_lt, filter}
+use Rattle.std.proofs.Common.{◌≡◌, ℕ, suc, ◌+◌, ◌-◌, ◌<◌, ◌≤◌, Bool, true, false, cond, eqb, List, [], ◌∷◌, ◌++◌, map, Result, refl, sym, ap, ◌∙◌, subst, arith}
+use Rattle.std.specs.Prelude.{nat_lt}
 use Rattle.std.specs.List.{All, range_with_len}
 use Rattle.std.proofs.lemmas.List.{append-nil}
 use Rattle.std.proofs.lemmas.List.Elements.{filter-append, All-nil, All-cons}
@@ -11,26 +11,25 @@ use Rattle.queue_config.specs.AlarmRules.{Rule}
 use Rattle.message.specs.declared.fault.Fault.{Fault}
 use Rattle.message.specs.Content.{ContentText, content_size}
 use Rattle.journal.specs.declared.entry.Entry.{Entry}
-use Rattle.journal.specs.declared.entry.Event.{Event}
 use Rattle.journal.specs.Mark.{mark_of}
 use Rattle.metric_window.specs.declared.flows.Flows.{Flows}
 use Rattle.metric_window.specs.declared.gauges.Gauges.{Gauges}
 use Rattle.metric_window.specs.declared.row.Row.{Row}
-use Rattle.metric_window.specs.Flows.{no_flows, flows_of, added, total, capped, minute_of, entries_in, flows_total, minute_flows}
+use Rattle.metric_window.specs.Flows.{added, total, capped, minute_of, entries_in, flows_total, minute_flows}
 use Rattle.metric_window.specs.Window.{longest_window, window_start, window_end}
-use Rattle.metric_window.proofs.FlowLemmas.{added-none, added-assoc, added-comm, none-added, capped-added, total-append}
+use Rattle.metric_window.proofs.FlowLemmas.{added-none, added-assoc, added-comm, capped-added, total-append}
 use Rattle.metric_window.proofs.MinuteLemmas.{minute_flows-push, minute_flows-marks, minutes-total}
 use Rattle.alarm.specs.AlarmState.{satisfies, breaches_in, alarm_state_of}
 use Rattle.queue_core.specs.declared.command.Step.{Step}
 use Rattle.queue_core.specs.declared.reply.Reply.{Reply}
-use Rattle.queue_core.specs.Messages.{opens, created_time}
+use Rattle.queue_core.specs.Messages.{created_time}
 use Rattle.queue_core.specs.States.{gauges_of}
 use Rattle.queue_core.specs.Metrics.{minute_end, entries_until, minute_gauges, metric_row, current_flows, window_rows, complete_minutes, last_rows, alarm_state_in}
 use Rattle.queue_core.specs.Queue.{QueueHistory}
 use Rattle.queue_core.specs.Legal.{IsOrdered, IsOpening, IsLegal, BeginsAndFollows}
 use Rattle.queue_core.specs.Run.{after_all}
 use Rattle.queue_core.proofs.BeforeLemmas.{not_before}
-use Rattle.queue_core.proofs.LastingLemmas.{Lasts, lasts_all}
+use Rattle.queue_core.proofs.LastingLemmas.{lasts_all}
 use Rattle.queue_core.proofs.MarkLemmas.{map_agree, created_time-marks, gauges_of-marks}
 
 row-parts : (minute : ℕ) (f g : Flows) (a b : Gauges) → f ≡ g → a ≡ b

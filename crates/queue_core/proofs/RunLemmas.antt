@@ -13,9 +13,6 @@ pub record Continues (R : Outcome → Result Reply Fault → Type 0) (first : Qu
   pub state : (rest : List (Result Reply Fault)) → after_all first steps (answers ++ rest) ≡ after_all now left rest
 
 module _ (R : Outcome → Result Reply Fault → Type 0) where
-  pub Continues-first : (q : QueueHistory) (steps : List Step) → Continues R q steps [] q steps
-  Continues-first q steps = record { answered = λ rest h. h; state = λ rest. refl }
-
   pub Continues-step : (first : QueueHistory) (steps : List Step) (answers : List (Result Reply Fault)) (now : QueueHistory) (left rest : List Step) (step : Step) (answer : Result Reply Fault) (next : QueueHistory)
       → Continues R first steps answers now left → left ≡ step ∷ rest → R (outcome_at now step.at step.command) answer → next ≡ after_answer now step.at step.command answer
       → Continues R first steps (answers ++ answer ∷ []) next rest

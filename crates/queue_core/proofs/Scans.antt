@@ -3,12 +3,12 @@ use Rattle.std.proofs.Common.{◌≡◌, ℕ, zero, suc, ◌+◌, ◌*◌, ◌�
 use Rattle.std.specs.Prelude.{slice_get, count_by, option_map}
 use Rattle.std.specs.Option.{option_map_or}
 use Rattle.std.proofs.lemmas.List.Sums.{sum_by-cons}
-use Rattle.std.specs.List.{list_any, find}
+use Rattle.std.specs.List.{list_any}
 use Rattle.queue_config.specs.Settings.{QueueSettings}
 use Rattle.journal.specs.declared.entry.Entry.{Entry}
 use Rattle.queue_core.specs.declared.facts.Message.{Message}
 use Rattle.queue_core.specs.declared.facts.Course.{Course}
-use Rattle.queue_core.specs.Messages.{Birth, effect_of, message_of, messages_from, settings_after, settings_from, created_time, opens, modified_from, gives_settings, RetentionPeriod, closes_period, periods_from, offers_number, last_receive_from, course_after, course_from}
+use Rattle.queue_core.specs.Messages.{Birth, effect_of, message_of, messages_from, settings_after, RetentionPeriod, closes_period, periods_from, course_after, course_from}
 
 pub drop_entry : {X : Type 0} (xs : List X) (i : ℕ) (x : X) → slice_get xs i ≡ Some x → drop i xs ≡ x ∷ drop (i + 1) xs
 drop_entry [] i x h = absurd cc
@@ -29,18 +29,6 @@ module _ {C : Type 0} (lines : List (Entry C)) (place : ℕ) (e : Entry C) (at :
       → messages_from place number (drop place lines) ≡ messages_from (place + 1) number (drop (place + 1) lines)
   messages_from-none number is = rw (drop_entry lines place e at, is) (simp add-one)
 
-  pub settings_from-entry : (s : QueueSettings) → settings_from s (drop place lines) ≡ settings_from (settings_after s e.event) (drop (place + 1) lines)
-  settings_from-entry s = rw (drop_entry lines place e at) refl
-
-  pub created_time-opening : opens e.event ≡ true → created_time (drop place lines) ≡ e.at
-  created_time-opening h = rw (drop_entry lines place e at, h) refl
-
-  pub created_time-other : opens e.event ≡ false → created_time (drop place lines) ≡ created_time (drop (place + 1) lines)
-  created_time-other h = rw (drop_entry lines place e at, h) refl
-
-  pub modified_from-entry : (time : ℕ) → modified_from time (drop place lines) ≡ modified_from (cond (gives_settings e.event) e.at time) (drop (place + 1) lines)
-  modified_from-entry time = rw (drop_entry lines place e at) refl
-
   -- the first period that an entry closes, if any, and those after it
   pub list_any-periods_from : (p : RetentionPeriod → Bool) (s : QueueSettings) (clock : ℕ) → list_any p (periods_from place s clock (drop place lines))
       ≡ (closes_period e.event && p (record { retention = s.retention_seconds; end = e.at; closing = place }))
@@ -59,23 +47,8 @@ module _ {C : Type 0} (lines : List (Entry C)) (place : ℕ) (e : Entry C) (at :
   list_any-periods_from-here p s clock h =
       list_any-periods_from p s clock ∙ ap (λ b. b || list_any p (periods_from (place + 1) (settings_after s e.event) clock (drop (place + 1) lines))) h
 
-  pub first-found : (p : Entry C → Bool) → p e ≡ true → option_map (λ x. x.at) (find p (drop place lines)) ≡ Some e.at
-  first-found p h = rw (drop_entry lines place e at, h) refl
-
-  pub first-later : (p : Entry C → Bool) → p e ≡ false → option_map (λ x. x.at) (find p (drop place lines)) ≡ option_map (λ x. x.at) (find p (drop (place + 1) lines))
-  first-later p h = rw (drop_entry lines place e at, h) refl
-
-  pub last_receive_from-entry : (number time : ℕ) → last_receive_from number time (drop place lines) ≡ last_receive_from number (cond (offers_number number e.event) e.at time) (drop (place + 1) lines)
-  last_receive_from-entry number time = rw (drop_entry lines place e at) refl
-
   pub course_from-entry : (number : ℕ) (c : Course) → course_from number c (drop place lines) ≡ course_from number (course_after number c e) (drop (place + 1) lines)
   course_from-entry number c = rw (drop_entry lines place e at) refl
-
-  pub any-here : (p : Entry C → Bool) → p e ≡ true → list_any p (drop place lines) ≡ true
-  any-here p h = rw (drop_entry lines place e at, h) refl
-
-  pub any-later : (p : Entry C → Bool) → p e ≡ false → list_any p (drop place lines) ≡ list_any p (drop (place + 1) lines)
-  any-later p h = rw (drop_entry lines place e at, h) refl
 
   pub count_by-yes : (p : Entry C → Bool) → p e ≡ true → count_by p (drop place lines) ≡ 1 + count_by p (drop (place + 1) lines)
   count_by-yes p h = rw (drop_entry lines place e at) (sum_by-cons (λ x. cond (p x) 1 0) e (drop (place + 1) lines) ∙ ap (λ b. cond b 1 0 + count_by p (drop (place + 1) lines)) h)

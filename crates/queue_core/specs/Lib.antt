@@ -4,6 +4,14 @@ pub mod Queue
 pub mod Ranges
 pub mod Legal
 pub mod Tally
+pub mod Slots
+pub mod Records
+pub mod Recorded
+pub mod Changes
+pub mod Settling
+pub mod Applying
+pub mod Indexed
+pub mod Accepted
 pub mod Kept
 pub mod Run
 pub mod Metrics

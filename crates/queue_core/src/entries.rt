@@ -1,4 +1,4 @@
-//! The entries that numbers are found by: all of a journal's, or those before a time.
+//! The entries that rows, the current minute and alarms are found by: all of a journal's, or those before a time.
 
 ghost use Rattle.std.specs.Prelude.{◌≡◌, ℕ, ◌<◌, ◌≤◌, nat_lt, filter, length, take, slice_get, Some};
 ghost use Rattle.std.specs.Option.{option_copied};
@@ -9,7 +9,7 @@ use std::marker::Model;
 
 /// The first entries of a journal. Contracts see the list.
 #[derive(Drop)]
-pub(crate) struct Entries<'a> {
+pub struct Entries<'a> {
     journal: &'a Journal,
     count: usize,
 }
@@ -28,7 +28,7 @@ impl<'a> Model for Entries<'a> {
 
 impl<'a> Entries<'a> {
     /// All entries of a journal.
-    pub(crate) fn of(journal: &'a Journal) -> Entries<'a>
+    pub fn of(journal: &'a Journal) -> Entries<'a>
         ensures { result ≡ journal.now.lines }
     {
         Entries {
@@ -38,7 +38,7 @@ impl<'a> Entries<'a> {
     }
 
     /// Those before a time in milliseconds, where they stand in the order of their times.
-    pub(crate) fn before(&self, end: u64) -> Entries<'a>
+    pub fn before(&self, end: u64) -> Entries<'a>
         ensures { (from clock : ℕ) → IsOrdered from self.now clock
             → result ≡ filter (λ e. nat_lt e.at end) self.now }
     {
@@ -49,14 +49,14 @@ impl<'a> Entries<'a> {
     }
 
     /// How many there are.
-    pub(crate) fn len(&self) -> usize
+    pub fn len(&self) -> usize
         ensures { result ≡ length self.now }
     {
         self.count
     }
 
     /// The entry at a place, counted from 0.
-    pub(crate) fn get(&self, place: usize) -> Option<&'a Line>
+    pub fn get(&self, place: usize) -> Option<&'a Line>
         ensures { option_copied result ≡ slice_get self.now place }
     {
         if place < self.count {
@@ -68,7 +68,7 @@ impl<'a> Entries<'a> {
 }
 
 /// The entry at a place.
-pub(crate) fn line_at<'a>(lines: &Entries<'a>, place: usize) -> &'a Line
+pub fn line_at<'a>(lines: &Entries<'a>, place: usize) -> &'a Line
     requires { place < length lines.now }
     ensures { slice_get lines.now place ≡ Some result.now }
 {

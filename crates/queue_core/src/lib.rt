@@ -1,9 +1,11 @@
 //! One queue: its journal, its clock, and the commands that it answers.
 //!
-//! [`QueueState`] is the plain form: it keeps the journal and a clock, and finds every number by
-//! going through the journal, which [`QueueState::journal`] shows. Each command's contract says where
-//! the clock is, which never falls, which entry is added and what is answered, by the definitions in
-//! `specs/`:
+//! [`QueueState`] keeps the journal, which [`QueueState::journal`] shows, and a clock, and answers from an
+//! index of its messages that it keeps beside them: a record of each message that is there or has left
+//! and is not confirmed, their times in order, and counts. No contract names the index. Rows, the flows of
+//! the current minute and the states of alarms still go through the journal ([`plain`]). Each command's
+//! contract says where the clock is, which never falls, which entry is added and what is answered, by the
+//! definitions in `specs/`, which ask the journal alone:
 //!
 //! - `Messages`: what each event does (`effect_of`), the messages of a journal, their times, retention
 //!   and expiry;
@@ -19,24 +21,29 @@
 //! before its due time, stands in the laws, which are functions without a body.
 #![tactic(auto)]
 
+mod accepted;
+mod applying;
 mod command;
 mod entries;
 pub mod examples;
 mod facts;
+mod index;
+mod indices;
 mod laws;
 mod metric_laws;
 mod metrics;
 mod numbering;
 mod offers;
-mod order;
 mod parcel;
+pub mod plain;
 mod reading;
+mod record;
 mod reply;
+mod slot;
 mod state;
 mod tally;
 #[cfg(test)]
 mod tests;
-mod transfers;
 
 pub use command::{
     Command, Delay, LONGEST_DELAY, LONGEST_TIMEOUT, MOST_OFFERS, Maximum, Step, Timeout,

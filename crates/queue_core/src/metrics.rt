@@ -21,7 +21,7 @@ fn flows_after(flows: Flows, line: &Line, minute: u64) -> Flows
 }
 
 /// What happened in a minute.
-pub(crate) fn minute_flows(lines: &Entries<'_>, minute: u64) -> Flows
+pub fn minute_flows(lines: &Entries<'_>, minute: u64) -> Flows
     ensures { result ≡ minute_flows content_size lines.now minute }
 {
     let mut flows = Flows::none();

@@ -50,7 +50,7 @@ fn first_message(lines: &Entries<'_>, from: usize, number: u64) -> Option<Messag
 
 /// Goes over the messages of a journal. Contracts see those that are left.
 #[derive(Drop)]
-pub(crate) struct Messages<'a, 'j> {
+pub struct Messages<'a, 'j> {
     lines: &'a Entries<'j>,
     place: usize,
     number: u64,
@@ -70,7 +70,7 @@ impl<'a, 'j> Model for Messages<'a, 'j> {
 
 impl<'a, 'j> Messages<'a, 'j> {
     /// All messages of a journal.
-    pub(crate) fn of(lines: &'a Entries<'j>) -> Messages<'a, 'j>
+    pub fn of(lines: &'a Entries<'j>) -> Messages<'a, 'j>
         ensures all { result ≡ messages lines.now }
         ensures few { length result < 2 ^ 64 }
     {

@@ -1,12 +1,11 @@
 //! What is found by going through a journal. A function that computes a definition of `specs/` has
 //! its name.
 
-ghost use Rattle.std.specs.Prelude.{◌≡◌, is_some, ◌-◌, ◌/◌, ◌≤◌, length, if◌then◌else◌, ◌&&◌};
-ghost use Rattle.std.specs.Option.{option_copied};
+ghost use Rattle.std.specs.Prelude.{◌≡◌, is_some, ◌-◌, ◌/◌, ◌≤◌, length, ◌&&◌};
 ghost use Rattle.std.specs.List.{find};
-ghost use Rattle.queue_core.specs.Messages.{effect_of, messages, content_of, message_count, settings_of, settings_after, created_time, modified_time, gives_settings, opens, closes_period, runs_out_in, is_expired, contains_number, offers_number, receive_count, first_receive_time, last_receive_time, loses, status_after, returns, due_after, course_after, course_of, due_time, is_present, is_returned, waits_for, awaits_transfer, closes, is_closed};
+ghost use Rattle.queue_core.specs.Messages.{effect_of, messages, settings_after, gives_settings, closes_period, runs_out_in, is_expired, contains_number, offers_number, receive_count, loses, status_after, returns, due_after, course_after, course_of, due_time, is_present, is_returned, closes};
 ghost use Rattle.queue_core.specs.declared.facts.Status.TheVariants.{Present, Waiting};
-ghost use Rattle.queue_core.specs.States.{is_live, state_of, is_in_state, count_in_state, oldest_age, gauges_of, message_numbered};
+ghost use Rattle.queue_core.specs.States.{is_live, state_of, is_in_state, count_in_state, oldest_age, gauges_of};
 
 use crate::entries::{Entries, line_at};
 use crate::facts::{Course, Message, MessageState, Status};
@@ -16,32 +15,8 @@ use message::Content;
 use metric_window::Gauges;
 use queue_config::Settings;
 
-/// How many messages there are.
-pub(crate) fn message_count(lines: &Entries<'_>) -> u64
-    ensures { result ≡ message_count lines.now }
-{
-    Messages::of(lines).count() as u64
-}
-
-/// The message of a number.
-pub(crate) fn message_numbered(lines: &Entries<'_>, number: u64) -> Option<Message>
-    ensures { result ≡ message_numbered lines.now number }
-{
-    Messages::of(lines).nth(number as usize)
-}
-
-/// The content of a message.
-pub(crate) fn content_of<'a>(lines: &Entries<'a>, message: &Message) -> Option<&'a Content>
-    ensures { option_copied result ≡ content_of lines.now message.now }
-{
-    match &lines.get(message.place)?.event {
-        Event::Sent { content, .. } | Event::Arrived { content, .. } => Some(content),
-        _ => None,
-    }
-}
-
 /// The settings after an event.
-pub(crate) fn settings_after(settings: Settings, event: &Event<Content>) -> Settings
+pub fn settings_after(settings: Settings, event: &Event<Content>) -> Settings
     ensures { result ≡ settings_after settings event.now }
 {
     match event {
@@ -49,24 +24,6 @@ pub(crate) fn settings_after(settings: Settings, event: &Event<Content>) -> Sett
         Event::Orphaned { target } => settings.without_target(*target),
         _ => settings,
     }
-}
-
-/// The settings in force.
-pub(crate) fn settings_of(lines: &Entries<'_>) -> Settings
-    ensures { result ≡ settings_of lines.now }
-{
-    let mut settings = Settings::default();
-    for place in 0..lines.len() {
-        settings = settings_after(settings, &line_at(lines, place).event);
-    }
-    settings
-}
-
-/// Whether an event opens the queue.
-fn opens(event: &Event<Content>) -> bool
-    ensures { result ≡ opens event.now }
-{
-    matches!(event, Event::Opened { .. })
 }
 
 /// Whether an event begins a message.
@@ -77,7 +34,7 @@ pub(crate) fn begins(event: &Event<Content>) -> bool
 }
 
 /// Whether an event gives the queue its settings.
-pub(crate) fn gives_settings(event: &Event<Content>) -> bool
+pub fn gives_settings(event: &Event<Content>) -> bool
     ensures { result ≡ gives_settings event.now }
 {
     matches!(event, Event::Opened { .. } | Event::Set { .. })
@@ -88,41 +45,6 @@ fn closes_period(event: &Event<Content>) -> bool
     ensures { result ≡ closes_period event.now }
 {
     matches!(event, Event::Set { .. })
-}
-
-/// When the queue was opened.
-pub(crate) fn created_time(lines: &Entries<'_>) -> Moment
-    ensures { result ≡ created_time lines.now }
-{
-    for place in 0..lines.len() {
-        let line = line_at(lines, place);
-        if opens(&line.event) {
-            return line.at;
-        }
-    }
-    Moment::zero()
-}
-
-/// When the queue last got settings, after a line.
-fn modified_after(time: Moment, line: &Line) -> Moment
-    ensures { result ≡ (if gives_settings line.now.event then line.now.at else time) }
-{
-    if gives_settings(&line.event) {
-        line.at
-    } else {
-        time
-    }
-}
-
-/// When the queue last got settings.
-pub(crate) fn modified_time(lines: &Entries<'_>) -> Moment
-    ensures { result ≡ modified_time lines.now }
-{
-    let mut time = Moment::zero();
-    for place in 0..lines.len() {
-        time = modified_after(time, line_at(lines, place));
-    }
-    time
 }
 
 /// Whether the message's retention runs out in a period of these settings, which ends at a time, by
@@ -167,7 +89,7 @@ fn contains_number(numbers: &Numbers, number: u64) -> bool
 }
 
 /// Whether an event offers the message of a number.
-fn offers_number(event: &Event<Content>, number: u64) -> bool
+pub fn offers_number(event: &Event<Content>, number: u64) -> bool
     ensures { result ≡ offers_number number event.now }
 {
     match event {
@@ -177,7 +99,7 @@ fn offers_number(event: &Event<Content>, number: u64) -> bool
 }
 
 /// How often the message of a number was received.
-pub(crate) fn receive_count(lines: &Entries<'_>, number: u64) -> u64
+pub fn receive_count(lines: &Entries<'_>, number: u64) -> u64
     ensures count { result ≡ receive_count lines.now number }
     ensures within { result ≤ length lines.now }
 {
@@ -188,41 +110,6 @@ pub(crate) fn receive_count(lines: &Entries<'_>, number: u64) -> u64
         }
     }
     count
-}
-
-/// When the message of a number was first received.
-pub(crate) fn first_receive_time(lines: &Entries<'_>, number: u64) -> Option<Moment>
-    ensures { result ≡ first_receive_time lines.now number }
-{
-    for place in 0..lines.len() {
-        let line = line_at(lines, place);
-        if offers_number(&line.event, number) {
-            return Some(line.at);
-        }
-    }
-    None
-}
-
-/// When the message of a number was last received, after a line.
-fn last_receive_after(time: Moment, line: &Line, number: u64) -> Moment
-    ensures { result ≡ (if offers_number number line.now.event then line.now.at else time) }
-{
-    if offers_number(&line.event, number) {
-        line.at
-    } else {
-        time
-    }
-}
-
-/// When the message of a number was last received, 0 where it never was.
-pub(crate) fn last_receive_time(lines: &Entries<'_>, number: u64) -> Moment
-    ensures { result ≡ last_receive_time lines.now number }
-{
-    let mut time = Moment::zero();
-    for place in 0..lines.len() {
-        time = last_receive_after(time, line_at(lines, place), number);
-    }
-    time
 }
 
 /// Where a message that is there stands after an event.
@@ -322,7 +209,7 @@ fn course_after(number: u64, course: Course, line: &Line) -> Course
 }
 
 /// What has become of a message.
-fn course_of(lines: &Entries<'_>, message: &Message) -> Course
+pub fn course_of(lines: &Entries<'_>, message: &Message) -> Course
     ensures { result ≡ course_of lines.now message.now }
 {
     let mut course = Course {
@@ -337,7 +224,7 @@ fn course_of(lines: &Entries<'_>, message: &Message) -> Course
 }
 
 /// When a message is to be offered next, in milliseconds.
-pub(crate) fn due_time(lines: &Entries<'_>, message: &Message) -> u64
+pub fn due_time(lines: &Entries<'_>, message: &Message) -> u64
     ensures { result ≡ due_time lines.now message.now }
 {
     course_of(lines, message).due
@@ -355,23 +242,6 @@ fn is_returned(lines: &Entries<'_>, message: &Message) -> bool
     ensures { result ≡ is_returned lines.now message.now }
 {
     course_of(lines, message).returned
-}
-
-/// Whether a message has left for the dead-letter queue of a uid, and the transfer is not confirmed.
-pub(crate) fn waits_for(lines: &Entries<'_>, target: u64, message: &Message) -> bool
-    ensures { result ≡ waits_for lines.now target message.now }
-{
-    match course_of(lines, message).status {
-        Status::Waiting { target: own } => own == target,
-        _ => false,
-    }
-}
-
-/// Whether a message has left, and the transfer is not confirmed.
-pub(crate) fn awaits_transfer(lines: &Entries<'_>, message: &Message) -> bool
-    ensures { result ≡ awaits_transfer lines.now message.now }
-{
-    matches!(course_of(lines, message).status, Status::Waiting { .. })
 }
 
 /// Whether a message was neither removed nor has left nor has expired.
@@ -398,7 +268,7 @@ fn state_of(lines: &Entries<'_>, clock: Moment, message: &Message) -> Option<Mes
 }
 
 /// Whether a message is in the state.
-pub(crate) fn is_in_state(
+pub fn is_in_state(
     state: MessageState,
     lines: &Entries<'_>,
     clock: Moment,
@@ -415,22 +285,10 @@ pub(crate) fn is_in_state(
 }
 
 /// Whether an event closes the queue.
-pub(crate) fn closes(event: &Event<Content>) -> bool
+pub fn closes(event: &Event<Content>) -> bool
     ensures { result ≡ closes event.now }
 {
     matches!(event, Event::Closed)
-}
-
-/// Whether the queue was closed.
-pub(crate) fn is_closed(lines: &Entries<'_>) -> bool
-    ensures { result ≡ is_closed lines.now }
-{
-    for place in 0..lines.len() {
-        if closes(&line_at(lines, place).event) {
-            return true;
-        }
-    }
-    false
 }
 
 /// How many messages are in the state.
@@ -467,7 +325,7 @@ fn oldest_age(lines: &Entries<'_>, clock: Moment) -> u64
 }
 
 /// The counts and the age at a time.
-pub(crate) fn gauges_of(lines: &Entries<'_>, clock: Moment) -> Gauges
+pub fn gauges_of(lines: &Entries<'_>, clock: Moment) -> Gauges
     ensures { result ≡ gauges_of lines.now clock }
 {
     Gauges {

@@ -1,20 +1,22 @@
-//! A queue, kept as its journal and a clock.
+//! A queue, kept as its journal, a clock, and an index of its messages.
 
-ghost use Rattle.std.specs.Prelude.{◌≡◌, ◌+◌, ◌-◌, ◌<◌, ◌≤◌, ◌^◌, ◌≢◌, nat_lt, nat_le, not, filter, false, if◌then◌else◌, unwrap_or, Some, None, IsTrue, IfSome, IfOk, OnOk, OnErr, IfErr};
-ghost use Rattle.std.specs.Option.{ForSome};
+ghost use Rattle.std.specs.Prelude.{◌≡◌, ℕ, ◌+◌, ◌-◌, ◌<◌, ◌≤◌, ◌^◌, ◌/◌, ◌≢◌, nat_lt, nat_le, true, false, length, slice_get, option_map, if◌then◌else◌, unwrap_or, Some, None, IsTrue, IfSome, IfOk, OnOk, OnErr, IfErr};
+ghost use Rattle.std.specs.Option.{ForSome, option_map_or};
 ghost use Rattle.message.specs.declared.fault.Fault.TheVariants.{OutOfMemory};
 ghost use Rattle.message.specs.Fault.{Meets, is_out_of_memory};
 ghost use Rattle.message.specs.Content.{content_size, is_content};
 ghost use Rattle.queue_config.specs.Settings.{AreSettings, settings_with};
 
+use crate::accepted::Accepted;
 use crate::command::{Command, Maximum, Step, Timeout};
 use crate::entries::Entries;
-use crate::facts::{Candidate, Message, MessageState};
+use crate::index::MessageIndex;
+use crate::indices::{is_here, is_in_flight};
 use crate::offers::{Offer, Offers};
+use crate::record::{Record, record_born};
 use crate::reply::{Look, Posted, Reply};
 use crate::tally::Tally;
-use crate::{order, reading};
-use journal::{Entry, Event, Journal, Moment, Ticks};
+use journal::{Entry, Event, Journal, Moment, Numbers, Origin, Ticks};
 use message::{Content, Fault, MessageId, QueueName};
 use metric_window::Gauges;
 use queue_config::{AlarmRule, Limits, Settings, Wish};
@@ -29,11 +31,11 @@ mod metrics;
 /// How many messages may leave by one receive. This project's own choice.
 const MOST_DEPARTURES: u64 = 100;
 
-/// What a receive does: the messages that it offers and those that leave, each in order.
+/// What a receive does: the numbers of the messages that it offers and of those that leave, each in order.
 #[derive(Drop)]
 struct Scan {
-    offered: Vec<Candidate>,
-    leaving: Vec<Candidate>,
+    offered: Numbers,
+    leaving: Numbers,
 }
 
 /// One queue. Contracts see its uid, its name, its limits, the rules of its alarms, its clock and its
@@ -52,26 +54,33 @@ pub struct QueueState {
     clock: Moment,
     journal: Journal,
     tally: Tally,
+    index: MessageIndex,
+    accepted: Accepted,
 }
 
 impl Model for QueueState {
     ghost use Rattle.queue_core.specs.Queue.{QueueHistory};
     ghost use Rattle.queue_core.specs.Kept.{IsKept};
     ghost use Rattle.queue_core.specs.Tally.{Tallies};
+    ghost use Rattle.queue_core.specs.Indexed.{IsIndexOf};
+    ghost use Rattle.queue_core.specs.Accepted.{AreAccepted};
 
     ghost Value = { QueueHistory };
 
     ghost view = { λ q. record { uid = q.uid; name = q.name; limits = q.limits; rules = q.rules.items; clock = q.clock; lines = q.journal.lines } };
 
-    ghost invariant = { λ q. IsKept (record { uid = q.uid; name = q.name; limits = q.limits; rules = q.rules.items; clock = q.clock; lines = q.journal.lines }) q.journal.limit × Tallies q.tally q.journal.lines };
+    ghost invariant = { λ q. IsKept (record { uid = q.uid; name = q.name; limits = q.limits; rules = q.rules.items; clock = q.clock; lines = q.journal.lines }) q.journal.limit × Tallies q.tally q.journal.lines × IsIndexOf q.journal.lines q.clock q.index × AreAccepted q.accepted q.journal.lines };
 }
 
 impl QueueState {
     ghost use Rattle.journal.specs.declared.entry.Event.TheVariants.{Deleted, DeletedAgain, Refused};
     ghost use Rattle.queue_core.specs.declared.facts.MessageState.TheVariants.{InFlight};
     ghost use Rattle.queue_core.specs.Messages.{is_closed, created_time, modified_time, message_count, own_id, message_id, content_of, settings_of, receive_count, first_receive_time};
-    ghost use Rattle.queue_core.specs.States.{is_live, is_in_state, is_numbered, gauges_of};
-    ghost use Rattle.queue_core.specs.Queue.{at_moment, is_full, first_refusal, in_flight_count, offer_limit, is_exhausted, most_departures, scanned, offered_candidates, leaving_candidates, policy_target, offer_of, offers_of, is_valid_handle, is_latest_handle, holds_in_flight, holds_live, passes_twelve_hours, change_refusal, look_of, outcome_at, IsExact, with_event, after_answer, as_reply};
+    ghost use Rattle.queue_core.specs.States.{is_live, is_in_state, is_numbered, message_numbered, receive_order, oldest_age, gauges_of};
+    ghost use Rattle.queue_core.specs.declared.facts.Candidate.{Candidate};
+    ghost use Rattle.queue_core.specs.declared.facts.Message.{Message};
+    ghost use Rattle.queue_core.specs.Recorded.{IsRecordOf};
+    ghost use Rattle.queue_core.specs.Queue.{at_moment, is_full, first_refusal, in_flight_count, offer_limit, offered_candidates, leaving_candidates, numbers_of, policy_target, offer_of, offers_of, is_valid_handle, is_latest_handle, holds_in_flight, holds_live, passes_twelve_hours, change_refusal, look_of, outcome_at, IsExact, with_event, after_answer, as_reply};
     ghost use Rattle.queue_core.specs.Ranges.{IsDelay, IsTimeout, IsMaximum};
     ghost use Rattle.queue_core.specs.Legal.{IsLegal, IsCausedIn};
     ghost use Rattle.queue_core.specs.Kept.{opened_queue};
@@ -102,6 +111,8 @@ impl QueueState {
             clock: at,
             journal,
             tally: Tally::opened(settings, at),
+            index: MessageIndex::new(alloc),
+            accepted: Accepted::new(alloc),
         })
     }
 
@@ -113,10 +124,14 @@ impl QueueState {
     }
 
     /// Moves the clock to a moment, where that is later.
-    fn move_to(&mut self, at: Moment)
+    fn move_to(&mut self, at: Moment, ticks: &mut Ticks)
         ensures { self.new ≡ at_moment self.old at }
     {
+        // The journal has at most one entry more than this, a number of 25 bits.
+        let _most = self.limits.max_lines;
         self.clock = self.clock.later(at);
+        let retention = self.tally.settings.retention_seconds;
+        self.index.settle(retention, self.clock, ticks);
     }
 
     /// Whether the journal has as many entries as it may have.
@@ -148,12 +163,12 @@ impl QueueState {
 
     /// Moves the clock, and refuses what comes to a closed queue or a full journal. It takes no
     /// memory.
-    fn begin(&mut self, at: Moment) -> Result<(), Fault>
+    fn begin(&mut self, at: Moment, ticks: &mut Ticks) -> Result<(), Fault>
         ensures state { self.new ≡ at_moment self.old at }
         ensures ok { OnOk result (first_refusal self.new ≡ None) }
         ensures refused { IfErr result (λ fault. first_refusal self.new ≡ Some fault) }
     {
-        self.move_to(at);
+        self.move_to(at, ticks);
         match self.first_refusal() {
             Some(fault) => Err(fault),
             None => Ok(()),
@@ -231,9 +246,10 @@ impl QueueState {
     fn messages_so_far(&self) -> u64
         ensures count { result ≡ message_count self.now.lines }
         ensures small { result < 2 ^ 63 }
+        ensures lines { length self.now.lines < 2 ^ 31 }
     {
         let count = self.message_count();
-        // The journal has at most one entry more than this, a number of 32 bits.
+        // The journal has at most one entry more than this, a number of 25 bits.
         let _most = self.limits.max_lines;
         count
     }
@@ -249,7 +265,7 @@ impl QueueState {
     fn in_flight_count(&self) -> u64
         ensures { result ≡ in_flight_count self.now }
     {
-        reading::count_in_state(MessageState::InFlight, &self.entries(), self.clock)
+        self.index.indices.in_flight
     }
 
     /// How many more messages may be in flight.
@@ -266,53 +282,53 @@ impl QueueState {
         u64::from(maximum).min(self.free_in_flight())
     }
 
-    /// Whether a message was received as often as the queue's policy allows.
-    fn is_exhausted(&self, candidate: &Candidate) -> bool
-        ensures { result ≡ is_exhausted self.now candidate.now }
+    /// Whether the message of a number was received as often as the queue's policy allows.
+    fn is_exhausted(&self, number: u64) -> bool
+        ensures { result
+            ≡ option_map_or (λ p. nat_le p.max_receive_count (receive_count self.now.lines number)) (settings_of self.now.lines).redrive_policy false }
     {
         match self.settings().redrive_policy {
-            Some(policy) => {
-                u64::from(policy.max_receive_count) <= self.receive_count(candidate.message.number)
-            }
+            Some(policy) => u64::from(policy.max_receive_count) <= self.receive_count(number),
             None => false,
         }
     }
 
-    /// The messages that a receive of at most so many offers, and those that leave by it.
+    /// The messages that a receive of at most so many offers, and those that leave by it: it goes through
+    /// those that are visible, in order, until so many are offered or 100 leave.
     fn scan(&self, alloc: Global, maximum: u8) -> Result<Scan, Fault>
-        ensures offered { IfOk result (λ scan. scan.offered.items ≡ offered_candidates self.now maximum) }
-        ensures leaving { IfOk result (λ scan. scan.leaving.items ≡ leaving_candidates self.now maximum) }
+        ensures offered { IfOk result (λ scan. scan.offered ≡ numbers_of (offered_candidates self.now maximum)) }
+        ensures leaving { IfOk result (λ scan. scan.leaving ≡ numbers_of (leaving_candidates self.now maximum)) }
         ensures errors { IfErr result (λ fault. fault ≡ OutOfMemory) }
     {
-        let order = order::receive_order(alloc, &self.entries(), self.clock)?;
-        self.scan_in_order(alloc, order.as_slice(), self.offer_limit(maximum))
-    }
-
-    /// Goes through the candidates until so many are offered or 100 leave.
-    fn scan_in_order(&self, alloc: Global, order: &[Candidate], offers: u64) -> Result<Scan, Fault>
-        ensures offered { IfOk result (λ scan. scan.offered.items
-            ≡ filter (λ c. not (is_exhausted self.now c)) (scanned (λ c. is_exhausted self.now c) offers most_departures order.now)) }
-        ensures leaving { IfOk result (λ scan. scan.leaving.items
-            ≡ filter (λ c. is_exhausted self.now c) (scanned (λ c. is_exhausted self.now c) offers most_departures order.now)) }
-        ensures errors { IfErr result (λ fault. fault ≡ OutOfMemory) }
-    {
-        let mut offered = Vec::new(alloc);
-        let mut leaving = Vec::new(alloc);
-        let mut may_be_offered = offers;
+        let mut offered = Numbers::new(alloc);
+        let mut leaving = Numbers::new(alloc);
+        let mut may_be_offered = self.offer_limit(maximum);
         let mut may_leave = MOST_DEPARTURES;
-        for candidate in order {
+        for place in 0..self.index.indices.visible.len() {
             if may_be_offered == 0 || may_leave == 0 {
                 return Ok(Scan { offered, leaving });
             }
-            if self.is_exhausted(candidate) {
-                leaving.push(*candidate)?;
+            let number = self.number_in_turn(place);
+            if self.is_exhausted(number) {
+                leaving.push(alloc, number)?;
                 may_leave -= 1;
             } else {
-                offered.push(*candidate)?;
+                offered.push(alloc, number)?;
                 may_be_offered -= 1;
             }
         }
         Ok(Scan { offered, leaving })
+    }
+
+    /// The number of the visible message at a place in the order of receives.
+    fn number_in_turn(&self, place: usize) -> u64
+        requires { place < length (receive_order self.now.lines self.now.clock) }
+        ensures { option_map (λ c. c.message.number) (slice_get (receive_order self.now.lines self.now.clock) place) ≡ Some result }
+    {
+        match self.index.indices.visible.get(place) {
+            Some((_, number)) => number,
+            None => unreachable!(),
+        }
     }
 
     /// The uid of the queue's dead-letter queue, 0 where it has none.
@@ -325,18 +341,17 @@ impl QueueState {
         }
     }
 
-    /// The offer of a message with its content.
-    fn offer_of(&self, candidate: &Candidate, content: Content) -> Offer
-        ensures { result ≡ offer_of self.now candidate.now content }
+    /// The offer of the message of a number, of which this is the record, with its content.
+    fn offer_of(&self, number: u64, kept: &Record, content: Content) -> Offer
+        ensures { (c : Candidate) → c.message.number ≡ number → IsRecordOf self.now.lines c.message kept.now → result ≡ offer_of self.now c content }
     {
-        let number = candidate.message.number;
         Offer {
             number,
             receipt: self.receive_count(number) + 1,
-            id: self.message_id(&candidate.message),
-            sent: candidate.message.first_send_time,
-            first_receive: self.first_receive_or_now(number),
-            source: candidate.message.origin.map(|origin| origin.name),
+            id: self.message_id(number, kept.origin),
+            sent: kept.first_send_time,
+            first_receive: kept.first_receive.unwrap_or(self.clock),
+            source: kept.origin.map(|origin| origin.name),
             content,
         }
     }
@@ -346,42 +361,26 @@ impl QueueState {
         ensures count { result ≡ receive_count self.now.lines number }
         ensures small { result < 2 ^ 63 }
     {
-        // The journal has at most one entry more than this, a number of 32 bits.
-        let _most = self.limits.max_lines;
-        reading::receive_count(&self.entries(), number)
+        match self.index.receives.get(number as usize) {
+            Some(count) => u64::from(*count),
+            None => 0,
+        }
     }
 
-    /// When the message of a number was first received, where this is the first time now.
-    fn first_receive_or_now(&self, number: u64) -> Moment
-        ensures { result ≡ unwrap_or (first_receive_time self.now.lines number) self.now.clock }
-    {
-        reading::first_receive_time(&self.entries(), number).unwrap_or(self.clock)
-    }
-
-    /// The offers of the candidates.
-    fn offers_of(&self, alloc: Global, candidates: &[Candidate]) -> Result<Offers, Fault>
-        ensures ok { IfOk result (λ offers. offers ≡ offers_of self.now candidates.now) }
+    /// The offers of the messages of these numbers, which a receive of at most so many offers.
+    fn offers_of(&self, alloc: Global, numbers: &Numbers) -> Result<Offers, Fault>
+        ensures ok { (maximum : ℕ) → numbers.now ≡ numbers_of (offered_candidates self.now maximum)
+            → IfOk result (λ offers. offers ≡ offers_of self.now (offered_candidates self.now maximum)) }
         ensures errors { IfErr result (λ fault. fault ≡ OutOfMemory) }
     {
         let mut offers = Offers::new(alloc);
-        for candidate in candidates {
-            match self.content_of(candidate)? {
-                Some(content) => offers.push(self.offer_of(candidate, content))?,
+        for number in numbers.as_slice() {
+            match self.index.records.get(number) {
+                Some(kept) => offers.push(self.offer_of(*number, kept, kept.content.share()?))?,
                 None => {}
             }
         }
         Ok(offers)
-    }
-
-    /// A share of the content of a message.
-    fn content_of(&self, candidate: &Candidate) -> Result<Option<Content>, Fault>
-        ensures ok { IfOk result (λ content. content ≡ content_of self.now.lines candidate.now.message) }
-        ensures errors { IfErr result (λ fault. fault ≡ OutOfMemory) }
-    {
-        match reading::content_of(&self.entries(), &candidate.message) {
-            Some(content) => Ok(Some(content.share()?)),
-            None => Ok(None),
-        }
     }
 
     /// The timeout in seconds, or the queue's own.
@@ -413,17 +412,7 @@ impl QueueState {
         ensures { result
             ≡ is_numbered (λ m. is_in_state InFlight self.now.lines self.now.clock m) self.now.lines number }
     {
-        match reading::message_numbered(&self.entries(), number) {
-            Some(message) => {
-                reading::is_in_state(
-                    MessageState::InFlight,
-                    &self.entries(),
-                    self.clock,
-                    &message,
-                )
-            }
-            None => false,
-        }
+        is_in_flight(self.index.slot_of(number))
     }
 
     /// Whether the message of a number is live.
@@ -431,10 +420,7 @@ impl QueueState {
         ensures { result
             ≡ is_numbered (λ m. is_live self.now.lines self.now.clock m) self.now.lines number }
     {
-        match reading::message_numbered(&self.entries(), number) {
-            Some(message) => reading::is_live(&self.entries(), self.clock, &message),
-            None => false,
-        }
+        is_here(self.index.slot_of(number))
     }
 
     /// Whether it is the latest handle of a message in flight.
@@ -452,12 +438,18 @@ impl QueueState {
     }
 
     /// Whether a timeout in seconds from now on ends later than twelve hours after the last
-    /// receive.
+    /// receive of the message of a number, which is in flight.
     fn passes_twelve_hours(&self, number: u64, timeout: u32) -> bool
+        requires { is_numbered (λ m. is_in_state InFlight self.now.lines self.now.clock m) self.now.lines number ≡ true }
         ensures { result ≡ passes_twelve_hours self.now number timeout }
     {
-        let last = reading::last_receive_time(&self.entries(), number).milliseconds();
-        last + 43_200_000 < self.clock.milliseconds() + 1000 * u64::from(timeout)
+        match self.index.records.get(&number) {
+            Some(kept) => {
+                let last = kept.last_receive.milliseconds();
+                last + 43_200_000 < self.clock.milliseconds() + 1000 * u64::from(timeout)
+            }
+            None => unreachable!(),
+        }
     }
 
     /// The id of a message that is sent to this queue.
@@ -470,42 +462,47 @@ impl QueueState {
         }
     }
 
-    /// The id of a message, which it may have brought with it.
-    fn message_id(&self, message: &Message) -> MessageId
-        ensures { result ≡ message_id self.now.uid message.now }
+    /// The id of the message of a number, which it may have brought with it.
+    fn message_id(&self, number: u64, origin: Option<Origin>) -> MessageId
+        ensures { (m : Message) → m.number ≡ number → m.origin ≡ origin → result ≡ message_id self.now.uid m }
     {
-        match message.origin {
+        match origin {
             Some(origin) => origin.id,
-            None => self.own_id(message.number),
+            None => self.own_id(number),
         }
     }
 
     /// Adds an entry at the clock. `OutOfMemory` is the only refusal; the queue is then as it was.
-    fn add(&mut self, alloc: Global, event: Event<Content>) -> Result<(), Fault>
+    fn add(&mut self, alloc: Global, event: Event<Content>, ticks: &mut Ticks) -> Result<(), Fault>
         requires { IsCausedIn self.old event }
         ensures ok { OnOk result (self.new ≡ with_event self.old event) }
         ensures err { OnErr result (self.new ≡ self.old) }
         ensures errors { IfErr result (λ fault. fault ≡ OutOfMemory) }
     {
         let at = self.clock;
+        let settings = self.tally.settings;
         let tally = self.tally.after(self.messages_so_far(), at, &event);
-        match self.journal.push(alloc, Entry { at, event }) {
-            Ok(()) => {
-                self.tally = tally;
-                Ok(())
-            }
-            Err(fault) => Err(fault),
-        }
+        let born = record_born(at, &event)?;
+        self.index.make_room(alloc, &event)?;
+        self.accepted.make_place(&event)?;
+        self.journal.reserve(alloc, 1)?;
+        self.index.apply(settings, at, &event, born, ticks);
+        let retention = tally.settings.retention_seconds;
+        self.index.settle(retention, at, ticks);
+        self.accepted.note(&event);
+        self.tally = tally;
+        self.journal.push_reserved(Entry { at, event });
+        Ok(())
     }
 
     /// Refuses a command with an entry. With `OutOfMemory` in its place the queue is as it was.
-    fn refuse<T>(&mut self, alloc: Global, fault: Fault) -> Result<T, Fault>
+    fn refuse<T>(&mut self, alloc: Global, fault: Fault, ticks: &mut Ticks) -> Result<T, Fault>
         requires caused { IsCausedIn self.old (Refused fault) }
         requires refusal { fault ≢ OutOfMemory }
         ensures answer { Meets result (Err fault) }
         ensures state { self.new ≡ (if is_out_of_memory result then self.old else with_event self.old (Refused fault)) }
     {
-        self.add(alloc, Event::Refused { fault })?;
+        self.add(alloc, Event::Refused { fault }, ticks)?;
         Err(fault)
     }
 
@@ -518,21 +515,21 @@ impl QueueState {
         at: Moment,
         content: Content,
         delay: Option<u16>,
-        _ticks: &mut Ticks,
+        ticks: &mut Ticks,
     ) -> Result<Posted, Fault>
         requires { ForSome delay (λ seconds. IsDelay seconds) }
         ensures answer { Meets (as_reply Reply.Sent result) (outcome_at self.old at (Command.Send content delay)).reply }
         ensures exact { IsExact (outcome_at self.old at (Command.Send content delay)) (as_reply Reply.Sent result) }
         ensures state { self.new ≡ after_answer self.old at (Command.Send content delay) result }
     {
-        self.begin(at)?;
+        self.begin(at, ticks)?;
         if self.is_too_large(&content) {
-            return self.refuse(alloc, Fault::InvalidParameterValue);
+            return self.refuse(alloc, Fault::InvalidParameterValue, ticks);
         }
         let number = self.message_count();
         let id = self.own_id(number);
         let delay = self.delay_or_own(delay);
-        self.add(alloc, Event::Sent { delay, content })?;
+        self.add(alloc, Event::Sent { delay, content }, ticks)?;
         Ok(Posted { number, id })
     }
 
@@ -549,7 +546,7 @@ impl QueueState {
         at: Moment,
         maximum: u8,
         timeout: Option<u32>,
-        _ticks: &mut Ticks,
+        ticks: &mut Ticks,
     ) -> Result<Offers, Fault>
         requires maximum { IsMaximum maximum }
         requires timeout { ForSome timeout (λ seconds. IsTimeout seconds) }
@@ -557,19 +554,19 @@ impl QueueState {
         ensures exact { IsExact (outcome_at self.old at (Command.Receive maximum timeout)) (as_reply Reply.Received result) }
         ensures state { self.new ≡ after_answer self.old at (Command.Receive maximum timeout) result }
     {
-        self.begin(at)?;
+        self.begin(at, ticks)?;
         if self.is_at_in_flight_limit() {
-            return self.refuse(alloc, Fault::OverLimit);
+            return self.refuse(alloc, Fault::OverLimit, ticks);
         }
         let scan = self.scan(alloc, maximum)?;
-        let offers = self.offers_of(alloc, scan.offered.as_slice())?;
+        let offers = self.offers_of(alloc, &scan.offered)?;
         let event = Event::Received {
             timeout: self.timeout_or_own(timeout),
-            offered: order::numbers_of(alloc, scan.offered.as_slice())?,
-            leaving: order::numbers_of(alloc, scan.leaving.as_slice())?,
+            offered: scan.offered,
+            leaving: scan.leaving,
             target: self.policy_target(),
         };
-        self.add(alloc, event)?;
+        self.add(alloc, event, ticks)?;
         Ok(offers)
     }
 
@@ -602,19 +599,19 @@ impl QueueState {
         at: Moment,
         handle: Handle,
         timeout: u32,
-        _ticks: &mut Ticks,
+        ticks: &mut Ticks,
     ) -> Result<(), Fault>
         requires { IsTimeout timeout }
         ensures answer { Meets (as_reply (λ _. Reply.Done) result) (outcome_at self.old at (Command.Change handle timeout)).reply }
         ensures exact { IsExact (outcome_at self.old at (Command.Change handle timeout)) (as_reply (λ _. Reply.Done) result) }
         ensures state { self.new ≡ after_answer self.old at (Command.Change handle timeout) result }
     {
-        self.begin(at)?;
+        self.begin(at, ticks)?;
         match self.change_refusal(&handle, timeout) {
-            Some(fault) => self.refuse(alloc, fault),
+            Some(fault) => self.refuse(alloc, fault, ticks),
             None => {
                 let number = handle.number;
-                self.add(alloc, Event::Changed { number, timeout })
+                self.add(alloc, Event::Changed { number, timeout }, ticks)
             }
         }
     }
@@ -646,18 +643,18 @@ impl QueueState {
         alloc: Global,
         at: Moment,
         handle: Handle,
-        _ticks: &mut Ticks,
+        ticks: &mut Ticks,
     ) -> Result<(), Fault>
         ensures answer { Meets (as_reply (λ _. Reply.Done) result) (outcome_at self.old at (Command.Delete handle)).reply }
         ensures exact { IsExact (outcome_at self.old at (Command.Delete handle)) (as_reply (λ _. Reply.Done) result) }
         ensures state { self.new ≡ after_answer self.old at (Command.Delete handle) result }
     {
-        self.begin(at)?;
+        self.begin(at, ticks)?;
         if !self.is_valid_handle(&handle) {
-            return self.refuse(alloc, Fault::ReceiptHandleIsInvalid);
+            return self.refuse(alloc, Fault::ReceiptHandleIsInvalid, ticks);
         }
         let event = self.deletion(&handle);
-        self.add(alloc, event)
+        self.add(alloc, event, ticks)
     }
 
     /// What a delete by a valid handle is.
@@ -675,13 +672,13 @@ impl QueueState {
 
     /// Removes all messages that are in the queue; those that have left for a dead-letter queue are not
     /// among them. A full journal answers `JournalFull`; with `OutOfMemory` only the clock has moved.
-    pub fn purge(&mut self, alloc: Global, at: Moment, _ticks: &mut Ticks) -> Result<(), Fault>
+    pub fn purge(&mut self, alloc: Global, at: Moment, ticks: &mut Ticks) -> Result<(), Fault>
         ensures answer { Meets (as_reply (λ _. Reply.Done) result) (outcome_at self.old at Command.Purge).reply }
         ensures exact { IsExact (outcome_at self.old at Command.Purge) (as_reply (λ _. Reply.Done) result) }
         ensures state { self.new ≡ after_answer self.old at Command.Purge result }
     {
-        self.begin(at)?;
-        self.add(alloc, Event::Purged)
+        self.begin(at, ticks)?;
+        self.add(alloc, Event::Purged, ticks)
     }
 
     /// Gives the queue the requested settings. They act at once: the retention on messages already
@@ -693,15 +690,15 @@ impl QueueState {
         at: Moment,
         wish: &Wish,
         target: u64,
-        _ticks: &mut Ticks,
+        ticks: &mut Ticks,
     ) -> Result<(), Fault>
         ensures answer { Meets (as_reply (λ _. Reply.Done) result) (outcome_at self.old at (Command.Set wish.now target)).reply }
         ensures exact { IsExact (outcome_at self.old at (Command.Set wish.now target)) (as_reply (λ _. Reply.Done) result) }
         ensures state { self.new ≡ after_answer self.old at (Command.Set wish.now target) result }
     {
-        self.begin(at)?;
+        self.begin(at, ticks)?;
         let settings = self.settings_with(wish, target);
-        self.add(alloc, Event::Set { settings })
+        self.add(alloc, Event::Set { settings }, ticks)
     }
 
     /// The settings with what is requested in its place. Their numbers are in range by their type.
@@ -718,32 +715,32 @@ impl QueueState {
     /// Closes the queue for good: no message is left, and from here on every call that can answer
     /// `QueueDoesNotExist` does. This is an entry, for which a full journal has a place. A queue that
     /// was closed answers `QueueDoesNotExist`; with `OutOfMemory` only the clock has moved.
-    pub fn close(&mut self, alloc: Global, at: Moment, _ticks: &mut Ticks) -> Result<(), Fault>
+    pub fn close(&mut self, alloc: Global, at: Moment, ticks: &mut Ticks) -> Result<(), Fault>
         ensures answer { Meets (as_reply (λ _. Reply.Done) result) (outcome_at self.old at Command.Close).reply }
         ensures exact { IsExact (outcome_at self.old at Command.Close) (as_reply (λ _. Reply.Done) result) }
         ensures state { self.new ≡ after_answer self.old at Command.Close result }
     {
-        self.move_to(at);
+        self.move_to(at, ticks);
         if self.is_closed() {
             return Err(Fault::QueueDoesNotExist);
         }
-        self.add(alloc, Event::Closed)
+        self.add(alloc, Event::Closed, ticks)
     }
 
     /// Moves the clock to a moment, where that is later, and nothing else.
-    pub fn advance(&mut self, at: Moment, _ticks: &mut Ticks)
+    pub fn advance(&mut self, at: Moment, ticks: &mut Ticks)
         ensures { self.new ≡ at_moment self.old at }
     {
-        self.move_to(at);
+        self.move_to(at, ticks);
     }
 
     /// The queue at a moment: counts, age, settings, times, length and clock. The clock moves there,
     /// where that is later. Nothing refuses it.
-    pub fn look(&mut self, at: Moment, _ticks: &mut Ticks) -> Look
+    pub fn look(&mut self, at: Moment, ticks: &mut Ticks) -> Look
         ensures answer { result ≡ look_of (at_moment self.old at) }
         ensures state { self.new ≡ at_moment self.old at }
     {
-        self.move_to(at);
+        self.move_to(at, ticks);
         self.look_of()
     }
 
@@ -767,7 +764,38 @@ impl QueueState {
         ensures counts { result ≡ gauges_of self.now.lines self.now.clock }
         ensures legal { IsLegal self.now }
     {
-        reading::gauges_of(&self.entries(), self.clock)
+        Gauges {
+            visible: self.index.indices.visible.len() as u64,
+            delayed: self.index.indices.delayed,
+            in_flight: self.index.indices.in_flight,
+            age: self.oldest_age(),
+        }
+    }
+
+    /// Whole seconds since the first live message came, 0 where none is live.
+    fn oldest_age(&self) -> u64
+        ensures { result ≡ oldest_age self.now.lines self.now.clock }
+    {
+        for number in 0..self.message_count() {
+            if self.is_live(number) {
+                return self.age_of(number);
+            }
+        }
+        0
+    }
+
+    /// Whole seconds since the live message of a number came.
+    fn age_of(&self, number: u64) -> u64
+        requires { is_numbered (λ m. is_live self.now.lines self.now.clock m) self.now.lines number ≡ true }
+        ensures { (m : Message) → message_numbered self.now.lines number ≡ Some m → result ≡ (self.now.clock - m.enqueue_time) / 1000 }
+    {
+        match self.index.records.get(&number) {
+            Some(kept) => {
+                let since = kept.enqueue_time.milliseconds();
+                self.clock.milliseconds().saturating_sub(since) / 1000
+            }
+            None => unreachable!(),
+        }
     }
 
     /// Does what the call that the command names does. A send shares the content, where the queue is
@@ -785,7 +813,7 @@ impl QueueState {
     {
         match command {
             Command::Send { content, delay } => {
-                self.begin(at)?;
+                self.begin(at, ticks)?;
                 let content = content.share()?;
                 let delay = delay.map(|delay| delay.seconds());
                 Ok(Reply::Sent(self.send(alloc, at, content, delay, ticks)?))

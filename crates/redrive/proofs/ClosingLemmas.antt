@@ -1,18 +1,18 @@
 -- No command but a close closes a queue.
-use Rattle.std.proofs.Common.{◌≡◌, ℕ, Bool, true, false, cond, List, [], ◌∷◌, ◌++◌, Option, Some, None, Result, refl}
+use Rattle.std.proofs.Common.{◌≡◌, ℕ, Bool, true, false, cond, ◌∷◌, ◌++◌, Option, Some, None, Result, refl, ◌∙◌}
 use Rattle.std.specs.Prelude.{nat_lt, nat_le}
 use Rattle.std.specs.Option.{option_map_or}
-use Rattle.std.proofs.lemmas.Bool.{or_parts}
+use Rattle.std.proofs.lemmas.Bool.{or_from}
 use Rattle.message.specs.declared.fault.Fault.{Fault}
 use Rattle.message.specs.Fault.{is_out_of_memory}
 use Rattle.message.specs.Content.{ContentText, content_size}
-use Rattle.journal.specs.declared.entry.Entry.{Entry}
 use Rattle.journal.specs.declared.entry.Event.{Event}
 use Rattle.journal.specs.declared.entry.Event.TheVariants.{Deleted, DeletedAgain}
 use Rattle.queue_core.specs.declared.command.Command.{Command}
 use Rattle.queue_core.specs.declared.command.Command.TheVariants as commands
 use Rattle.queue_core.specs.Messages.{closes, is_closed, settings_of, has_accepted}
 use Rattle.queue_core.specs.Queue.{QueueHistory, Outcome, at_moment, first_refusal, unless_refused, refused_or, done, in_flight_count, is_valid_handle, holds_live, change_refusal, send_outcome, receive_outcome, change_outcome, delete_outcome, is_pending, arrive_outcome, settle_outcome, orphan_outcome, outcome_of, leaves_clock, reached, outcome_at, with_optional_event, after_answer}
+use Rattle.queue_core.proofs.PushLemmas.{closed-push}
 use Rattle.redrive.specs.ByPlace.{closes_queue}
 
 abbrev adds_closing : Outcome → Bool
@@ -51,17 +51,11 @@ outcome-unclosed q commands.Close h = absurd cc
 outcome-unclosed q commands.Look h = refl
 outcome-unclosed q commands.FirstParcel h = refl
 
-unclosed-push : (lines : List (Entry ContentText)) (e : Entry ContentText) → is_closed lines ≡ false → closes e.event ≡ false → is_closed (lines ++ e ∷ []) ≡ false
-unclosed-push [] e h k = rw k refl
-unclosed-push (x ∷ xs) e h k =
-    let p = or_parts (closes x.event) (is_closed xs) h in
-    rw (p.0) (unclosed-push xs e p.1 k)
-
 unclosed-left : (b : Bool) (q : QueueHistory) (event : Option (Event ContentText)) → option_map_or (λ (e : Event ContentText). closes e) event false ≡ false → is_closed q.lines ≡ false
     → is_closed (cond b q (with_optional_event q event)).lines ≡ false
 unclosed-left true q event h k = k
 unclosed-left false q None h k = k
-unclosed-left false q (Some event) h k = unclosed-push q.lines (record { at = q.clock; event = event }) k h
+unclosed-left false q (Some event) h k = closed-push q.lines (record { at = q.clock; event = event }) ∙ or_from (is_closed q.lines) (closes event) k h
 
 unclosed-reached : (b : Bool) (q : QueueHistory) (at : ℕ) → is_closed q.lines ≡ false → is_closed (cond b q (at_moment q at)).lines ≡ false
 unclosed-reached true q at h = h

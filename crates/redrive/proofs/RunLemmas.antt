@@ -1,8 +1,6 @@
 -- A run of steps in the registry: one step on, at its end, and what holds of all of it.
 use Rattle.std.proofs.Common.{◌≡◌, ℕ, ◌+◌, ◌<◌, ◌≤◌, false, length, List, [], ◌∷◌, ◌++◌, get_or, map, take, drop, Option, refl, sym, ap, subst, ◌∙◌, append_assoc}
 use Rattle.std.proofs.lemmas.List.{append-nil, drop_all, map_more}
-use Rattle.metric_window.specs.declared.gauges.Gauges.{Gauges}
-use Rattle.queue_core.specs.States.{gauges_of}
 use Rattle.queue_core.specs.Queue.{QueueHistory}
 use Rattle.redrive.specs.declared.steps.HouseStep.{HouseStep}
 use Rattle.redrive.specs.declared.steps.QueueMetrics.{QueueMetrics}

@@ -6,7 +6,6 @@ ghost use Rattle.message.specs.Content.{content_size};
 ghost use Rattle.metric_window.specs.Window.{window_end};
 ghost use Rattle.alarm.specs.AlarmState.{breaches_in};
 
-use crate::reading;
 use crate::state::QueueState;
 use alarm::{AlarmState, satisfies, state_with};
 use message::{Fault, QueueName};

@@ -6,11 +6,12 @@ ghost use Rattle.message.specs.Name.{is_queue_name};
 ghost use Rattle.message.specs.Fault.{Meets};
 
 use crate::command::Command;
-use crate::facts::{Message, Transfer};
+use crate::indices::is_left;
 use crate::parcel::{Arrival, Parcel};
+use crate::record::Record;
 use crate::reply::Reply;
+use crate::slot::Stay;
 use crate::state::QueueState;
-use crate::{reading, transfers};
 use journal::{Event, Moment, Origin, Ticks};
 use message::Fault;
 use std::alloc::Global;
@@ -28,7 +29,9 @@ fn keep_parcel(parcel: &Parcel)
 
 impl QueueState {
     ghost use Rattle.queue_core.specs.Messages.{has_accepted};
-    ghost use Rattle.queue_core.specs.Queue.{outcome_at, IsExact, after_answer, as_reply, is_pending, waiting_count, origin_of, first_transfer, transferred_parcel, first_parcel_of};
+    ghost use Rattle.queue_core.specs.declared.facts.Message.{Message};
+    ghost use Rattle.queue_core.specs.Recorded.{IsRecordOf};
+    ghost use Rattle.queue_core.specs.Queue.{outcome_at, IsExact, after_answer, as_reply, is_pending, waiting_count, origin_of, first_transfer, first_parcel_of};
 
     /// Accepts a dead letter of another queue. It comes now, and keeps its id and the time at which it
     /// was first sent; it was received 0 times here. A transfer that this queue has accepted before is
@@ -39,13 +42,13 @@ impl QueueState {
         alloc: Global,
         at: Moment,
         parcel: Parcel,
-        _ticks: &mut Ticks,
+        ticks: &mut Ticks,
     ) -> Result<Arrival, Fault>
         ensures answer { Meets (as_reply Reply.Arrived result) (outcome_at self.old at (Command.Arrive parcel)).reply }
         ensures exact { IsExact (outcome_at self.old at (Command.Arrive parcel)) (as_reply Reply.Arrived result) }
         ensures state { self.new ≡ after_answer self.old at (Command.Arrive parcel) result }
     {
-        self.begin(at)?;
+        self.begin(at, ticks)?;
         if self.has_accepted(&parcel.origin) {
             return Ok(Arrival::Again);
         }
@@ -54,7 +57,7 @@ impl QueueState {
             origin: parcel.origin,
             content: parcel.content,
         };
-        self.add(alloc, event)?;
+        self.add(alloc, event, ticks)?;
         Ok(Arrival::New)
     }
 
@@ -70,7 +73,7 @@ impl QueueState {
         ensures exact { IsExact (outcome_at self.old at (Command.Arrive parcel.now)) (as_reply Reply.Arrived result) }
         ensures state { self.new ≡ after_answer self.old at (Command.Arrive parcel.now) result }
     {
-        self.begin(at)?;
+        self.begin(at, ticks)?;
         if self.has_accepted(&parcel.origin) {
             return Ok(Arrival::Again);
         }
@@ -90,17 +93,17 @@ impl QueueState {
         alloc: Global,
         at: Moment,
         number: u64,
-        _ticks: &mut Ticks,
+        ticks: &mut Ticks,
     ) -> Result<bool, Fault>
         ensures answer { Meets (as_reply Reply.Settled result) (outcome_at self.old at (Command.Settle number)).reply }
         ensures exact { IsExact (outcome_at self.old at (Command.Settle number)) (as_reply Reply.Settled result) }
         ensures state { self.new ≡ after_answer self.old at (Command.Settle number) result }
     {
-        self.begin(at)?;
+        self.begin(at, ticks)?;
         if !self.is_pending(number) {
             return Ok(false);
         }
-        self.add(alloc, Event::Settled { number })?;
+        self.add(alloc, Event::Settled { number }, ticks)?;
         Ok(true)
     }
 
@@ -114,15 +117,15 @@ impl QueueState {
         alloc: Global,
         at: Moment,
         target: u64,
-        _ticks: &mut Ticks,
+        ticks: &mut Ticks,
     ) -> Result<u64, Fault>
         ensures answer { Meets (as_reply Reply.Orphaned result) (outcome_at self.old at (Command.Orphan target)).reply }
         ensures exact { IsExact (outcome_at self.old at (Command.Orphan target)) (as_reply Reply.Orphaned result) }
         ensures state { self.new ≡ after_answer self.old at (Command.Orphan target) result }
     {
-        self.begin(at)?;
+        self.begin(at, ticks)?;
         let count = self.waiting_count(target);
-        self.add(alloc, Event::Orphaned { target })?;
+        self.add(alloc, Event::Orphaned { target }, ticks)?;
         Ok(count)
     }
 
@@ -132,9 +135,16 @@ impl QueueState {
         ensures answer { Meets result (Ok (first_parcel_of self.now)) }
         ensures none { first_parcel_of self.now ≡ None → result ≡ Ok None }
     {
-        match transfers::first_transfer(&self.entries()) {
-            Some(transfer) => self.transferred_parcel(transfer),
-            None => Ok(None),
+        let Some((number, target)) = self.first_left() else {
+            return Ok(None);
+        };
+        match self.index.records.get(&number) {
+            Some(kept) => Ok(Some(Parcel {
+                origin: self.origin_of(number, kept),
+                target,
+                content: kept.content.share()?,
+            })),
+            None => unreachable!(),
         }
     }
 
@@ -143,40 +153,34 @@ impl QueueState {
     pub fn first_waiting(&self) -> Option<(Origin, u64)>
         ensures { result ≡ option_map (λ p. (p.origin, p.target)) (first_parcel_of self.now) }
     {
-        let transfer = transfers::first_transfer(&self.entries())?;
-        let message = reading::message_numbered(&self.entries(), transfer.number)?;
-        let _content = reading::content_of(&self.entries(), &message)?;
-        Some((self.origin_of(&message), transfer.target))
+        let (number, target) = self.first_left()?;
+        match self.index.records.get(&number) {
+            Some(kept) => Some((self.origin_of(number, kept), target)),
+            None => unreachable!(),
+        }
     }
 
-    /// What is handed over by a transfer.
-    fn transferred_parcel(&self, transfer: Transfer) -> Result<Option<Parcel>, Fault>
-        ensures answer { Meets result (Ok (transferred_parcel self.now transfer)) }
-        ensures none { transferred_parcel self.now transfer ≡ None → result ≡ Ok None }
+    /// The number of the message that has waited longest for its dead-letter queue, and that queue's uid.
+    fn first_left(&self) -> Option<(u64, u64)>
+        ensures { result ≡ option_map (λ t. (t.number, t.target)) (first_transfer self.now) }
     {
-        let Some(message) = reading::message_numbered(&self.entries(), transfer.number) else {
-            return Ok(None);
-        };
-        let Some(content) = reading::content_of(&self.entries(), &message) else {
-            return Ok(None);
-        };
-        Ok(Some(Parcel {
-            origin: self.origin_of(&message),
-            target: transfer.target,
-            content: content.share()?,
-        }))
+        let number = *self.index.leaving.front()?;
+        match self.index.slot_of(number)?.stay {
+            Stay::Left { target, .. } => Some((number, target)),
+            Stay::Hidden | Stay::Shown => unreachable!(),
+        }
     }
 
-    /// Where a message of this queue comes from, for the queue that it is handed to.
-    fn origin_of(&self, message: &Message) -> Origin
-        ensures { result ≡ origin_of self.now message.now }
+    /// Where the message of a number, of which this is the record, comes from, for the queue that it is handed to.
+    fn origin_of(&self, number: u64, kept: &Record) -> Origin
+        ensures { (m : Message) → m.number ≡ number → IsRecordOf self.now.lines m kept.now → result ≡ origin_of self.now m }
     {
         Origin {
             uid: self.uid,
-            number: message.number,
+            number,
             name: self.name,
-            id: self.message_id(message),
-            sent: message.first_send_time,
+            id: self.message_id(number, kept.origin),
+            sent: kept.first_send_time,
         }
     }
 
@@ -184,23 +188,20 @@ impl QueueState {
     pub fn has_accepted(&self, origin: &Origin) -> bool
         ensures { result ≡ has_accepted self.now.lines origin.now.uid origin.now.number }
     {
-        transfers::has_accepted(&self.entries(), origin.uid, origin.number)
+        self.accepted.contains(origin.uid, origin.number)
     }
 
     /// Whether the message of a number has left, and its transfer is not confirmed.
     fn is_pending(&self, number: u64) -> bool
         ensures { result ≡ is_pending self.now number }
     {
-        match reading::message_numbered(&self.entries(), number) {
-            Some(message) => reading::awaits_transfer(&self.entries(), &message),
-            None => false,
-        }
+        is_left(self.index.slot_of(number))
     }
 
     /// How many messages wait for the dead-letter queue of a uid.
     fn waiting_count(&self, target: u64) -> u64
         ensures { result ≡ waiting_count self.now target }
     {
-        transfers::waiting_count(&self.entries(), target)
+        self.index.left_for(target)
     }
 }

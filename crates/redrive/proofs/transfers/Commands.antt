@@ -1,8 +1,8 @@
 -- Which entries the commands for one queue add.
-use Rattle.std.proofs.Common.{◌≡◌, ℕ, suc, ◌-◌, Bool, true, false, cond, ◌||◌, List, [], ◌∷◌, map, Option, Some, None, Result, refl, sym, ap, subst, inl, inr, ◌∙◌, eqb-true}
-use Rattle.std.specs.Prelude.{⊤, ◌⊎◌, nat_eq, nat_lt, nat_le, filter, fold, option_map, option_and_then, slice_get, IfSome}
-use Rattle.std.specs.List.{AllByRecursion}
-use Rattle.std.proofs.lemmas.Bool.{and_parts, false≢true}
+use Rattle.std.proofs.Common.{◌≡◌, ℕ, ◌-◌, Bool, true, false, cond, ◌||◌, List, [], ◌∷◌, Option, Some, None, Result, refl, sym, ap, subst, inl, inr, ◌∙◌}
+use Rattle.std.specs.Prelude.{⊤, ◌⊎◌, nat_lt, nat_le, option_map, option_and_then, slice_get, IfSome}
+use Rattle.std.specs.List.{Contains}
+use Rattle.std.proofs.lemmas.List.Elements.{Contains-append_left, Contains-push}
 use Rattle.std.proofs.lemmas.Option.{none-some, same_Some}
 use Rattle.message.specs.declared.fault.Fault.{Fault}
 use Rattle.message.specs.declared.fault.Fault.TheVariants.{InvalidParameterValue, ReceiptHandleIsInvalid, OverLimit}
@@ -13,107 +13,25 @@ use Rattle.journal.specs.declared.entry.Event.{Event}
 use Rattle.journal.specs.declared.entry.Event.TheVariants.{Opened, Sent, Arrived, Received, Changed, Deleted, DeletedAgain, Purged, Set, Settled, Orphaned, Refused, Closed}
 use Rattle.queue_core.specs.declared.command.Command.{Command}
 use Rattle.queue_core.specs.declared.command.Command.TheVariants as commands
-use Rattle.queue_core.specs.declared.facts.Candidate.{Candidate}
 use Rattle.queue_core.specs.declared.facts.Message.{Message}
-use Rattle.queue_core.specs.declared.facts.Status.{Status}
-use Rattle.queue_core.specs.declared.facts.Status.TheVariants.{Present, Removed, Waiting, Transferred}
-use Rattle.queue_core.specs.declared.facts.MessageState.TheVariants.{Visible}
 use Rattle.queue_core.specs.declared.facts.Transfer.{Transfer}
 use Rattle.queue_core.specs.declared.parcel.Parcel.{Parcel}
-use Rattle.queue_core.specs.Messages.{messages, settings_of, contains_number, course_of, is_present_status, pending_transfers, content_of, has_accepted, message_id}
-use Rattle.queue_core.specs.States.{is_live, is_in_state, receive_order, candidate_of, comes_before, put_in_order, message_numbered}
-use Rattle.queue_core.specs.Queue.{QueueHistory, Outcome, at_moment, refusal, unless_refused, first_refusal, refused_or, done, send_outcome, receive_outcome, change_outcome, delete_outcome, in_flight_count, is_exhausted, scanned, offer_limit, most_departures, scanned_candidates, leaving_candidates, numbers_of, change_refusal, is_valid_handle, holds_live, arrive_outcome, is_pending, settle_outcome, orphan_outcome, outcome_of, leaves_clock, reached, outcome_at, with_optional_event, after_answer, parcel_of, transferred_parcel, first_parcel_of}
+use Rattle.queue_core.specs.Messages.{settings_of, course_of, pending_transfers, content_of, has_accepted, message_id}
+use Rattle.queue_core.specs.States.{message_numbered}
+use Rattle.queue_core.specs.Queue.{QueueHistory, Outcome, at_moment, refusal, unless_refused, first_refusal, refused_or, done, send_outcome, receive_outcome, change_outcome, delete_outcome, in_flight_count, leaving_candidates, numbers_of, change_refusal, is_valid_handle, holds_live, arrive_outcome, is_pending, settle_outcome, orphan_outcome, outcome_of, leaves_clock, reached, outcome_at, with_optional_event, after_answer, parcel_of, transferred_parcel, first_parcel_of}
 use Rattle.redrive.specs.World.{is_internal}
-use Rattle.redrive.specs.Places.{status_numbered}
-use Rattle.redrive.proofs.transfers.Journals.{Line, Lines, more, number_of}
-use Rattle.redrive.proofs.transfers.Views.{Among, ArePresent}
+use Rattle.queue_core.proofs.CauseLemmas.{about-received}
+use Rattle.queue_core.proofs.PushLemmas.{numbered-number}
+use Rattle.queue_core.proofs.PendingLemmas.{present_numbered}
+use Rattle.redrive.proofs.transfers.Journals.{Line, Lines, more}
+use Rattle.redrive.proofs.transfers.Views.{ArePresent}
 
 -- ---- messages that a receive comes to are present
 
--- a message of the journal that is present, under its number
-abbrev IsPresentIn : Lines → Message → Type 0
-IsPresentIn lines m = status_numbered lines m.number ≡ Some Present
-
-abbrev IsPresentCandidate : Lines → Candidate → Type 0
-IsPresentCandidate lines c = IsPresentIn lines c.message
-
-present-status : (s : Status) → is_present_status s ≡ true → s ≡ Present
-present-status Present h = refl
-present-status Removed h = absurd (false≢true h)
-present-status (Waiting target) h = absurd (false≢true h)
-present-status Transferred h = absurd (false≢true h)
-
-visible_live : (lines : Lines) (clock : ℕ) (m : Message) (live : Bool) → is_live lines clock m ≡ live → is_in_state Visible lines clock m ≡ true → live ≡ true
-visible_live lines clock m true e h = refl
-visible_live lines clock m false e h = absurd (false≢true (rw e at h))
-
-pub live_present : (lines : Lines) (clock : ℕ) (m : Message) → is_live lines clock m ≡ true → (course_of lines m).status ≡ Present
-live_present lines clock m h = present-status (course_of lines m).status (and_parts _ _ h).0
-
-visible_present : (lines : Lines) (clock : ℕ) (m : Message) → message_numbered lines m.number ≡ Some m → is_in_state Visible lines clock m ≡ true → IsPresentIn lines m
-visible_present lines clock m is h =
-    ap (option_map (λ m. (course_of lines m).status)) is ∙ ap Some (live_present lines clock m (visible_live lines clock m (is_live lines clock m) refl h))
-
-module _ {X : Type 0} (P : X → Type 0) where
-  all_slices : (xs : List X) → ((n : ℕ) (x : X) → slice_get xs n ≡ Some x → P x) → AllByRecursion P xs
-  all_slices [] h = tt
-  all_slices (x ∷ xs) h = (h 0 x refl, all_slices xs (λ n y k. h (suc n) y k))
-
-  all_if : (b : Bool) (x : X) (xs : List X) → (b ≡ true → P x) → AllByRecursion P xs → AllByRecursion P (cond b (x ∷ xs) xs)
-  all_if true x xs h k = (h refl, k)
-  all_if false x xs h k = k
-
-  all_either : (b : Bool) (xs ys : List X) → AllByRecursion P xs → AllByRecursion P ys → AllByRecursion P (cond b xs ys)
-  all_either true xs ys h k = h
-  all_either false xs ys h k = k
-
-  all_filter : (Q : X → Type 0) (p : X → Bool) (xs : List X) → ((x : X) → Q x → p x ≡ true → P x) → AllByRecursion Q xs → AllByRecursion P (filter p xs)
-  all_filter Q p [] f h = tt
-  all_filter Q p (x ∷ xs) f h = all_if (p x) x (filter p xs) (f x h.0) (all_filter Q p xs f h.1)
-
-all_map : {X Y : Type 0} (P : Y → Type 0) (f : X → Y) (xs : List X) → AllByRecursion (λ x. P (f x)) xs → AllByRecursion P (map f xs)
-all_map P f [] h = tt
-all_map P f (x ∷ xs) h = (h.0, all_map P f xs h.1)
-
-module _ (P : Candidate → Type 0) where
-  put-all : (xs : List Candidate) (c : Candidate) → AllByRecursion P xs → P c → AllByRecursion P (put_in_order xs c)
-  put-all [] c h k = (k, tt)
-  put-all (x ∷ xs) c h k = all_either P (comes_before c x) (c ∷ x ∷ xs) (x ∷ put_in_order xs c) (k, h) (h.0, put-all xs c h.1 k)
-
-  order-all : (xs done : List Candidate) → AllByRecursion P xs → AllByRecursion P done → AllByRecursion P (fold put_in_order done xs)
-  order-all [] done h k = k
-  order-all (x ∷ xs) done h k = order-all xs (put_in_order done x) h.1 (put-all done x k h.0)
-
-  scanned-all : (exhausted : Candidate → Bool) (offers departures : ℕ) (cs : List Candidate) → AllByRecursion P cs → AllByRecursion P (scanned exhausted offers departures cs)
-  scanned-all exhausted offers departures [] h = tt
-  scanned-all exhausted offers departures (c ∷ cs) h =
-      all_either P (nat_eq offers 0 || nat_eq departures 0) [] (c ∷ cond (exhausted c) (scanned exhausted offers (departures - 1) cs) (scanned exhausted (offers - 1) departures cs)) tt (
-        h.0,
-        all_either P (exhausted c) (scanned exhausted offers (departures - 1) cs) (scanned exhausted (offers - 1) departures cs)
-            (scanned-all exhausted offers (departures - 1) cs h.1) (scanned-all exhausted (offers - 1) departures cs h.1),
-      )
-
-order-present : (lines : Lines) (clock : ℕ) → AllByRecursion (IsPresentCandidate lines) (receive_order lines clock)
-order-present lines clock =
-    order-all (IsPresentCandidate lines) (map (candidate_of lines) (filter (λ m. is_in_state Visible lines clock m) (messages lines))) []
-    (all_map (IsPresentCandidate lines) (candidate_of lines) (filter (λ m. is_in_state Visible lines clock m) (messages lines))
-    (all_filter (IsPresentIn lines) (λ m. message_numbered lines m.number ≡ Some m) (λ m. is_in_state Visible lines clock m) (messages lines) (visible_present lines clock)
-    (all_slices (λ m. message_numbered lines m.number ≡ Some m) (messages lines) (λ n m h. ap (λ (k : ℕ). slice_get (messages lines) k) (number_of lines n m h) ∙ h)))) tt
-
-listed-head : (lines : Lines) (c : Candidate) (cs : List Candidate) (n : ℕ) (b : Bool) → nat_eq c.message.number n ≡ b → IsPresentCandidate lines c
-    → (contains_number n (numbers_of cs) ≡ true → status_numbered lines n ≡ Some Present) → (b || contains_number n (numbers_of cs)) ≡ true → status_numbered lines n ≡ Some Present
-listed-head lines c cs n true e h f k = subst (λ (i : ℕ). status_numbered lines i ≡ Some Present) (eqb-true c.message.number n e) h
-listed-head lines c cs n false e h f k = f k
-
-listed-present : (lines : Lines) (cs : List Candidate) → AllByRecursion (IsPresentCandidate lines) cs → ArePresent lines (numbers_of cs)
-listed-present lines [] h n k = absurd (false≢true k)
-listed-present lines (c ∷ cs) h n k = listed-head lines c cs n (nat_eq c.message.number n) refl h.0 (listed-present lines cs h.1 n) k
-
-pub leaving-present : (q : QueueHistory) (maximum : ℕ) → ArePresent q.lines (numbers_of (leaving_candidates q maximum))
-leaving-present q maximum =
-    listed-present q.lines (leaving_candidates q maximum)
-    (all_filter (IsPresentCandidate q.lines) (IsPresentCandidate q.lines) (λ c. is_exhausted q c) (scanned_candidates q maximum) (λ c h k. h)
-    (scanned-all (IsPresentCandidate q.lines) (λ c. is_exhausted q c) (offer_limit q maximum) most_departures (receive_order q.lines q.clock) (order-present q.lines q.clock)))
+pub leaving-present : (q : QueueHistory) (maximum : ℕ) (timeout : Option ℕ) → ArePresent q.lines (numbers_of (leaving_candidates q maximum))
+leaving-present q maximum timeout n h =
+    let m = present_numbered q.lines q.clock n ((about-received q maximum timeout).departing n h) in
+    ap (option_map (λ m. (course_of q.lines m).status)) m.1 ∙ ap Some m.2
 
 -- ---- the entries of commands
 
@@ -160,7 +78,7 @@ own q (commands.Send content delay) h =
     (cond-event (IsOwn q.lines) (nat_lt (settings_of q.lines).maximum_message_size (content_size content)) (refusal InvalidParameterValue) _ tt tt)
 own q (commands.Receive maximum timeout) h =
     unless_refused-event (IsOwn q.lines) (first_refusal q) (receive_outcome q maximum timeout)
-    (cond-event (IsOwn q.lines) (nat_le q.limits.in_flight (in_flight_count q)) (refusal OverLimit) _ tt (leaving-present q maximum))
+    (cond-event (IsOwn q.lines) (nat_le q.limits.in_flight (in_flight_count q)) (refusal OverLimit) _ tt (leaving-present q maximum timeout))
 own q (commands.Change handle timeout) h =
     unless_refused-event (IsOwn q.lines) (first_refusal q) (change_outcome q handle timeout)
     (refused_or-event (IsOwn q.lines) (change_refusal q handle timeout) (done (Changed handle.number timeout)) (λ fault. tt) tt)
@@ -258,35 +176,35 @@ module _ (q : QueueHistory) (at : ℕ) (event : Event ContentText) where
 
 -- it is that of a pending transfer
 pub record IsHandedBy (q : QueueHistory) (p : Parcel) : Type 0 where
-  pub pending : Among (record { number = p.origin.number; target = p.target }) (pending_transfers q.lines)
+  pub pending : Contains (pending_transfers q.lines) (record { number = p.origin.number; target = p.target })
   pub message : Message
   pub numbered : message_numbered q.lines p.origin.number ≡ Some message
   pub named : message_id q.uid message ≡ p.origin.id
   pub uid : p.origin.uid ≡ q.uid
 
-handed-content : (q : QueueHistory) (t : Transfer) (m : Message) (o : Option ContentText) (p : Parcel) → Among t (pending_transfers q.lines) → message_numbered q.lines t.number ≡ Some m
+handed-content : (q : QueueHistory) (t : Transfer) (m : Message) (o : Option ContentText) (p : Parcel) → Contains (pending_transfers q.lines) t → message_numbered q.lines t.number ≡ Some m
     → option_map (λ content. parcel_of q t m content) o ≡ Some p → IsHandedBy q p
 handed-content q t m None p among is h = absurd (none-some p h)
 handed-content q t m (Some content) p among is h =
     let same : parcel_of q t m content ≡ p = same_Some (parcel_of q t m content) p h in
-    let number : m.number ≡ t.number = number_of q.lines t.number m is in
+    let number : m.number ≡ t.number = numbered-number q.lines t.number m is in
     subst (IsHandedBy q) same
     (record {
-      pending = subst (λ (n : ℕ). Among (record { number = n; target = t.target }) (pending_transfers q.lines)) (sym number) among;
+      pending = subst (λ (n : ℕ). Contains (pending_transfers q.lines) (record { number = n; target = t.target })) (sym number) among;
       message = m;
       numbered = subst (λ (n : ℕ). message_numbered q.lines n ≡ Some m) (sym number) is;
       named = refl;
       uid = refl;
     })
 
-handed-message : (q : QueueHistory) (t : Transfer) (o : Option Message) (p : Parcel) → Among t (pending_transfers q.lines) → message_numbered q.lines t.number ≡ o
+handed-message : (q : QueueHistory) (t : Transfer) (o : Option Message) (p : Parcel) → Contains (pending_transfers q.lines) t → message_numbered q.lines t.number ≡ o
     → option_and_then (λ m. option_map (λ content. parcel_of q t m content) (content_of q.lines m)) o ≡ Some p → IsHandedBy q p
 handed-message q t None p among is h = absurd (none-some p h)
 handed-message q t (Some m) p among is h = handed-content q t m (content_of q.lines m) p among is h
 
 handed-first : (q : QueueHistory) (ts : List Transfer) (p : Parcel) → pending_transfers q.lines ≡ ts → option_and_then (λ t. transferred_parcel q t) (slice_get ts 0) ≡ Some p → IsHandedBy q p
 handed-first q [] p e h = absurd (none-some p h)
-handed-first q (t ∷ ts) p e h = handed-message q t (message_numbered q.lines t.number) p (subst (Among t) (sym e) (inl refl)) refl h
+handed-first q (t ∷ ts) p e h = handed-message q t (message_numbered q.lines t.number) p (subst (λ (ts : List Transfer). Contains ts t) (sym e) (Contains-append_left (t ∷ []) ts t (Contains-push [] t))) refl h
 
 pub handed : (q : QueueHistory) (p : Parcel) → first_parcel_of q ≡ Some p → IsHandedBy q p
 handed q p h = handed-first q (pending_transfers q.lines) p refl h

@@ -1,10 +1,11 @@
 -- Each departure from an open queue has its fate, and what is among the pending transfers waits.
-use Rattle.std.proofs.Common.{◌≡◌, ℕ, zero, suc, ◌<◌, Bool, true, false, not, ◌||◌, cond, List, [], ◌∷◌, ◌++◌, length, drop, map, Option, Some, None, refl, sym, ap, subst, inl, inr, ◌∙◌, arith, eqb-true, eq-eqb}
+use Rattle.std.proofs.Common.{◌≡◌, ℕ, zero, suc, ◌<◌, Bool, true, false, not, ◌||◌, cond, [], ◌∷◌, ◌++◌, length, drop, Option, Some, None, refl, sym, ap, subst, inl, inr, ◌∙◌, arith, eqb-true}
 use Rattle.std.specs.Prelude.{◌⊎◌, nat_eq, slice_get, filter}
 use Rattle.std.specs.Option.{option_map_or, option_or}
-use Rattle.std.specs.List.{list_any}
-use Rattle.std.proofs.lemmas.Bool.{or_parts, false≢true}
+use Rattle.std.specs.List.{list_any, Contains}
+use Rattle.std.proofs.lemmas.Bool.{or_parts, or_right, not-true, false≢true}
 use Rattle.std.proofs.lemmas.List.{drop-append-le, drop_all, length-append}
+use Rattle.std.proofs.lemmas.List.Elements.{Contains-append_cases}
 use Rattle.std.proofs.lemmas.List.Folds.{find-append}
 use Rattle.std.proofs.lemmas.Option.{none-some, same_Some, slice_get_within}
 use Rattle.message.specs.Content.{ContentText}
@@ -18,8 +19,10 @@ use Rattle.queue_core.specs.declared.facts.Transfer.{Transfer}
 use Rattle.queue_core.specs.Messages.{effect_of, contains_number, status_after, course_of, returns, is_returned, loses, departures, ends_transfer, pending_transfers, closes, has_accepted}
 use Rattle.queue_core.specs.States.{message_numbered, is_numbered}
 use Rattle.redrive.specs.Places.{status_numbered, end_of, IsDeparture, StillWaits, CameBack}
-use Rattle.redrive.proofs.transfers.Journals.{Line, Lines, more, slice_get-cases, message_kept, course_kept, stands_from, stands_gives, stands_once, stands_kept, accepted_kept, or_second}
-use Rattle.redrive.proofs.transfers.Views.{View, Among, IsSettling, IsStep, Grows, IsOpened, Change, Stays, Steps, Opens, Closes}
+use Rattle.queue_core.proofs.PushLemmas.{slice_get-push, numbered-kept, course-kept}
+use Rattle.queue_core.proofs.PendingLemmas.{Contains-from_filter, Contains-nil, departed, status-leaving, status-kept}
+use Rattle.redrive.proofs.transfers.Journals.{Line, Lines, more, stands_from, stands_gives, stands_once, stands_kept, accepted_kept}
+use Rattle.redrive.proofs.transfers.Views.{View, IsSettling, IsStep, Grows, IsOpened, Change, Stays, Steps, Opens, Closes}
 use Rattle.redrive.proofs.transfers.Worlds.{same_or_not}
 
 -- ---- fates in one journal
@@ -60,46 +63,19 @@ pub record IsPendingAt (lines : Lines) (t : Transfer) : Type 0 where
   pub departure : IsDeparture lines place t
   pub unended : end_of t (drop (suc place) lines) ≡ None
 
-among_append : {X : Type 0} (x : X) (xs ys : List X) → Among x (xs ++ ys) → Among x xs ⊎ Among x ys
-among_append x [] ys h = inr h
-among_append x (z ∷ xs) ys (inl e) = inl (inl e)
-among_append x (z ∷ xs) ys (inr h) = elim (among_append x xs ys h) [ inl k ↦ inl (inr k) | inr k ↦ inr k ]
-
-among_if : {X : Type 0} (x z : X) (p : X → Bool) (b : Bool) (xs : List X) → p z ≡ b → (Among x (filter p xs) → Among x xs × (p x ≡ true)) → Among x (cond b (z ∷ filter p xs) (filter p xs)) → Among x (z ∷ xs) × (p x ≡ true)
-among_if x z p true xs e f (inl same) = (inl same, subst (λ y. p y ≡ true) same e)
-among_if x z p true xs e f (inr h) = let k = f h in (inr k.0, k.1)
-among_if x z p false xs e f h = let k = f h in (inr k.0, k.1)
-
-among_filter : {X : Type 0} (x : X) (p : X → Bool) (xs : List X) → Among x (filter p xs) → Among x xs × (p x ≡ true)
-among_filter x p [] h = absurd h
-among_filter x p (z ∷ xs) h = among_if x z p (p z) xs refl (among_filter x p xs) h
-
-among_departures : (t : Transfer) (target : ℕ) (numbers : List ℕ) → Among t (map (λ number. record { number = number; target = target }) numbers)
-    → (contains_number t.number numbers ≡ true) × (target ≡ t.target)
-among_departures t target [] h = absurd h
-among_departures t target (n ∷ numbers) (inl e) =
-    (ap (λ b. b || contains_number t.number numbers) (eq-eqb n t.number (ap (λ (x : Transfer). x.number) e)), ap (λ (x : Transfer). x.target) e)
-among_departures t target (n ∷ numbers) (inr h) =
-    let k = among_departures t target numbers h in
-    (or_second (nat_eq n t.number) (contains_number t.number numbers) k.0, k.1)
-
-not_true : (b : Bool) → not b ≡ true → b ≡ false
-not_true true h = absurd (false≢true h)
-not_true false h = refl
-
-pub pending_at : (lines : Lines) (t : Transfer) → Among t (pending_transfers lines) → IsPendingAt lines t
-pending_at [] t h = absurd h
-pending_at (e ∷ es) t h = pending_in (among_append t (filter (λ t. not (list_any (λ later. ends_transfer t later.event) es)) (departures e.event)) (pending_transfers es) h) (pending_at es t)
+pub pending_at : (lines : Lines) (t : Transfer) → Contains (pending_transfers lines) t → IsPendingAt lines t
+pending_at [] t h = absurd (Contains-nil t h)
+pending_at (e ∷ es) t h = pending_in (Contains-append_cases (filter (λ t. not (list_any (λ later. ends_transfer t later.event) es)) (departures e.event)) (pending_transfers es) t h) (pending_at es t)
   where
-    pending_in : Among t (filter (λ t. not (list_any (λ later. ends_transfer t later.event) es)) (departures e.event)) ⊎ Among t (pending_transfers es)
-        → (Among t (pending_transfers es) → IsPendingAt es t) → IsPendingAt (e ∷ es) t
+    pending_in : Contains (filter (λ t. not (list_any (λ later. ends_transfer t later.event) es)) (departures e.event)) t ⊎ Contains (pending_transfers es) t
+        → (Contains (pending_transfers es) t → IsPendingAt es t) → IsPendingAt (e ∷ es) t
     pending_in (inl k) f =
-        let x = among_filter t (λ t. not (list_any (λ later. ends_transfer t later.event) es)) (departures e.event) k in
-        let y = among_departures t (effect_of e.event).target (effect_of e.event).departures x.0 in
+        let x = Contains-from_filter (λ t. not (list_any (λ later. ends_transfer t later.event) es)) (departures e.event) t k in
+        let y = departed e.event t x.0 in
         record {
           place = 0;
-          departure = record { entry = e; stands = refl; leaves = y.0; target = y.1 };
-          unended = none-found t es (not_true (list_any (λ later. ends_transfer t later.event) es) x.1);
+          departure = record { entry = e; stands = refl; leaves = y.0; target = sym y.1 };
+          unended = none-found t es (not-true (list_any (λ later. ends_transfer t later.event) es) x.1);
         }
     pending_in (inr k) f =
         let x = f k in
@@ -110,7 +86,7 @@ pending_at (e ∷ es) t h = pending_in (among_append t (filter (λ t. not (list_
         }
 
 -- what is pending waits
-pub pending-waits : (accepted : ℕ → ℕ → Bool) (lines : Lines) (t : Transfer) → AreFates accepted lines → Among t (pending_transfers lines) → status_numbered lines t.number ≡ Some (Waiting t.target)
+pub pending-waits : (accepted : ℕ → ℕ → Bool) (lines : Lines) (t : Transfer) → AreFates accepted lines → Contains (pending_transfers lines) t → status_numbered lines t.number ≡ Some (Waiting t.target)
 pending-waits accepted lines t fates h =
     let p = pending_at lines t h in
     by_fate p.unended (fates p.place t p.departure)
@@ -133,17 +109,8 @@ confirmed-settling v u n event step h = absurd (false≢true h)
 
 departing : (v : View) (u n : ℕ) (event : Event ContentText) → IsStep v u event → contains_number n (effect_of event).departures ≡ true
     → (status_numbered (v.lines u) n ≡ Some Present) × (status_after n Present event ≡ Waiting (effect_of event).target)
-departing v u n (Received timeout offered leaving target) step h = (step n h, ap (λ b. cond b (Waiting target) Present) h)
+departing v u n (Received timeout offered leaving target) step h = (step n h, status-leaving n (Received timeout offered leaving target) h)
 departing v u n event step h = absurd (false≢true h)
-
-waits_on : (t : Transfer) (event : Event ContentText) → ends_transfer t event ≡ false → status_after t.number (Waiting t.target) event ≡ Waiting t.target
-waits_on t event h = by_tests (loses t.target event) ((effect_of event).confirms t.number) ((effect_of event).closes) h
-  where
-    by_tests : (a b c : Bool) → (b || a || c) ≡ false → cond a Present (cond b Transferred (cond c Removed (Waiting t.target))) ≡ Waiting t.target
-    by_tests a true c k = absurd (false≢true (sym k))
-    by_tests true false c k = absurd (false≢true (sym k))
-    by_tests false false true k = absurd (false≢true (sym k))
-    by_tests false false false k = refl
 
 -- what ends a transfer in an open queue
 data Ends (t : Transfer) (event : Event ContentText) : Type 0 where
@@ -180,14 +147,14 @@ module _ (lines : Lines) (e : Line) (n : ℕ) where
   returned_kept : is_numbered (λ m. is_returned lines m) lines n ≡ true → is_numbered (λ m. is_returned (more lines e) m) (more lines e) n ≡ true
   returned_kept h =
       let x = returned_message lines (message_numbered lines n) h in
-      returned_numbered (more lines e) n x.0 (message_kept lines e n x.0 x.1)
-      (ap (λ (c : Course). c.returned) (course_kept lines e n x.0 x.1) ∙ or_second (returns (course_of lines x.0).status e.event) (course_of lines x.0).returned x.2)
+      returned_numbered (more lines e) n x.0 (numbered-kept lines e n x.0 x.1)
+      (ap (λ (c : Course). c.returned) (course-kept lines e n x.0 x.1) ∙ or_right (returns (course_of lines x.0).status e.event) (course_of lines x.0).returned x.2)
 
   returned_now : (target : ℕ) → status_numbered lines n ≡ Some (Waiting target) → loses target e.event ≡ true → is_numbered (λ m. is_returned (more lines e) m) (more lines e) n ≡ true
   returned_now target h lost =
       let x = stands_from lines n (Waiting target) h in
-      returned_numbered (more lines e) n x.0 (message_kept lines e n x.0 x.1.numbered)
-      (ap (λ (c : Course). c.returned) (course_kept lines e n x.0 x.1.numbered)
+      returned_numbered (more lines e) n x.0 (numbered-kept lines e n x.0 x.1.numbered)
+      (ap (λ (c : Course). c.returned) (course-kept lines e n x.0 x.1.numbered)
       ∙ (ap (λ (s : Status). returns s e.event || (course_of lines x.0).returned) x.1.status ∙ ap (λ b. b || (course_of lines x.0).returned) lost))
 
   status_kept : (s : Status) → status_numbered lines n ≡ Some s → status_numbered (more lines e) n ≡ Some (status_after n s e.event)
@@ -231,7 +198,7 @@ module _ (v : View) (u : ℕ) (e : Line) (step : IsStep v u e.event) (fates : Ar
   fate-waiting t later false k w =
       inl (record {
         unended = end_now t later e false w.unended k;
-        waits = status_kept (v.lines u) e t.number (Waiting t.target) w.waits ∙ ap Some (waits_on t e.event k);
+        waits = status_kept (v.lines u) e t.number (Waiting t.target) w.waits ∙ ap Some (status-kept t e.event k);
       })
 
   fate-more : (t : Transfer) (later : Lines) → Fate (accepted_from v u) (v.lines u) t later → Fate (accepted_from v u) (more (v.lines u) e) t (more later e)
@@ -255,18 +222,19 @@ module _ (v : View) (u : ℕ) (e : Line) (step : IsStep v u e.event) (fates : Ar
       inl (record { unended = refl; waits = status_kept (v.lines u) e t.number Present d.0 ∙ (ap Some d.1 ∙ ap (λ (i : ℕ). Some (Waiting i)) target) })
 
   fates-at : (place : ℕ) (t : Transfer) (entry : Line) → contains_number t.number (effect_of entry.event).departures ≡ true → (effect_of entry.event).target ≡ t.target
-      → (slice_get (v.lines u) place ≡ Some entry) ⊎ ((place ≡ length (v.lines u)) × (Some e ≡ Some entry)) → Fate (accepted_from v u) (more (v.lines u) e) t (drop (suc place) (more (v.lines u) e))
-  fates-at place t entry leaves target (inl stands) =
+      → (b : Bool) → nat_eq place (length (v.lines u)) ≡ b → cond b (Some e) (slice_get (v.lines u) place) ≡ Some entry → Fate (accepted_from v u) (more (v.lines u) e) t (drop (suc place) (more (v.lines u) e))
+  fates-at place t entry leaves target false differs stands =
       let within : place < length (v.lines u) = slice_get_within (v.lines u) place entry stands in
       subst (Fate (accepted_from v u) (more (v.lines u) e) t) (sym (drop-append-le (suc place) (v.lines u) (e ∷ []) within))
       (fate-more t (drop (suc place) (v.lines u)) (fates place t (record { entry = entry; stands = stands; leaves = leaves; target = target })))
-  fates-at place t entry leaves target (inr (last, same)) =
+  fates-at place t entry leaves target true last same =
       let is : entry ≡ e = sym (same_Some e entry same) in
+      let end : place ≡ length (v.lines u) = eqb-true place (length (v.lines u)) last in
       subst (Fate (accepted_from v u) (more (v.lines u) e) t) (sym (drop_all (suc place) (more (v.lines u) e) (rw length-append (omega arith))))
       (fate-new t (subst (λ (x : Line). contains_number t.number (effect_of x.event).departures ≡ true) is leaves) (subst (λ (x : Line). (effect_of x.event).target ≡ t.target) is target))
 
   fates-more : AreFates (accepted_from v u) (more (v.lines u) e)
-  fates-more place t d = fates-at place t d.entry d.leaves d.target (slice_get-cases (v.lines u) (Some e) place d.entry d.stands)
+  fates-more place t d = fates-at place t d.entry d.leaves d.target (nat_eq place (length (v.lines u))) refl (sym (slice_get-push (v.lines u) (Some e) place) ∙ d.stands)
 
 -- ---- fates after a step
 

@@ -1,8 +1,8 @@
 -- Who holds a message: no two numbers of open queues hold one of the same id.
-use Rattle.std.proofs.Common.{◌≡◌, ℕ, ◌≤◌, ◌<◌, Bool, true, false, ◌&&◌, cond, [], Option, Some, None, refl, sym, ap, subst, inl, inr, ◌∙◌, arith, eqb-true, eq-eqb}
+use Rattle.std.proofs.Common.{◌≡◌, ℕ, ◌≤◌, ◌<◌, Bool, true, false, ◌&&◌, cond, [], length, Option, Some, None, refl, sym, ap, subst, inl, inr, ◌∙◌, arith, eqb-true, eq-eqb}
 use Rattle.std.specs.Prelude.{⊤, ◌⊎◌, nat_eq}
 use Rattle.std.specs.Option.{option_map_or}
-use Rattle.std.proofs.lemmas.Bool.{and_parts, false≢true}
+use Rattle.std.proofs.lemmas.Bool.{and_parts, or_right, false≢true}
 use Rattle.std.proofs.lemmas.Option.{none-some, same_Some}
 use Rattle.message.specs.declared.id.MessageId.{MessageId}
 use Rattle.message.specs.Content.{ContentText}
@@ -15,7 +15,8 @@ use Rattle.queue_core.specs.declared.facts.Status.TheVariants.{Present, Removed,
 use Rattle.queue_core.specs.Messages.{Birth, effect_of, contains_number, messages, message_count, own_id, message_id, status_after, course_of, loses, accepts, has_accepted}
 use Rattle.queue_core.specs.States.{message_numbered}
 use Rattle.redrive.specs.Places.{status_numbered, came_from}
-use Rattle.redrive.proofs.transfers.Journals.{Line, Lines, more, IsNew, message_kept, message_cases, new-born, count-kept, count-new, Stands, stands_from, stands_gives, stands_once, stands_kept, Stood, Before, New, stood, accepted-push, or_second, Came, accepted_came}
+use Rattle.queue_core.proofs.PushLemmas.{born_by, IsNew, numbered-below, numbered-cases, numbered-kept, count-push, accepted-push}
+use Rattle.redrive.proofs.transfers.Journals.{Line, Lines, more, Stands, stands_from, stands_gives, stands_once, stands_kept, Stood, Before, New, stood, Came, accepted_came}
 use Rattle.redrive.proofs.transfers.Views.{View, IsArrival, IsSettling, IsStep, Grows, IsOpened, IsClosed, Change, Stays, Steps, Opens, Closes}
 use Rattle.redrive.proofs.transfers.Worlds.{same_or_not}
 use Rattle.redrive.proofs.transfers.Fates.{open_stays, confirmed-settling, HasFates, accepted_from, Keeps, keeps-same, keeps-grown, pending-waits, fates-opened, fates-after}
@@ -58,7 +59,7 @@ module _ (v v' : View) where
     kept-grown w n m h =
         elim (same_or_not w u) [
           | inl same ↦ subst (λ (i : ℕ). message_numbered (v'.lines i) n ≡ Some m) (sym same)
-              (subst (λ (ls : Lines). message_numbered ls n ≡ Some m) (sym g.here) (message_kept (v.lines u) e n m (subst (λ (i : ℕ). message_numbered (v.lines i) n ≡ Some m) same h)))
+              (subst (λ (ls : Lines). message_numbered ls n ≡ Some m) (sym g.here) (numbered-kept (v.lines u) e n m (subst (λ (i : ℕ). message_numbered (v.lines i) n ≡ Some m) same h)))
           | inr differs ↦ subst (λ (ls : Lines). message_numbered ls n ≡ Some m) (sym (g.others w differs)) h
         ]
 
@@ -66,31 +67,32 @@ module _ (v v' : View) where
     count-grown w =
         elim (same_or_not w u) [
           | inl same ↦ subst (λ (i : ℕ). message_count (v.lines i) ≤ message_count (v'.lines i)) (sym same)
-              (subst (λ (ls : Lines). message_count (v.lines u) ≤ message_count ls) (sym g.here) (count-kept (v.lines u) e))
+              (subst (λ (ls : Lines). message_count (v.lines u) ≤ message_count ls) (sym g.here) (omega (arith, count-push (v.lines u) e)))
           | inr differs ↦ subst (λ (ls : Lines). message_count (v.lines w) ≤ message_count ls) (sym (g.others w differs)) (omega arith)
         ]
 
     -- where it is known how what the entry begins comes to be
     module _ (says : (b : Birth ContentText) (m : Message) → (effect_of e.event).birth ≡ Some b → m.origin ≡ b.origin → Beginning v u m) where
-      born-new : (n : ℕ) (m : Message) → IsNew (v.lines u) e n m → IsBorn v v' u n m
-      born-new n m h =
-          let b = new-born (v.lines u) e n m h in
-          record {
-            its_number = b.number;
+      born-cases : (n : ℕ) (m : Message) → message_numbered (v'.lines u) n ≡ Some m → (message_numbered (v.lines u) n ≡ Some m) ⊎ IsNew (v.lines u) e n m
+          → (message_numbered (v.lines u) n ≡ Some m) ⊎ IsBorn v v' u n m
+      born-cases n m is (inl h) = inl h
+      born-cases n m is (inr h) =
+          let b = born_by (length (v.lines u)) n e m h.1 in
+          inr (record {
+            its_number = b.numbered;
             last = h.0;
-            counted = subst (λ (ls : Lines). n < message_count ls) (sym g.here) (count-new (v.lines u) e n m h);
-            beginning = says b.birth m b.is b.origin;
-          }
+            counted = numbered-below (v'.lines u) n m is;
+            beginning = says b.birth_is.0 m b.birth_is.1 b.birth_is.2;
+          })
 
-      born-cases : (n : ℕ) (m : Message) → (message_numbered (v.lines u) n ≡ Some m) ⊎ IsNew (v.lines u) e n m → (message_numbered (v.lines u) n ≡ Some m) ⊎ IsBorn v v' u n m
-      born-cases n m (inl h) = inl h
-      born-cases n m (inr h) = inr (born-new n m h)
+      born-here : (n : ℕ) (m : Message) → message_numbered (v'.lines u) n ≡ Some m → (message_numbered (v.lines u) n ≡ Some m) ⊎ IsBorn v v' u n m
+      born-here n m is = born-cases n m is (numbered-cases (v.lines u) e n m (subst (λ (ls : Lines). message_numbered ls n ≡ Some m) g.here is))
 
       born-grown : (w n : ℕ) (m : Message) → message_numbered (v'.lines w) n ≡ Some m → (message_numbered (v.lines w) n ≡ Some m) ⊎ IsBorn v v' w n m
       born-grown w n m h =
           elim (same_or_not w u) [
             | inl same ↦ subst (λ (i : ℕ). (message_numbered (v.lines i) n ≡ Some m) ⊎ IsBorn v v' i n m) (sym same)
-                (born-cases n m (message_cases (v.lines u) e n m (subst (λ (ls : Lines). message_numbered ls n ≡ Some m) g.here (subst (λ (i : ℕ). message_numbered (v'.lines i) n ≡ Some m) same h))))
+                (born-here n m (subst (λ (i : ℕ). message_numbered (v'.lines i) n ≡ Some m) same h))
             | inr differs ↦ inl (subst (λ (ls : Lines). message_numbered ls n ≡ Some m) (g.others w differs) h)
           ]
 
@@ -211,11 +213,11 @@ module _ (v v' : View) where
 
   nothing-stands : (e : Line) (lines : Lines) (n : ℕ) (m : Message) (s : Status) → lines ≡ [] → (effect_of e.event).birth ≡ None → Stands (more lines e) n m s → ⊥
   nothing-stands e lines n m s empty none h =
-      no_message (message_cases [] e n m (subst (λ (ls : Lines). message_numbered (more ls e) n ≡ Some m) empty h.numbered))
+      no_message (numbered-cases [] e n m (subst (λ (ls : Lines). message_numbered (more ls e) n ≡ Some m) empty h.numbered))
     where
       no_message : (message_numbered {C = ContentText} [] n ≡ Some m) ⊎ IsNew [] e n m → ⊥
       no_message (inl k) = none-some m k
-      no_message (inr k) = let b = new-born [] e n m k in none-some b.birth (sym none ∙ b.is)
+      no_message (inr k) = let b = (born_by 0 n e m k.1).birth_is in none-some b.0 (sym none ∙ b.1)
 
   opened-empty : (u : ℕ) (e : Line) → Grows v v' u e → IsOpened v v' u e → (n : ℕ) (m : Message) (s : Status) → Stands (v'.lines u) n m s → ⊥
   opened-empty u e g o n m s h =
@@ -396,14 +398,14 @@ module _ (v v' : View) (u : ℕ) (e : Line) (g : Grows v v' u e) (gates : (w : �
       })
       w.0 (stays-waiting o b birth w.0 w.1)
       (ap (λ (ls : Lines). has_accepted ls o.uid o.number) g.here
-      ∙ (accepted-push (v.lines u) e o.uid o.number ∙ or_second (has_accepted (v.lines u) o.uid o.number) (accepts o.uid o.number e.event) (accepts_its_origin e.event b o birth (sym origin ∙ h))))
+      ∙ (accepted-push (v.lines u) e o.uid o.number ∙ or_right (has_accepted (v.lines u) o.uid o.number) (accepts o.uid o.number e.event) (accepts_its_origin e.event b o birth (sym origin ∙ h))))
 
   ancestor-here : (id : MessageId) (n : ℕ) (m : Message) (s : Status) → message_id u m ≡ id → Holds v' u n s → Stood (v.lines u) e n m s → Ancestor v v' u id u n
   ancestor-here id n m s named holds (Before was stands is) =
       Same (record { there = here; message = m; status = was; stands = stands; named = named; holds = holds-was n was (subst (Holds v' u n) (sym is) holds) })
   ancestor-here id n m s named holds (New new is) =
-      let b = new-born (v.lines u) e n m new in
-      Newly refl new.0 (newcomer id n m b.birth b.is b.origin (b.number ∙ new.0) named (beginning-step v u e.event b.birth m step b.is b.origin))
+      let b = born_by (length (v.lines u)) n e m new.1 in
+      Newly refl new.0 (newcomer id n m b.birth_is.0 b.birth_is.1 b.birth_is.2 (b.numbered ∙ new.0) named (beginning-step v u e.event b.birth_is.0 m step b.birth_is.1 b.birth_is.2))
 
   ancestor : (id : MessageId) (w n : ℕ) → Holder v' id w n → Ancestor v v' u id w n
   ancestor id w n h =

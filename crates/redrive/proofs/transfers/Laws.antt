@@ -19,12 +19,12 @@ use Rattle.redrive.specs.World.{new_world, queue_of_uid}
 use Rattle.redrive.specs.History.{AllQueues, journal_of}
 use Rattle.redrive.specs.WorldRun.{Answer, all_after, AreHouseAnswers, history_after}
 use Rattle.redrive.specs.Places.{first_history, acceptance_count, EachAcceptedOnce, HasFate, EachHasItsFate, status_numbered, IsNumbered, IsStanding, IsInTransit, Standing, InTransit, EachHasOnePlace, came_from, IsRelay, IsSpared, NoRelayDeleted}
+use Rattle.queue_core.proofs.PendingLemmas.{live-present}
 use Rattle.redrive.proofs.transfers.Journals.{Lines, Stands, stands_gives}
 use Rattle.redrive.proofs.transfers.Views.{View, view_of, Change}
 use Rattle.redrive.proofs.transfers.Worlds.{IsDeletion, uid_of_open, lines_there, open_there}
 use Rattle.redrive.proofs.transfers.Fates.{Fate, AreFates, accepted_from, HasFates, fates-opened, fates-after}
 use Rattle.redrive.proofs.transfers.Holders.{IsSound, sound-opened, sound-after, Holds, Holder, HasOneHolder, Relays, one-opened, one-after}
-use Rattle.redrive.proofs.transfers.Commands.{live_present}
 use Rattle.redrive.proofs.transfers.Once.{IsOnce, once-opened, once-after}
 use Rattle.redrive.proofs.transfers.Runs.{Begins, begins, through, through_spared}
 
@@ -129,7 +129,7 @@ holder_of all id uid n q m s h status holds = record {
 }
 
 standing-holder : (all : AllQueues) (id : MessageId) (uid n : ℕ) → IsStanding all id uid n → Holder (view_of all) id uid n
-standing-holder all id uid n h = holder_of all id uid n h.queue h.message Present h.here (live_present h.queue.lines h.queue.clock h.message h.live) tt
+standing-holder all id uid n h = holder_of all id uid n h.queue h.message Present h.here (live-present h.queue.lines h.queue.clock h.message h.live) tt
 
 transit-holder : (all : AllQueues) (id : MessageId) (uid n : ℕ) → IsInTransit all id uid n → Holder (view_of all) id uid n
 transit-holder all id uid n h = holder_of all id uid n h.queue h.message (Waiting h.target) h.here h.waits (inr (not_accepted-lines (journal_of all h.target) uid n h.unaccepted))
@@ -139,7 +139,7 @@ not-both : (all : AllQueues) (id : MessageId) (uid n : ℕ) → IsStanding all i
 not-both all id uid n h k =
     let q : h.queue ≡ k.queue = same_Some h.queue k.queue (sym h.here.there ∙ k.here.there) in
     let present : status_numbered h.queue.lines n ≡ Some Present =
-    stands_gives h.queue.lines n h.message Present (record { numbered = h.here.numbered; status = live_present h.queue.lines h.queue.clock h.message h.live }) in
+    stands_gives h.queue.lines n h.message Present (record { numbered = h.here.numbered; status = live-present h.queue.lines h.queue.clock h.message h.live }) in
     let waits : status_numbered k.queue.lines n ≡ Some (Waiting k.target) = stands_gives k.queue.lines n k.message (Waiting k.target) (record { numbered = k.here.numbered; status = k.waits }) in
     let same : Present ≡ Waiting k.target = same_Some Present (Waiting k.target) (sym present ∙ (ap (λ (x : QueueHistory). status_numbered x.lines n) q ∙ waits)) in
     cc

@@ -3,7 +3,7 @@ use Rattle.std.proofs.Common.{◌≡◌, ℕ, ◌+◌, ◌≤◌, Bool, true, fa
 use Rattle.std.specs.Prelude.{count_by, nat_eq}
 use Rattle.std.specs.List.{list_any}
 use Rattle.std.proofs.lemmas.Bool.{and_parts, or_parts, false≢true}
-use Rattle.std.proofs.lemmas.List.Sums.{sum_by-append, sum_by-cons}
+use Rattle.std.proofs.lemmas.List.Sums.{sum_by_push, sum_by-cons}
 use Rattle.message.specs.Content.{ContentText}
 use Rattle.journal.specs.declared.entry.Event.{Event}
 use Rattle.journal.specs.declared.entry.Event.TheVariants.{Opened, Arrived, Closed}
@@ -24,9 +24,7 @@ IsOnce v = (u s n : ℕ) → acceptance_count (v.lines u) s n ≤ 1
 
 module _ (lines : Lines) (e : Line) (s n : ℕ) where
   count-more : acceptance_count (more lines e) s n ≡ acceptance_count lines s n + cond (accepts s n e.event) 1 0
-  count-more =
-      sum_by-append (λ x. cond (accepts s n x.event) 1 0) lines (e ∷ [])
-      ∙ (let one : count_by (λ x. accepts s n x.event) (e ∷ []) ≡ cond (accepts s n e.event) 1 0 + 0 = sum_by-cons (λ x. cond (accepts s n x.event) 1 0) e [] in omega arith)
+  count-more = sum_by_push (λ (x : Line). cond (accepts s n x.event) 1 0) lines e
 
   once-by : (b : Bool) → accepts s n e.event ≡ b → acceptance_count lines s n ≤ 1 → (accepts s n e.event ≡ true → has_accepted lines s n ≡ false) → acceptance_count (more lines e) s n ≤ 1
   once-by true h once first =

@@ -4,7 +4,7 @@ use Rattle.std.specs.Prelude.{nat_eq, nat_lt, nat_le, is_some, option_map, IfSom
 use Rattle.std.specs.List.{find, position, All}
 use Rattle.std.specs.Option.{option_map_or, ForSome}
 use Rattle.std.specs.Str.{bytes_eq}
-use Rattle.std.proofs.lemmas.Bool.{and_parts, false≢true, ne_eqb}
+use Rattle.std.proofs.lemmas.Bool.{and_parts, false≢true, ne_eqb, not-true}
 use Rattle.std.proofs.lemmas.List.{length-append}
 use Rattle.std.proofs.lemmas.List.Elements.{All-nil, All-head, All-tail, All-cons, All-append, All-weaker, All-map}
 use Rattle.std.proofs.lemmas.List.Quantifiers.{position-Some}
@@ -24,14 +24,15 @@ use Rattle.journal.specs.declared.entry.Event.TheVariants.{Changed, Deleted, Del
 use Rattle.queue_core.specs.declared.command.Command.{Command}
 use Rattle.queue_core.specs.declared.command.Command.TheVariants as commands
 use Rattle.queue_core.specs.declared.parcel.Parcel.{Parcel}
-use Rattle.queue_core.specs.Messages.{settings_after, settings_from, settings_of, has_accepted, is_closed}
+use Rattle.queue_core.specs.Messages.{settings_after, settings_of, has_accepted, is_closed}
 use Rattle.queue_core.specs.Queue.{QueueHistory, at_moment, refusal, uncounted_refusal, done, first_refusal, send_outcome, receive_outcome, change_outcome, delete_outcome, in_flight_count, change_refusal, is_valid_handle, holds_live, arrive_outcome, is_pending, settle_outcome, orphan_outcome, outcome_of, reached, outcome_at, after_answer}
 use Rattle.redrive.specs.declared.steps.HouseReply.TheVariants as replies
 use Rattle.redrive.specs.declared.steps.HouseStep.{HouseStep}
 use Rattle.redrive.specs.declared.steps.HouseStep.TheVariants as steps
 use Rattle.redrive.specs.World.{World, empty_world, with_queue, next_queue, new_world, queue_named, found_uid, has_queue, new_queue, may_name_target, may_set, opens_queue, is_internal, step_refusal, has_target, with_queue_changed, world_after_command, without_queue, first_parcel_in, Delivery, delivery_of, accepted_number}
 use Rattle.redrive.specs.WorldRun.{Answer, world_after, world_after_all}
-use Rattle.redrive.proofs.transfers.Journals.{Line, Lines, more}
+use Rattle.queue_core.proofs.PushLemmas.{settings_from-push}
+use Rattle.redrive.proofs.transfers.Journals.{Lines}
 use Rattle.redrive.proofs.transfers.Commands.{unless_refused-event, refused_or-event, cond-event, if_some-at, reached-lines, after_answer-uid, after_answer-lines}
 
 -- whether the policy names the queue of a uid
@@ -44,15 +45,7 @@ Asked = Option (Option RequestedPolicy)
 abbrev asked_name : Asked → Option (List ℕ)
 asked_name asked = unwrap_or (option_map (λ policy. option_map (λ p. p.name) policy) asked) None
 
-not_true : (b : Bool) → not b ≡ true → b ≡ false
-not_true true h = absurd (false≢true h)
-not_true false h = refl
-
 -- ---- one entry more
-
-settings-more : (s : QueueSettings) (lines : Lines) (e : Line) → settings_from s (more lines e) ≡ settings_after (settings_from s lines) e.event
-settings-more s [] e = refl
-settings-more s (x ∷ xs) e = settings-more (settings_after s x.event) xs e
 
 -- no policy is asked for that names the queue of the uid
 abbrev Sets : ℕ → Command → Type 0
@@ -112,7 +105,7 @@ left-aims q u at command answer sets h =
     elim (after_answer-lines q at command answer) [
       | inl same ↦ subst (λ (ls : Lines). names_uid u (settings_of ls).redrive_policy ≡ false) (sym same) h
       | inr a ↦ subst (λ (ls : Lines). names_uid u (settings_of ls).redrive_policy ≡ false) (sym a.is)
-          (subst (λ (s : QueueSettings). names_uid u s.redrive_policy ≡ false) (sym (settings-more default_settings q.lines a.line))
+          (subst (λ (s : QueueSettings). names_uid u s.redrive_policy ≡ false) (sym (settings_from-push default_settings q.lines a.line))
           (if_some-at (λ event. names_uid u (settings_after (settings_of q.lines) event).redrive_policy ≡ false) (outcome_at q at command).event a.line.event (aims-at q u h at command sets) a.added))
     ]
 
@@ -168,7 +161,7 @@ asked-other : (u target : ℕ) (policy : Option RedrivePolicy) (asked : Asked) (
     → option_map_or (λ name. not (nat_eq target u) && found name) (asked_name asked) true ≡ true → names_uid u (policy_with policy asked target) ≡ false
 asked-other u target policy None found h may = h
 asked-other u target policy (Some None) found h may = refl
-asked-other u target policy (Some (Some asked)) found h may = not_true (nat_eq target u) (and_parts (not (nat_eq target u)) (found asked.name) may).0
+asked-other u target policy (Some (Some asked)) found h may = not-true (nat_eq target u) (and_parts (not (nat_eq target u)) (found asked.name) may).0
 
 may_be_set : (there internal may : Bool) (f g k : Fault) → cond there (cond internal (Some f) (cond may None (Some g))) (Some k) ≡ None → may ≡ true
 may_be_set false internal may f g k e = absurd cc

@@ -1,6 +1,7 @@
 -- A registry as the laws of dead letters see it, and what a step does to it: at most one journal gets one entry more.
-use Rattle.std.proofs.Common.{◌≡◌, ℕ, Bool, true, false, List, [], ◌∷◌, Some, unwrap_or}
-use Rattle.std.specs.Prelude.{⊤, ◌⊎◌}
+use Rattle.std.proofs.Common.{◌≡◌, ℕ, Bool, true, false, List, [], Some, unwrap_or}
+use Rattle.std.specs.Prelude.{⊤}
+use Rattle.std.specs.List.{Contains}
 use Rattle.message.specs.Content.{ContentText}
 use Rattle.queue_config.specs.Settings.{QueueSettings}
 use Rattle.journal.specs.declared.entry.Event.{Event}
@@ -23,23 +24,19 @@ pub record View : Type 0 where
 abbrev pub view_of : AllQueues → View
 view_of all = record { is_open = λ u. has_queue all.world u; lines = λ u. unwrap_or (journal_of all u) [] }
 
-abbrev pub Among : {X : Type 0} → X → List X → Type 0
-Among x [] = ⊥
-Among x (y ∷ ys) = (y ≡ x) ⊎ Among x ys
-
 -- the origin is that of a message of an open queue, which has left for the queue of a uid that has not accepted it
 pub record IsArrival (v : View) (u : ℕ) (o : Origin) : Type 0 where
   pub there : v.is_open o.uid ≡ true
   pub message : Message
   pub numbered : message_numbered (v.lines o.uid) o.number ≡ Some message
   pub named : message_id o.uid message ≡ o.id
-  pub pending : Among (record { number = o.number; target = u }) (pending_transfers (v.lines o.uid))
+  pub pending : Contains (pending_transfers (v.lines o.uid)) (record { number = o.number; target = u })
   pub unaccepted : has_accepted (v.lines u) o.uid o.number ≡ false
 
 -- the message of a number has left the queue of a uid for one that has accepted it
 pub record IsSettling (v : View) (u n : ℕ) : Type 0 where
   pub target : ℕ
-  pub pending : Among (record { number = n; target = target }) (pending_transfers (v.lines u))
+  pub pending : Contains (pending_transfers (v.lines u)) (record { number = n; target = target })
   pub accepted : has_accepted (v.lines target) u n ≡ true
 
 -- the numbers are of messages that are present

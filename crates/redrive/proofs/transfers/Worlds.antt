@@ -1,7 +1,7 @@
 -- What each step of the registry does to the view.
 use Rattle.std.proofs.Common.{◌≡◌, ℕ, ◌≤◌, Bool, true, false, not, cond, List, [], ◌∷◌, map, Option, Some, None, Result, Ok, Err, refl, sym, ap, subst, inl, inr, ◌∙◌, arith, eqb-true, unwrap_or}
 use Rattle.std.specs.Prelude.{⊤, ◌⊎◌, MatchBool, nat_eq, filter, is_some, option_and_then}
-use Rattle.std.specs.List.{find}
+use Rattle.std.specs.List.{find, Contains}
 use Rattle.std.specs.Option.{option_map, option_map_or, option_or}
 use Rattle.std.proofs.lemmas.Bool.{ne_eqb, eqb-false, false≢true, eq-eqb}
 use Rattle.std.proofs.lemmas.List.Folds.{find-append}
@@ -31,7 +31,7 @@ use Rattle.redrive.specs.World.{World, queue_of_uid, has_queue, with_queue, with
 use Rattle.redrive.specs.History.{AllQueues}
 use Rattle.redrive.specs.WorldRun.{Answer, as_house_reply, answer_of_step, if_there, with_deleted, all_after, MeetsAnswer}
 use Rattle.redrive.proofs.transfers.Journals.{Line, Lines, more}
-use Rattle.redrive.proofs.transfers.Views.{View, view_of, Among, IsStep, Grows, IsOpened, Change, Stays, Steps, Opens, Closes}
+use Rattle.redrive.proofs.transfers.Views.{View, view_of, IsStep, Grows, IsOpened, Change, Stays, Steps, Opens, Closes}
 use Rattle.redrive.proofs.transfers.Commands.{after_answer-uid, IsAdded, after_answer-lines, IsOwn, own-at, arrived-at, settled-at, orphaned-at, handed}
 
 -- ---- finding queues
@@ -248,7 +248,7 @@ record IsParcelOf (all : AllQueues) (source : ℕ) (p : Parcel) : Type 0 where
   message : Message
   numbered : message_numbered ((view_of all).lines source) p.origin.number ≡ Some message
   named : message_id source message ≡ p.origin.id
-  pending : Among (record { number = p.origin.number; target = p.target }) (pending_transfers ((view_of all).lines source))
+  pending : Contains (pending_transfers ((view_of all).lines source)) (record { number = p.origin.number; target = p.target })
 
 parcel_of_found : (all : AllQueues) (source : ℕ) (o : Option QueueHistory) (p : Parcel) → queue_of_uid all.world source ≡ o → option_and_then (λ q. first_parcel_of q) o ≡ Some p → IsParcelOf all source p
 parcel_of_found all source None p e h = absurd (none-some p h)
@@ -262,7 +262,7 @@ parcel_of_found all source (Some q) p e h =
       message = x.message;
       numbered = subst (λ (l : Lines). message_numbered l p.origin.number ≡ Some x.message) ls x.numbered;
       named = subst (λ (k : ℕ). message_id k x.message ≡ p.origin.id) u x.named;
-      pending = subst (λ (l : Lines). Among (record { number = p.origin.number; target = p.target }) (pending_transfers l)) ls x.pending;
+      pending = subst (λ (l : Lines). Contains (pending_transfers l) (record { number = p.origin.number; target = p.target })) ls x.pending;
     }
 
 module _ {T : Type 0} (all : AllQueues) (source at : ℕ) (answer : Result T Fault) (fresh : IsFresh all) (p : Parcel) (its : IsParcelOf all source p) where
@@ -276,7 +276,7 @@ module _ {T : Type 0} (all : AllQueues) (source at : ℕ) (answer : Result T Fau
         message = its.message;
         numbered = subst (λ (u : ℕ). message_numbered ((view_of all).lines u) p.origin.number ≡ Some its.message) back its.numbered;
         named = subst (λ (u : ℕ). message_id u its.message ≡ p.origin.id) back its.named;
-        pending = subst (λ (u : ℕ). Among (record { number = p.origin.number; target = p.target }) (pending_transfers ((view_of all).lines u))) back its.pending;
+        pending = subst (λ (u : ℕ). Contains (pending_transfers ((view_of all).lines u)) (record { number = p.origin.number; target = p.target })) back its.pending;
         unaccepted = ap (λ (ls : Lines). has_accepted ls p.origin.uid p.origin.number) (lines_there all p.target q h) ∙ a.first;
       })
 

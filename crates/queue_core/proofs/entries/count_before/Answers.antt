@@ -1,6 +1,4 @@
-use Rattle.std.proofs.Common.{refl, sym, ap, ◌∙◌, length, take, nat_lt, arith}
-use Rattle.std.specs.Prelude.{filter}
-use Rattle.std.proofs.Math.Seq.{take-length}
+use Rattle.std.proofs.Common.{refl, sym, ◌∙◌, arith}
 use Rattle.queue_core.proofs.BeforeLemmas.{filter-ordered, filter-first, filter-all}
 use Rattle.queue_core.proofs.entries.count_before.Goals as goal
 

@@ -1,4 +1,4 @@
-use Rattle.std.proofs.Common.{◌≡◌, cond, eqb, sym, ap, ◌∙◌, arith}
+use Rattle.std.proofs.Common.{cond, eqb, sym, ap, ◌∙◌, arith}
 use Rattle.message.specs.Content.{content_size}
 use Rattle.metric_window.specs.declared.flows.Flows.{Flows}
 use Rattle.metric_window.specs.Flows.{flows_of, added, capped, minute_of}

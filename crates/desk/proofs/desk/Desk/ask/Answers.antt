@@ -5,6 +5,9 @@ use Rattle.desk.specs.Steps.{with_call}
 use Rattle.desk.proofs.PassLemmas.{known_behind, left_behind}
 use Rattle.desk.proofs.desk.Desk.ask.Goals as goal
 
+pub end-requires-clause-turn : goal.end-requires-clause-turn
+end-requires-clause-turn g c = (c.in-Some.ticket, ap (λ m. m.0.stage) c.take-held.ensures.out ∙ c.wait.ensures.turn.0)
+
 pub invariant_of-pass-2 : goal.invariant_of-pass-2
 invariant_of-pass-2 g c =
     let held = c.perform-reply.new.self in let v = c.wait.new.seat.me.0 in

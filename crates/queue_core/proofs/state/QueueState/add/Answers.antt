@@ -1,33 +1,98 @@
-use Rattle.std.proofs.Common.{◌≡◌, ◌+◌, length, refl, subst, sym, ap, ◌∙◌, IfErr}
-use Rattle.message.specs.declared.fault.Fault.TheVariants.{OutOfMemory}
+use Rattle.std.proofs.Common.{◌≡◌, ℕ, ◌+◌, ◌++◌, [], ◌∷◌, List, length, Ok, subst, sym, ap, ◌∙◌, arith}
+use Rattle.message.specs.Content.{ContentText}
+use Rattle.journal.specs.declared.entry.Entry.{Entry}
+use Rattle.journal.specs.Journal.{Lines}
 use Rattle.queue_core.specs.Queue.{QueueHistory}
 use Rattle.queue_core.specs.Messages.{message_count}
 use Rattle.queue_core.specs.Legal.{IsCausedIn}
+use Rattle.queue_core.specs.Kept.{IsKept}
 use Rattle.queue_core.specs.Tally.{births, Tallies}
-use Rattle.queue_core.proofs.LegalLemmas.{IsKept-pushed, below_limit, only_memory}
+use Rattle.queue_core.specs.Indexed.{IsIndexOf}
+use Rattle.queue_core.specs.Accepted.{AreAccepted}
+use Rattle.queue_core.proofs.LegalLemmas.{IsKept-pushed}
 use Rattle.queue_core.proofs.TallyLemmas.{tallies-push, GoesOn}
+use Rattle.queue_core.proofs.IndexLemmas.{same-index, few_born, few-more, can_apply, event-index}
+use Rattle.queue_core.proofs.AcceptedLemmas.{accepted-same, accepted-noted}
 use Rattle.queue_core.proofs.state.QueueState.add.Goals as goal
 
+-- where no entry is added, nothing but room differs
 pub invariant_of-self : goal.invariant_of-self
-invariant_of-self c =
+invariant_of-self c = (
+  c.self.invariant.0,
+  c.self.invariant.1,
+  same-index c.self.inside.journal.lines c.self.inside.clock c.self.inside.index c.self.invariant.2 c.make_room.new.self c.make_room.ensures.same c.make_room.ensures.indexed,
+  c.self.invariant.3,
+)
+
+pub invariant_of-self-in_err-make_place : goal.invariant_of-self-in_err-make_place
+invariant_of-self-in_err-make_place c = (
+  c.self.invariant.0,
+  c.self.invariant.1,
+  same-index c.self.inside.journal.lines c.self.inside.clock c.self.inside.index c.self.invariant.2 c.make_room.new.self c.make_room.ensures.same c.make_room.ensures.indexed,
+  accepted-same c.self.inside.journal.lines c.self.inside.accepted c.make_place.new.self c.self.invariant.3 c.make_place.ensures.same,
+)
+
+pub invariant_of-self-in_err-reserve : goal.invariant_of-self-in_err-reserve
+invariant_of-self-in_err-reserve c =
+    let lines = ap (λ (j : Lines). j.lines) c.reserve.ensures.lines in
+    let limit = ap (λ (j : Lines). j.limit) c.reserve.ensures.lines in
+    let index = same-index c.self.inside.journal.lines c.self.inside.clock c.self.inside.index c.self.invariant.2 c.make_room.new.self c.make_room.ensures.same c.make_room.ensures.indexed in
+    let accepted = accepted-same c.self.inside.journal.lines c.self.inside.accepted c.make_place.new.self c.self.invariant.3 c.make_place.ensures.same in
+    rw (lines, limit) (c.self.invariant.0, c.self.invariant.1, index, accepted)
+
+-- ---- the event
+
+pub apply-requires-clause-few : goal.apply-requires-clause-few
+apply-requires-clause-few c =
+    let index = same-index c.self.inside.journal.lines c.self.inside.clock c.self.inside.index c.self.invariant.2 c.make_room.new.self c.make_room.ensures.same c.make_room.ensures.indexed in
+    let few = few_born c.self.inside.journal.lines c.self.inside.clock c.make_room.new.self index in
+    let lines = ap (λ (q : QueueHistory). length q.lines) c.self.view_is in
+    omega (arith, few, lines, c.messages_so_far.ensures.lines)
+
+pub apply-requires-clause-about : goal.apply-requires-clause-about
+apply-requires-clause-about c =
     let q : QueueHistory = record { uid = c.self.inside.uid; name = c.self.inside.name; limits = c.self.inside.limits; rules = c.self.inside.rules.items; clock = c.self.inside.clock; lines = c.self.inside.journal.lines } in
-    let kept = IsKept-pushed q c.self.inside.journal c.push.new.self c.args.event c.push.result refl c.push.ensures.ok c.push.ensures.err c.self.invariant.0
-    (subst (λ (q : QueueHistory). IsCausedIn q c.args.event) (sym c.self.view_is) c.requires) in
-    let goes : GoesOn c.self.inside.tally c.after-tally.result (message_count c.self.inside.journal.lines) (record { at = c.self.inside.clock; event = c.args.event }) = record {
+    let caused = subst (λ (q : QueueHistory). IsCausedIn q c.args.event) (sym c.self.view_is) c.requires in
+    let index = same-index q.lines q.clock c.self.inside.index c.self.invariant.2 c.make_room.new.self c.make_room.ensures.same c.make_room.ensures.indexed in
+    let lines = ap (λ (q : QueueHistory). length q.lines) c.self.view_is in
+    can_apply q c.args.event caused c.make_room.new.self index (omega (arith, lines, c.messages_so_far.ensures.lines)) c.in_ok-make_room.ensures.room
+
+pub settle-requires-clause-few : goal.settle-requires-clause-few
+settle-requires-clause-few c =
+    let index = same-index c.self.inside.journal.lines c.self.inside.clock c.self.inside.index c.self.invariant.2 c.make_room.new.self c.make_room.ensures.same c.make_room.ensures.indexed in
+    let few = few_born c.self.inside.journal.lines c.self.inside.clock c.make_room.new.self index in
+    let more = few-more c.args.event c.make_room.new.self c.apply.new.self c.apply.ensures.receives in
+    let lines = ap (λ (q : QueueHistory). length q.lines) c.self.view_is in
+    omega (arith, few, more, lines, c.messages_so_far.ensures.lines)
+
+pub invariant_of-self-2 : goal.invariant_of-self-2
+invariant_of-self-2 c =
+    let q : QueueHistory = record { uid = c.self.inside.uid; name = c.self.inside.name; limits = c.self.inside.limits; rules = c.self.inside.rules.items; clock = c.self.inside.clock; lines = c.self.inside.journal.lines } in
+    let entry : Entry ContentText = record { at = q.clock; event = c.args.event } in
+    let caused = subst (λ (q : QueueHistory). IsCausedIn q c.args.event) (sym c.self.view_is) c.requires in
+    let index = same-index q.lines q.clock c.self.inside.index c.self.invariant.2 c.make_room.new.self c.make_room.ensures.same c.make_room.ensures.indexed in
+    let old : c.reserve.new.self.lines ≡ q.lines = ap (λ (j : Lines). j.lines) c.reserve.ensures.lines in
+    let limit : c.reserve.new.self.limit ≡ c.self.inside.journal.limit = ap (λ (j : Lines). j.limit) c.reserve.ensures.lines in
+    let pushed : c.push_reserved.new.self.lines ≡ c.reserve.new.self.lines ++ entry ∷ [] = ap (λ (j : Lines). j.lines) c.push_reserved.ensures in
+    let lines : c.push_reserved.new.self.lines ≡ q.lines ++ entry ∷ [] = pushed ∙ ap (λ (es : List (Entry ContentText)). es ++ entry ∷ []) old in
+    let kept =
+    IsKept-pushed {X = ℕ} q c.reserve.new.self c.push_reserved.new.self c.args.event (Ok 0) (sym old) c.push_reserved.ensures tt (subst (λ limit. IsKept q limit) (sym limit) c.self.invariant.0) caused in
+    let goes : GoesOn c.self.inside.tally c.after-tally.result (message_count q.lines) entry = record {
       settings = c.after-tally.ensures.settings;
       created = c.after-tally.ensures.created;
       modified = c.after-tally.ensures.modified;
       closed = c.after-tally.ensures.closed;
       messages = c.after-tally.ensures.messages ∙ ap (λ n. n + births c.args.event) (c.messages_so_far.ensures.count ∙ sym (ap (λ (q : QueueHistory). message_count q.lines) c.self.view_is));
-    } in (
+    } in
+    let tallies = tallies-push q q.lines entry c.self.inside.tally c.after-tally.result c.self.invariant.0.legal.caused c.self.invariant.1 goes in
+    let behind =
+    event-index q c.args.event c.self.inside.tally.settings _ c.make_room.new.self c.apply.new.self c.settle.new.self c.self.invariant.0.legal caused index c.self.invariant.1.settings
+    (record { indexed = c.apply.ensures.indexed; records = c.apply.ensures.records; receives = c.apply.ensures.receives; leaving = c.apply.ensures.leaving })
+    (ap (λ t. t.settings.retention_seconds) c.tally.view_is ∙ ap (λ s. s.retention_seconds) tallies.settings)
+    (record { indices = c.settle.ensures.indices; records = c.settle.ensures.records; receives = c.settle.ensures.receives; leaving = c.settle.ensures.leaving }) in (
       kept,
-      subst (λ lines. Tallies c.after-tally.result lines) (sym (ap (λ j. j.lines) c.in-Ok.ensures.ok))
-          (tallies-push q c.self.inside.journal.lines (record { at = c.self.inside.clock; event = c.args.event }) c.self.inside.tally c.after-tally.result c.self.invariant.0.legal.caused c.self.invariant.1 goes),
+      subst (λ lines. Tallies c.after-tally.result lines) (sym lines) tallies,
+      subst (λ lines. IsIndexOf lines q.clock c.settle.new.self) (sym lines) behind,
+      subst (λ lines. AreAccepted c.note.new.self lines) (sym lines)
+          (accepted-noted q.lines entry c.self.inside.accepted c.make_place.new.self c.note.new.self c.self.invariant.3 c.make_place.ensures.same c.note.ensures),
     )
-
-pub returns-in-Err-clause-errors : goal.returns-in-Err-clause-errors
-returns-in-Err-clause-errors c =
-    let q : QueueHistory = record { uid = c.self.inside.uid; name = c.self.inside.name; limits = c.self.inside.limits; rules = c.self.inside.rules.items; clock = c.self.inside.clock; lines = c.self.inside.journal.lines } in
-    let only = only_memory c.push.result c.self.inside.journal.limit (length c.self.inside.journal.lines) (λ h. c.push.ensures.full.0 h) c.push.ensures.errors
-    (below_limit q c.self.inside.journal.limit c.args.event c.self.invariant.0 (subst (λ (q : QueueHistory). IsCausedIn q c.args.event) (sym c.self.view_is) c.requires)) in
-    subst (λ r. IfErr r (λ fault. fault ≡ OutOfMemory)) c.in-Err.is only

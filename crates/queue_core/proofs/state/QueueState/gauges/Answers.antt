@@ -1,7 +1,9 @@
-use Rattle.std.proofs.Common.{ap, ◌∙◌}
-use Rattle.queue_core.specs.Queue.{QueueHistory}
-use Rattle.queue_core.specs.States.{gauges_of}
+use Rattle.queue_core.proofs.QuestionLemmas.{index_of, legal_of, gauged}
 use Rattle.queue_core.proofs.state.QueueState.gauges.Goals as goal
 
 pub returns-clause-counts : goal.returns-clause-counts
-returns-clause-counts c = c.gauges_of.ensures ∙ ap (λ (lines : _). gauges_of lines c.self.inside.clock) c.entries.ensures ∙ ap (λ (q : QueueHistory). gauges_of c.args.self.now.lines q.clock) c.self.view_is
+returns-clause-counts c =
+    gauged c.args.self.now c.self.inside.index (index_of _ _ c.self.inside.index c.self.view_is c.self.invariant.2) c.len.result c.oldest_age.result c.len.ensures.count c.oldest_age.ensures
+
+pub returns-clause-legal : goal.returns-clause-legal
+returns-clause-legal c = legal_of _ _ c.self.view_is c.self.invariant.0.legal

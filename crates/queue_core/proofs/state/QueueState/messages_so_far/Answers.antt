@@ -9,3 +9,9 @@ returns-clause-small c =
     let lines : length c.self.inside.journal.lines ≡ length c.args.self.now.lines = ap (λ (q : QueueHistory). length q.lines) c.self.view_is in
     let limit = ap (λ s. s.limits.max_lines) c.self-inside.view_is in
     omega (arith, c.message_count-count.ensures, most, lines, limit, c.self.invariant.0.within, c.self-inside.invariant.most_lines)
+
+pub returns-clause-lines : goal.returns-clause-lines
+returns-clause-lines c =
+    let lines : length c.self.inside.journal.lines ≡ length c.args.self.now.lines = ap (λ (q : QueueHistory). length q.lines) c.self.view_is in
+    let limit = ap (λ s. s.limits.max_lines) c.self-inside.view_is in
+    omega (arith, lines, limit, c.self.invariant.0.within, c.self-inside.invariant.most_lines)

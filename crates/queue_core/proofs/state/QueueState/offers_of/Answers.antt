@@ -1,27 +1,28 @@
-use Rattle.std.proofs.Common.{◌≡◌, Option, Some, None, sym, ap, ◌∙◌, arith}
-use Rattle.std.specs.Prelude.{option_map}
+use Rattle.std.proofs.Common.{◌≡◌, ap, sym, ◌∙◌, arith}
+use Rattle.std.proofs.lemmas.List.{take_all}
 use Rattle.message.specs.Content.{ContentText}
-use Rattle.queue_core.specs.declared.facts.Candidate.{Candidate}
-use Rattle.queue_core.specs.declared.offers.Offer.{Offer}
-use Rattle.queue_core.specs.Messages.{content_of}
-use Rattle.queue_core.specs.Queue.{offer_of}
-use Rattle.queue_core.proofs.OrderLemmas.{filter_map-more_some, filter_map-more_none}
+use Rattle.queue_core.specs.Queue.{offer_of, offers_of, offered_candidates}
+use Rattle.queue_core.proofs.ReceiveLemmas.{index_seen, as_many, offer_missing, offer_more}
 use Rattle.queue_core.proofs.state.QueueState.offers_of.Goals as goal
-use Rattle.queue_core.proofs.state.QueueState.offers_of.Goals.{in-Some+in_ok-push-in-Some, in-None}
+use Rattle.queue_core.proofs.state.QueueState.offers_of.Goals.{in-Some+in_ok-share-in-Some+in_ok-push-in-Some, in-None}
 
-pub loop-candidate-preserved : goal.loop-candidate-preserved
-loop-candidate-preserved c =
-    let q = c.args.self.now in
-    let one : Candidate → Option Offer = λ x. option_map (λ content. offer_of c.args.self.now x content) (content_of c.args.self.now.lines x.message) in
-    elim c.match-branch-2.branch [
-      | in-Some+in_ok-push-in-Some w ↦
-          let content : one c.candidate-item.result ≡ Some w.offer_of.result =
-          ap (option_map (λ (text : ContentText). offer_of c.args.self.now c.candidate-item.result text)) (sym c.in_ok-content.ensures.ok ∙ w.in-Some.is) ∙ ap (λ (o : Offer). Some o) (sym w.offer_of.ensures) in
-          rw (w.offers-is, w.in_ok-push-in-Some.ensures.ok, c.loop-candidate.invariant)
-          (sym (filter_map-more_some one c.args.candidates.now c.loop-candidate.candidate-index c.candidate-item.result w.offer_of.result (omega arith) c.candidate-item.is content))
+pub loop-number-preserved : goal.loop-number-preserved
+loop-number-preserved c = λ maximum are.
+    let is = index_seen _ c.args.self.now c.self.inside.index c.self.view_is c.self.invariant.2 in
+    let numbers = c.as_slice-number-items.result.now in
+    elim c.match-get.branch [
+      | in-Some+in_ok-share-in-Some+in_ok-push-in-Some w ↦
+          let content : w.in_ok-share-in-Some.field-0 ≡ w.in-Some.kept.now.content = cc w.in_ok-share-in-Some.ensures in
+          w.offers-is ∙ w.in_ok-push-in-Some.ensures.ok ∙ rw (c.loop-number.invariant maximum are)
+          (sym (offer_more c.args.self.now c.self.inside.index is maximum numbers (c.as_slice-number-items.ensures ∙ are) c.loop-number.number-index c.loop-number-test.true w.in-Some.kept.now
+          (sym w.in-Some.ensures.value) w.offer_of.result (λ x number of. w.offer_of.ensures x number of ∙ ap (λ (text : ContentText). offer_of c.args.self.now x text) content)))
       | in-None w ↦
-          let nothing : one c.candidate-item.result ≡ None =
-          ap (option_map (λ (text : ContentText). offer_of c.args.self.now c.candidate-item.result text)) (sym c.in_ok-content.ensures.ok ∙ w.in-None.is) in
-          rw (w.offers-is, c.loop-candidate.invariant)
-          (sym (filter_map-more_none one c.args.candidates.now c.loop-candidate.candidate-index c.candidate-item.result (omega arith) c.candidate-item.is nothing))
+          absurd (offer_missing c.args.self.now c.self.inside.index is maximum numbers (c.as_slice-number-items.ensures ∙ are) c.loop-number.number-index c.loop-number-test.true
+          (sym w.in-None.ensures.value))
     ]
+
+pub returns-clause-ok : goal.returns-clause-ok
+returns-clause-ok c = λ maximum are.
+    let many = as_many c.as_slice-number-items.result.now (offered_candidates c.args.self.now maximum) (c.as_slice-number-items.ensures ∙ are) in
+    c.loop-number.invariant maximum are
+    ∙ ap (offers_of c.args.self.now) (take_all c.loop-number.number-index (offered_candidates c.args.self.now maximum) (omega (arith, many, c.loop-number-test.false)))

@@ -17,19 +17,19 @@ add-requires c = record {
   command = commands.Receive c.args.maximum c.args.timeout;
   allowed = (c.requires.maximum, c.requires.timeout);
   added =
-      rw (c.timeout_or_own.ensures, c.in_ok-numbers_of.ensures.ok, c.as_slice-2.ensures.value, c.in_ok-numbers_of-2.ensures.ok, c.as_slice-3.ensures.value, c.in_ok-scan.ensures.offered, c.in_ok-scan.ensures.leaving, c.policy_target.ensures)
+      rw (c.timeout_or_own.ensures, c.in_ok-scan.ensures.offered, c.in_ok-scan.ensures.leaving, c.policy_target.ensures)
       (event-received c.begin.new.self c.in_ok-begin.ensures.ok c.args.maximum c.args.timeout (sym c.is_at_in_flight_limit.ensures ∙ c.if-is_at_in_flight_limit.false));
 }
 
 pub returns-clause-answer : goal.returns-clause-answer
 returns-clause-answer c =
     answer-received c.begin.new.self c.in_ok-begin.ensures.ok (at_moment c.args.self.now c.args.at) c.args.maximum c.args.timeout c.in_ok-offers.offers c.begin.ensures.state
-    (sym c.is_at_in_flight_limit.ensures ∙ c.if-is_at_in_flight_limit.false) (rw (c.in_ok-offers.ensures.ok, c.as_slice.ensures.value, c.in_ok-scan.ensures.offered) refl)
+    (sym c.is_at_in_flight_limit.ensures ∙ c.if-is_at_in_flight_limit.false) (c.in_ok-offers.ensures.ok c.args.maximum c.in_ok-scan.ensures.offered)
 
 pub returns-clause-state : goal.returns-clause-state
 returns-clause-state c =
     state-received c.begin.new.self c.in_ok-begin.ensures.ok (at_moment c.args.self.now c.args.at) c.add.new.self c.args.maximum c.args.timeout
-    (Received c.timeout_or_own.result c.in_ok-numbers_of.field-0 c.in_ok-numbers_of-2.field-0 c.policy_target.result) c.begin.ensures.state
+    (Received c.timeout_or_own.result c.in_ok-scan.scan.offered c.in_ok-scan.scan.leaving c.policy_target.result) c.begin.ensures.state
     (sym c.is_at_in_flight_limit.ensures ∙ c.if-is_at_in_flight_limit.false)
-    (rw (c.timeout_or_own.ensures, c.in_ok-numbers_of.ensures.ok, c.as_slice-2.ensures.value, c.in_ok-numbers_of-2.ensures.ok, c.as_slice-3.ensures.value, c.in_ok-scan.ensures.offered, c.in_ok-scan.ensures.leaving, c.policy_target.ensures) refl)
+    (rw (c.timeout_or_own.ensures, c.in_ok-scan.ensures.offered, c.in_ok-scan.ensures.leaving, c.policy_target.ensures) refl)
     c.in_ok-add.ensures.ok

@@ -1,4 +1,4 @@
-use Rattle.std.proofs.Common.{◌≡◌, ◌∷◌, ◌++◌, [], List, sym, ap, ap₂, ◌∙◌}
+use Rattle.std.proofs.Common.{◌∷◌, ◌++◌, [], List, sym, ap, ap₂, ◌∙◌}
 use Rattle.std.proofs.lemmas.List.{map_more}
 use Rattle.message.specs.Content.{content_size}
 use Rattle.alarm.specs.declared.state.AlarmState.{AlarmState}

@@ -1,0 +1,383 @@
+-- A queue's index is that of its journal, and stays so: where room is made in it, as time passes, and behind an event.
+use Rattle.std.proofs.Common.{◌≡◌, ℕ, ◌+◌, ◌*◌, ◌≤◌, ◌<◌, ◌^◌, Bool, true, false, not, cond, ◌&&◌, ◌||◌, ◌++◌, List, [], ◌∷◌, map, length, Option, Some, None, inl, inr, refl, sym, ap, subst, ◌∙◌, arith}
+use Rattle.std.specs.Prelude.{nat_eq, nat_le, filter, slice_index, option_map, option_and_then, is_some}
+use Rattle.std.specs.Option.{option_map_or}
+use Rattle.std.specs.List.{AllPairs, Contains, range_with_len}
+use Rattle.std.specs.VecDeque.{deque_capacity}
+use Rattle.std.proofs.lemmas.Bool.{false≢true, false_from_ne_true, cases_lt}
+use Rattle.std.proofs.lemmas.List.{get_or_past, map-append}
+use Rattle.std.proofs.lemmas.List.Elements.{Contains-append_left, Contains-append_right, Contains-push}
+use Rattle.std.proofs.lemmas.List.FromFn.{length-map-range_with_len, get_or-map-range_with_len, fill_by_all}
+use Rattle.std.proofs.lemmas.List.Sums.{count_by-le-length}
+use Rattle.std.proofs.lemmas.Option.{none-some}
+use Rattle.message.specs.Content.{ContentText}
+use Rattle.queue_config.specs.Settings.{QueueSettings}
+use Rattle.journal.specs.declared.entry.Event.{Event}
+use Rattle.journal.specs.declared.entry.Event.TheVariants.{Opened}
+use Rattle.queue_core.specs.declared.facts.Message.{Message}
+use Rattle.queue_core.specs.declared.facts.Course.{Course}
+use Rattle.queue_core.specs.declared.facts.Status.{Status}
+use Rattle.queue_core.specs.declared.facts.Status.TheVariants.{Present, Removed, Waiting, Transferred}
+use Rattle.queue_core.specs.declared.facts.Transfer.{Transfer}
+use Rattle.queue_core.specs.declared.facts.MessageState.TheVariants.{Visible}
+use Rattle.queue_core.specs.declared.slot.Stay.{Stay}
+use Rattle.queue_core.specs.declared.slot.Stay.TheVariants.{Hidden, Shown, Left}
+use Rattle.queue_core.specs.declared.slot.Slot.{Slot}
+use Rattle.queue_core.specs.declared.record.Record.{Record}
+use Rattle.queue_core.specs.declared.index.MessageIndex.{MessageIndex}
+use Rattle.queue_core.specs.Messages.{Birth, effect_of, contains_number, message_count, settings_of, offers_number, receive_count, loses, closes, closes_period, status_after, awaits_status, awaits_transfer, departures, ends_transfer, pending_transfers}
+use Rattle.queue_core.specs.States.{is_in_state, is_numbered}
+use Rattle.queue_core.specs.Queue.{QueueHistory, with_event}
+use Rattle.queue_core.specs.Legal.{IsLegal, IsCausedIn}
+use Rattle.queue_core.specs.Slots.{is_here, is_shown, is_left, is_left_stay, one_if}
+use Rattle.queue_core.specs.Records.{records_in, slots_in, born_in, with_stay, hidden_until, received_at, back_at, has_run_out, stay_at, is_left_record, settled_record, offered_after, rescheduled_after, here_after, record_after, record_after_stay, born_record, records_after, records_settled, HasIndices, IsIndexed, HasSame, IsSettled}
+use Rattle.queue_core.specs.Recorded.{AreRecorded}
+use Rattle.queue_core.specs.Applying.{CanApply, HaveReceived}
+use Rattle.queue_core.specs.Indexed.{IsIndexOf}
+use Rattle.queue_core.proofs.Scans.{length-messages_from}
+use Rattle.queue_core.proofs.PushLemmas.{count-push, numbered-kept}
+use Rattle.queue_core.proofs.FactLemmas.{Line, course-push, receives-push, numbered-number, numbered-place, numbered-past, unborn, about, pending-push, pending_of}
+use Rattle.queue_core.proofs.RecordLemmas.{recorded-later, recorded-settled, settled_is, recorded-event}
+use Rattle.queue_core.proofs.IndexedLemmas.{shown_is, left_is}
+use Rattle.queue_core.proofs.AppliedLemmas.{IsApplied}
+
+-- ---- a queue as it is opened
+
+pub opened-index : (at uid : ℕ) (settings : QueueSettings) (x : MessageIndex) → HasIndices x → ((n : ℕ) → records_in x n ≡ None) → x.receives.items ≡ [] → x.leaving.items ≡ []
+    → IsIndexOf (record { at = at; event = Opened uid settings } ∷ []) at x
+opened-index at uid settings x indices records receives leaving = record {
+  indexed = record {
+    indices = indices;
+    leaving = λ n. ap (contains_number n) leaving ∙ sym (ap (λ (o : Option Record). is_left (option_map (λ r. r.slot) o)) (records n));
+    once = subst (λ (numbers : List ℕ). AllPairs (λ a b. nat_eq a b ≡ false) numbers) (sym leaving) (λ i j d lt below. absurd (omega arith));
+  };
+  recorded = record {
+    records = record { some = λ n r is. absurd (none-some r (sym (records n) ∙ is)); none = λ n m numbered is. absurd cc };
+    receives = receives;
+    leaving = leaving;
+  };
+  settled = record { settled = λ n r is. absurd (none-some r (sym (records n) ∙ is)); shown = λ n r is. absurd (none-some r (sym (records n) ∙ is)) };
+}
+
+-- ---- room
+
+module _ (lines : List Line) (clock : ℕ) (x : MessageIndex) (is : IsIndexOf lines clock x) where
+  pub born_is : born_in x ≡ message_count lines
+  born_is = ap length is.recorded.receives ∙ length-map-range_with_len (λ n. receive_count lines n) 0 (message_count lines)
+
+  -- no more messages than entries, and none was received at more of them
+  pub few_born : born_in x ≤ length lines
+  few_born = let count = length-messages_from 0 0 lines in omega (arith, born_is)
+
+  receives_at : (n : ℕ) → n < born_in x → slice_index x.receives.items n ≡ receive_count lines n
+  receives_at n h =
+      ap (λ (counts : List ℕ). slice_index counts n) is.recorded.receives
+      ∙ get_or-map-range_with_len (λ n. receive_count lines n) 0 (message_count lines) n n 0 (omega (arith, born_is)) (omega arith)
+
+  few_received : (n : ℕ) → slice_index x.receives.items n ≤ length lines
+  few_received n = elim (cases_lt n (born_in x)) [
+    | inl below ↦ let at = receives_at n below in let few = count_by-le-length (λ (e : Line). offers_number n e.event) lines in omega arith
+    | inr past ↦ let none : slice_index x.receives.items n ≡ 0 = get_or_past x.receives.items n 0 past in omega arith
+  ]
+
+  pub same-index : (y : MessageIndex) → HasSame x y → IsIndexed y → IsIndexOf lines clock y
+  same-index y same indexed = record {
+    indexed = indexed;
+    recorded = record {
+      records = record {
+        some = λ n r at. is.recorded.records.some n r (sym (same.records n) ∙ at);
+        none = λ n m numbered at. is.recorded.records.none n m numbered (sym (same.records n) ∙ at);
+      };
+      receives = same.receives ∙ is.recorded.receives;
+      leaving = same.leaving ∙ is.recorded.leaving;
+    };
+    settled = record {
+      settled = λ n r at. is.settled.settled n r (sym (same.records n) ∙ at);
+      shown = λ n r at. is.settled.shown n r (sym (same.records n) ∙ at);
+    };
+  }
+
+-- ---- the passing of time
+
+-- what is there at a time by a retention in seconds, and shown where it is due
+pub record IsSettling (retention at : ℕ) (x y : MessageIndex) : Type 0 where
+  pub indices : HasIndices y
+  pub records : (n : ℕ) → records_in y n ≡ records_settled retention at (records_in x) n
+  pub receives : y.receives.items ≡ x.receives.items
+  pub leaving : y.leaving.items ≡ x.leaving.items
+
+-- what is shown was due by a time
+abbrev IsShownBy : ℕ → MessageIndex → Type 0
+IsShownBy clock x = (n : ℕ) (r : Record) → records_in x n ≡ Some r → r.slot.stay ≡ Shown → r.slot.due ≤ clock
+
+left_at : (clock : ℕ) (stay : Stay) (due : ℕ) → is_left_stay (stay_at clock stay due) ≡ is_left_stay stay
+left_at clock Hidden due = by_test (nat_le due clock)
+  where
+    by_test : (b : Bool) → is_left_stay (cond b Shown Hidden) ≡ false
+    by_test true = refl
+    by_test false = refl
+left_at clock Shown due = refl
+left_at clock (Left target ran_out) due = refl
+
+left_if : (stay : Stay) (out : Bool) (after : Record) → is_left_record after ≡ is_left_stay stay
+    → is_left (option_map (λ r. r.slot) (cond (not (is_left_stay stay) && out) None (Some after))) ≡ is_left_stay stay
+left_if Hidden true after h = refl
+left_if Hidden false after h = h
+left_if Shown true after h = refl
+left_if Shown false after h = h
+left_if (Left target ran_out) out after h = h
+
+-- what has left stays, and nothing leaves
+left-settled : (retention clock : ℕ) (o : Option Record)
+    → is_left (option_map (λ r. r.slot) (option_and_then (λ r. settled_record retention clock r) o)) ≡ is_left (option_map (λ r. r.slot) o)
+left-settled retention clock None = refl
+left-settled retention clock (Some r) =
+    left_if r.slot.stay (nat_le (r.first_send_time + 1000 * retention) clock) (with_stay (stay_at clock r.slot.stay r.slot.due) r) (left_at clock r.slot.stay r.slot.due)
+
+module _ (retention clock : ℕ) (x y : MessageIndex) (settling : IsSettling retention clock x y) where
+  left_alike : (n : ℕ) → is_left (slots_in y n) ≡ is_left (slots_in x n)
+  left_alike n = ap (λ (o : Option Record). is_left (option_map (λ r. r.slot) o)) (settling.records n) ∙ left-settled retention clock (records_in x n)
+
+  indexed-settled : IsIndexed x → IsIndexed y
+  indexed-settled is = record {
+    indices = settling.indices;
+    leaving = λ n. ap (contains_number n) settling.leaving ∙ is.leaving n ∙ sym (left_alike n);
+    once = subst (λ (numbers : List ℕ). AllPairs (λ a b. nat_eq a b ≡ false) numbers) (sym settling.leaving) is.once;
+  }
+
+pub later-index : (lines : List Line) (clock later retention : ℕ) (x y : MessageIndex) → clock ≤ later → IsIndexOf lines clock x → retention ≡ (settings_of lines).retention_seconds
+    → IsSettling retention later x y → IsIndexOf lines later y
+later-index lines clock later retention x y rises is same settling =
+    let own : IsSettling (settings_of lines).retention_seconds later x y = subst (λ (seconds : ℕ). IsSettling seconds later x y) same settling in
+    record {
+      indexed = indexed-settled retention later x y settling is.indexed;
+      recorded = record {
+        records = recorded-settled lines later (records_in x) (records_in y) (recorded-later lines clock later (records_in x) rises is.recorded.records) own.records;
+        receives = settling.receives ∙ is.recorded.receives;
+        leaving = settling.leaving ∙ is.recorded.leaving;
+      };
+      settled = settled_is (settings_of lines).retention_seconds later (records_in x) (records_in y) (λ n r at shown. let due = is.settled.shown n r at shown in omega arith) own.records;
+    }
+
+-- ---- an event
+
+shown-here : (o : Option Slot) → is_shown o ≡ true → is_here o ≡ true
+shown-here None h = absurd (false≢true h)
+shown-here (Some s) h = by_stay s.stay h
+  where
+    by_stay : (stay : Stay) → is_shown (Some (record s { stay = stay })) ≡ true → not (is_left_stay stay) ≡ true
+    by_stay Hidden h = refl
+    by_stay Shown h = refl
+    by_stay (Left target ran_out) h = absurd (false≢true h)
+
+module _ (q : QueueHistory) (event : Event ContentText) (caused : IsCausedIn q event) (x : MessageIndex) (is : IsIndexOf q.lines q.clock x) where
+  visible_here : (n : ℕ) → is_numbered (λ m. is_in_state Visible q.lines q.clock m) q.lines n ≡ true → is_here (slots_in x n) ≡ true
+  visible_here n h = shown-here (slots_in x n) (sym (shown_is q.lines q.clock (records_in x) is.recorded.records is.settled n) ∙ h)
+
+  pub can_apply : length q.lines < 2 ^ 31 → length x.leaving.items + length (effect_of event).departures ≤ deque_capacity x.leaving → CanApply event x
+  can_apply few room =
+      let of = about q event caused in
+      record {
+        offered = λ n h. visible_here n (of.offered n h);
+        departing = λ n h. visible_here n (of.departing n h);
+        apart = of.apart;
+        departing_once = of.departing_once;
+        offered_once = of.offered_once;
+        few_receives = λ n. let count = few_received q.lines q.clock x is n in omega arith;
+        room = room;
+      }
+
+-- ---- what an event shows
+
+-- where it is shown, it was due by a time
+abbrev IsDueBy : ℕ → Option Record → Type 0
+IsDueBy clock None = Unit {0}
+IsDueBy clock (Some r) = r.slot.stay ≡ Shown → r.slot.due ≤ clock
+
+due-all : (clock : ℕ) (o : Option Record) → ((r : Record) → o ≡ Some r → r.slot.stay ≡ Shown → r.slot.due ≤ clock) → IsDueBy clock o
+due-all clock None h = tt
+due-all clock (Some r) h = h r refl
+
+due-offered : (clock at : ℕ) (offers : Bool) (r : Record) → IsDueBy clock (Some r) → IsDueBy clock (Some (cond offers (received_at at r) r))
+due-offered clock at true r h = h
+due-offered clock at false r h = h
+
+due-rescheduled : (clock due : ℕ) (reschedules : Bool) (r : Record) → IsDueBy clock (Some r) → IsDueBy clock (Some (cond reschedules (hidden_until due r) r))
+due-rescheduled clock due true r h = λ shown. absurd cc
+due-rescheduled clock due false r h = h
+
+due-here : (clock target : ℕ) (removes departs : Bool) (r : Record) → IsDueBy clock (Some r) → IsDueBy clock (cond removes None (Some (cond departs (with_stay (Left target false) r) r)))
+due-here clock target true departs r h = tt
+due-here clock target false true r h = λ shown. absurd cc
+due-here clock target false false r h = h
+
+due-left : (clock at target : ℕ) (lost ran_out confirms closing later : Bool) (r : Record)
+    → IsDueBy clock (cond lost (cond ran_out None (Some (back_at at r))) (cond confirms None (cond closing None (Some (with_stay (Left target later) r)))))
+due-left clock at target true true confirms closing later r = tt
+due-left clock at target true false confirms closing later r = λ shown. absurd cc
+due-left clock at target false ran_out true closing later r = tt
+due-left clock at target false ran_out false true later r = tt
+due-left clock at target false ran_out false false later r = λ shown. absurd cc
+
+module _ (s : QueueSettings) (clock at : ℕ) (event : Event ContentText) where
+  due-after : (n : ℕ) (r : Record) → IsDueBy clock (Some r) → IsDueBy clock (record_after s at event n r)
+  due-after n r h = by_stay r.slot.stay
+    where
+      by_here : IsDueBy clock (here_after at event n r)
+      by_here =
+          due-here clock (effect_of event).target ((effect_of event).removes n) (contains_number n (effect_of event).departures) (rescheduled_after at event n (offered_after at event n r))
+          (due-rescheduled clock (at + 1000 * (effect_of event).timeout) ((effect_of event).reschedules n) (offered_after at event n r) (due-offered clock at ((effect_of event).offers n) r h))
+
+      by_stay : (stay : Stay) → IsDueBy clock (record_after_stay s at event n stay r)
+      by_stay Hidden = by_here
+      by_stay Shown = by_here
+      by_stay (Left target ran_out) =
+          due-left clock at target (loses target event) ran_out ((effect_of event).confirms n) (closes event) (ran_out || (closes_period event && has_run_out s.retention_seconds at r)) r
+
+  due-each : (n : ℕ) (o : Option Record) → IsDueBy clock o → IsDueBy clock (option_and_then (λ r. record_after s at event n r) o)
+  due-each n None h = tt
+  due-each n (Some r) h = due-after n r h
+
+  -- what begins is hidden
+  due-born : IsDueBy clock (born_record at event)
+  due-born = by_birth (effect_of event).birth
+    where
+      by_birth : (birth : Option (Birth ContentText)) → IsDueBy clock (option_map (λ birth. record {
+        content = birth.content;
+        enqueue_time = at;
+        first_send_time = option_map_or (λ origin. origin.sent) birth.origin at;
+        origin = birth.origin;
+        first_receive = None;
+        last_receive = 0;
+        slot = record { stay = Hidden; due = at + 1000 * birth.delay; sent = option_map_or (λ origin. origin.sent) birth.origin at; is_fresh = true };
+      }) birth)
+      by_birth None = tt
+      by_birth (Some birth) = λ shown. absurd cc
+
+  due-behind : (born : Bool) (n : ℕ) (o : Option Record) → IsDueBy clock o → IsDueBy clock (cond born (born_record at event) (option_and_then (λ r. record_after s at event n r) o))
+  due-behind true n o h = due-born
+  due-behind false n o h = due-each n o h
+
+-- ---- what waits behind an event
+
+filter-numbers_step : (b : Bool) (t : Transfer) (ts : List Transfer) → cond b (t.number ∷ map (λ t. t.number) ts) (map (λ t. t.number) ts) ≡ map (λ t. t.number) (cond b (t ∷ ts) ts)
+filter-numbers_step true t ts = refl
+filter-numbers_step false t ts = refl
+
+filter-numbers : (p : ℕ → Bool) (kept : Transfer → Bool) (ts : List Transfer) → ((t : Transfer) → Contains ts t → p t.number ≡ kept t)
+    → filter p (map (λ t. t.number) ts) ≡ map (λ t. t.number) (filter kept ts)
+filter-numbers p kept [] same = refl
+filter-numbers p kept (t ∷ ts) same =
+    ap (λ (b : Bool). cond b (t.number ∷ filter p (map (λ t. t.number) ts)) (filter p (map (λ t. t.number) ts))) (same t (Contains-append_left (t ∷ []) ts t (Contains-push [] t)))
+    ∙ ap (λ (ns : List ℕ). cond (kept t) (t.number ∷ ns) ns) (filter-numbers p kept ts (λ u there. same u (Contains-append_right (t ∷ []) ts u there)))
+    ∙ filter-numbers_step (kept t) t (filter kept ts)
+
+numbers-map : (target : ℕ) (ns : List ℕ) → map (λ (t : Transfer). t.number) (map (λ n. record { number = n; target = target }) ns) ≡ ns
+numbers-map target [] = refl
+numbers-map target (n ∷ ns) = ap (λ (ks : List ℕ). n ∷ ks) (numbers-map target ns)
+
+awaits_if : (target : ℕ) (confirms lost closing : Bool) → awaits_status (cond lost Present (cond confirms Transferred (cond closing Removed (Waiting target)))) ≡ not (confirms || lost || closing)
+awaits_if target true true closing = refl
+awaits_if target true false closing = refl
+awaits_if target false true closing = refl
+awaits_if target false false true = refl
+awaits_if target false false false = refl
+
+-- ---- behind an event, and settled then
+
+-- an event begins one message at most
+one_at_most : (b : Bool) → one_if b ≤ 1
+one_at_most true = omega arith
+one_at_most false = omega arith
+
+pub few-more : (event : Event ContentText) (x y : MessageIndex) → HaveReceived event x.receives.items y.receives.items → born_in y ≤ born_in x + 1
+few-more event x y received = let one = one_at_most (is_some (effect_of event).birth) in omega (arith, received.len)
+
+module _ (q : QueueHistory) (event : Event ContentText) (legal : IsLegal q) (caused : IsCausedIn q event) (x y : MessageIndex) (is : IsIndexOf q.lines q.clock x)
+    (applied : IsApplied (settings_of q.lines) q.clock event x y) where
+  abbrev entry : Line
+  entry = record { at = q.clock; event = event }
+
+  abbrev more : List Line
+  more = q.lines ++ entry ∷ []
+
+  records-behind : (n : ℕ) → records_in y n ≡ records_after (settings_of q.lines) q.clock event (message_count q.lines) (records_in x) n
+  records-behind n =
+      subst (λ (count : ℕ). records_in y n ≡ records_after (settings_of q.lines) q.clock event count (records_in x) n) (born_is q.lines q.clock x is) (applied.records n)
+
+  recorded-behind : AreRecorded more q.clock (records_in y)
+  recorded-behind = recorded-event q event (records_in x) (records_in y) legal caused is.recorded.records is.settled records-behind
+
+  shown-behind : IsShownBy q.clock y
+  shown-behind n r at =
+      subst (λ (o : Option Record). IsDueBy q.clock o) (sym (records-behind n) ∙ at)
+      (due-behind (settings_of q.lines) q.clock q.clock event (nat_eq n (message_count q.lines)) n (records_in x n) (due-all q.clock (records_in x n) (is.settled.shown n)))
+
+  -- ---- receives
+
+  -- what was not begun is not offered
+  unoffered : (n : ℕ) → message_count q.lines ≤ n → offers_number n event ≡ false
+  unoffered n past =
+      false_from_ne_true (offers_number n event)
+      (λ offered. false≢true
+      (sym (ap (λ (o : Option Message). option_map_or (λ m. is_in_state Visible q.lines q.clock m) o false) (numbered-past q.lines n past)) ∙ (about q event caused).offered n offered))
+
+  received-more : (n : ℕ) → slice_index y.receives.items n ≡ receive_count more n
+  received-more n = elim (cases_lt n (born_in x)) [
+    | inl below ↦ applied.receives.counts n below ∙ ap (λ (k : ℕ). k + one_if (offers_number n event)) (receives_at q.lines q.clock x is n below) ∙ sym (receives-push q.lines entry n)
+    | inr past ↦ (let begun : message_count q.lines ≤ n = omega (arith, born_is q.lines q.clock x is) in
+        let none : receive_count q.lines n ≡ 0 = (unborn q n legal begun).receives in
+        applied.receives.begun n past ∙ sym (receives-push q.lines entry n ∙ rw (none, unoffered n begun) refl))
+  ]
+
+  receives-behind : y.receives.items ≡ map (λ n. receive_count more n) (range_with_len 0 (message_count more))
+  receives-behind =
+      fill_by_all (λ n. receive_count more n) y.receives.items (message_count more) 0 (omega (arith, born_is q.lines q.clock x is, count-push q.lines entry, applied.receives.len)) (λ n below. received-more n)
+
+  -- ---- what waits
+
+  -- what waits, and the event does not end its transfer, waits on
+  awaits-more : (t : Transfer) → Contains (pending_transfers q.lines) t → is_numbered (λ m. awaits_transfer more m) more t.number ≡ not (ends_transfer t event)
+  awaits-more t there =
+      let w = (pending_of q legal).waiting t there in
+      ap (λ (o : Option Message). option_map_or (λ m. awaits_transfer more m) o false) (numbered-kept q.lines entry t.number w.0 w.1)
+      ∙ ap (λ (c : Course). awaits_status c.status) (course-push q.lines entry w.0 (numbered-place q.lines t.number w.0 w.1))
+      ∙ ap (λ (status : Status). awaits_status (status_after w.0.number status event)) w.2
+      ∙ ap (λ (n : ℕ). awaits_status (status_after n (Waiting t.target) event)) (numbered-number q.lines t.number w.0 w.1)
+      ∙ awaits_if t.target ((effect_of event).confirms t.number) (loses t.target event) (closes event)
+
+  module _ (z : MessageIndex) (settling : IsSettling (settings_of more).retention_seconds q.clock y z) where
+    recorded-then : AreRecorded more q.clock (records_in z)
+    recorded-then = recorded-settled more q.clock (records_in y) (records_in z) recorded-behind settling.records
+
+    settled-then : IsSettled (settings_of more).retention_seconds q.clock (records_in z)
+    settled-then = settled_is (settings_of more).retention_seconds q.clock (records_in y) (records_in z) shown-behind settling.records
+
+    left-kept : (t : Transfer) → Contains (pending_transfers q.lines) t → is_left (slots_in y t.number) ≡ not (ends_transfer t event)
+    left-kept t there =
+        sym (left_alike (settings_of more).retention_seconds q.clock y z settling t.number)
+        ∙ sym (left_is more q.clock (records_in z) recorded-then settled-then t.number)
+        ∙ awaits-more t there
+
+    leaving-behind : y.leaving.items ≡ map (λ t. t.number) (pending_transfers more)
+    leaving-behind =
+        applied.leaving
+        ∙ ap (λ (ns : List ℕ). filter (λ n. is_left (slots_in y n)) ns ++ (effect_of event).departures) is.recorded.leaving
+        ∙ ap (λ (ns : List ℕ). ns ++ (effect_of event).departures)
+        (filter-numbers (λ n. is_left (slots_in y n)) (λ t. not (ends_transfer t event)) (pending_transfers q.lines) left-kept)
+        ∙ ap (λ (ns : List ℕ). map (λ t. t.number) (filter (λ t. not (ends_transfer t event)) (pending_transfers q.lines)) ++ ns) (sym (numbers-map (effect_of event).target (effect_of event).departures))
+        ∙ sym (map-append (λ (t : Transfer). t.number) (filter (λ t. not (ends_transfer t event)) (pending_transfers q.lines)) (departures event))
+        ∙ ap (λ (ts : List Transfer). map (λ t. t.number) ts) (sym (pending-push q.lines entry))
+
+    index-behind : IsIndexOf more q.clock z
+    index-behind = record {
+      indexed = indexed-settled (settings_of more).retention_seconds q.clock y z settling applied.indexed;
+      recorded = record { records = recorded-then; receives = settling.receives ∙ receives-behind; leaving = settling.leaving ∙ leaving-behind };
+      settled = settled-then;
+    }
+
+pub event-index : (q : QueueHistory) (event : Event ContentText) (s : QueueSettings) (retention : ℕ) (x y z : MessageIndex) → IsLegal q → IsCausedIn q event → IsIndexOf q.lines q.clock x → s ≡ settings_of q.lines
+    → IsApplied s q.clock event x y → retention ≡ (settings_of (with_event q event).lines).retention_seconds → IsSettling retention q.clock y z → IsIndexOf (with_event q event).lines q.clock z
+event-index q event s retention x y z legal caused is own applied same settling =
+    index-behind q event legal caused x y is (subst (λ (s : QueueSettings). IsApplied s q.clock event x y) own applied) z
+    (subst (λ (seconds : ℕ). IsSettling seconds q.clock y z) same settling)

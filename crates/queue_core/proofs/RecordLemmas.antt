@@ -1,0 +1,438 @@
+-- The records of messages stay those of the journal, whatever event comes and however much time passes.
+use Rattle.std.proofs.Common.{◌≡◌, ℕ, ◌+◌, ◌*◌, ◌≤◌, ◌<◌, Bool, true, false, not, cond, ◌&&◌, ◌||◌, List, [], ◌∷◌, ◌++◌, length, Option, Some, None, inl, inr, refl, sym, ap, subst, ◌∙◌, eqb, arith}
+use Rattle.std.specs.Prelude.{◌⊎◌, nat_eq, nat_le, option_map, option_and_then}
+use Rattle.std.specs.Option.{option_map_or}
+use Rattle.std.proofs.Math.Bool.{and-false}
+use Rattle.std.proofs.Math.Nat.{add-zero}
+use Rattle.std.proofs.lemmas.Bool.{false≢true, and_parts, leb-true, le-leb, eqb-true, ne_eqb, false_from_ne_true}
+use Rattle.std.proofs.lemmas.List.{length-append}
+use Rattle.std.proofs.lemmas.Option.{none-some, same_Some}
+use Rattle.message.specs.Content.{ContentText}
+use Rattle.queue_config.specs.Settings.{QueueSettings, default_settings}
+use Rattle.journal.specs.declared.entry.Event.{Event}
+use Rattle.journal.specs.declared.entry.Event.TheVariants.{Opened, Set}
+use Rattle.queue_core.specs.declared.facts.Message.{Message}
+use Rattle.queue_core.specs.declared.facts.Course.{Course}
+use Rattle.queue_core.specs.declared.facts.Status.{Status}
+use Rattle.queue_core.specs.declared.facts.Status.TheVariants.{Present, Waiting}
+use Rattle.queue_core.specs.declared.facts.MessageState.{MessageState}
+use Rattle.queue_core.specs.declared.facts.MessageState.TheVariants.{Visible}
+use Rattle.queue_core.specs.Messages.{Birth, effect_of, contains_number, message_of, message_count, content_of, settings_after, settings_of, opens, closes_period, is_expired, offers_number, receive_count, first_receive_time, last_receive_time, returns, course_of, is_present_status, is_present, is_returned, awaits_status, awaits_transfer}
+use Rattle.queue_core.specs.States.{is_live, waiting_state, same_state, is_in_state, message_numbered, is_numbered}
+use Rattle.queue_core.specs.Queue.{QueueHistory, with_event}
+use Rattle.queue_core.specs.Legal.{IsLegal, IsCausedIn}
+use Rattle.queue_core.specs.declared.slot.Stay.{Stay}
+use Rattle.queue_core.specs.declared.slot.Stay.TheVariants.{Hidden, Shown, Left}
+use Rattle.queue_core.specs.declared.record.Record.{Record}
+use Rattle.queue_core.specs.Slots.{is_left_stay}
+use Rattle.queue_core.specs.Records.{with_stay, has_run_out, stay_at, is_left_record, settled_record, record_after, Records, IsSettled, born_record, records_after, records_settled}
+use Rattle.queue_core.specs.Recorded.{ran_out_before, runs_out_by, IsStanding, IsRecordOf, AreRecorded}
+use Rattle.queue_core.proofs.FactLemmas.{Line, settings_from-push, course-push, ran_out-push, expired-split, receives-push, first-push, last-push, content-push, numbered-push, numbered-number, numbered-place, numbered-past, newborn, unborn, about}
+use Rattle.queue_core.proofs.ToldLemmas.{Told, IsTold, told_after, there_unless, gone_if, told-next, told-gone, untold}
+
+-- ---- what is there behind a step
+
+then_some : {A B : Type 0} (f : A → Option B) (o : Option A) (y : B) → option_and_then f o ≡ Some y → (x : A) × (o ≡ Some x) × (f x ≡ Some y)
+then_some f None y h = absurd (none-some y h)
+then_some f (Some x) y h = (x, refl, h)
+
+then_none : {A B : Type 0} (f : A → Option B) (o : Option A) → option_and_then f o ≡ None → (o ≡ None) ⊎ ((x : A) × (o ≡ Some x) × (f x ≡ None))
+then_none f None h = inl refl
+then_none f (Some x) h = inr (x, refl, h)
+
+module _ (lines : List Line) (clock : ℕ) (records : Records) (is : AreRecorded lines clock records) where
+  -- the record of a number is that of the message of the number
+  record_numbered : (n : ℕ) (m : Message) (r : Record) → message_numbered lines n ≡ Some m → records n ≡ Some r → IsRecordOf lines m r
+  record_numbered n m r numbered at =
+      let x = is.some n r at in
+      subst (λ (y : Message). IsRecordOf lines y r) (same_Some x.0 m (sym x.1 ∙ numbered)) x.2
+
+-- ---- a clock that rises
+
+dead-later : (present expired later : Bool) → (expired ≡ true → later ≡ true) → (present && not expired) ≡ false → (present && not later) ≡ false
+dead-later true true later lasts h = ap not (lasts refl)
+dead-later true false later lasts h = absurd (false≢true (sym h))
+dead-later false expired later lasts h = refl
+
+either-later : (before by later : Bool) → (by ≡ true → later ≡ true) → (before || by) ≡ true → (before || later) ≡ true
+either-later true by later lasts h = refl
+either-later false by later lasts h = lasts h
+
+runs_out-later : (s : QueueSettings) (clock later : ℕ) (m : Message) → clock ≤ later → runs_out_by s clock m ≡ true → runs_out_by s later m ≡ true
+runs_out-later s clock later m h by =
+    let end : m.first_send_time + 1000 * s.retention_seconds ≤ clock = leb-true (m.first_send_time + 1000 * s.retention_seconds) clock by in
+    le-leb (m.first_send_time + 1000 * s.retention_seconds) later (omega arith)
+
+expired-later : (lines : List Line) (clock later : ℕ) (m : Message) → m.place < length lines → clock ≤ later → is_expired lines clock m ≡ true → is_expired lines later m ≡ true
+expired-later lines clock later m placed h expired =
+    expired-split lines later m placed
+    ∙ either-later (ran_out_before lines m) (runs_out_by (settings_of lines) clock m) (runs_out_by (settings_of lines) later m) (runs_out-later (settings_of lines) clock later m h)
+    (sym (expired-split lines clock m placed) ∙ expired)
+
+pub recorded-later : (lines : List Line) (clock later : ℕ) (records : Records) → clock ≤ later → AreRecorded lines clock records → AreRecorded lines later records
+recorded-later lines clock later records h is = record {
+  some = is.some;
+  none = λ n m numbered gone.
+      let dead = is.none n m numbered gone in
+      (dead-later (is_present lines m) (is_expired lines clock m) (is_expired lines later m) (expired-later lines clock later m (numbered-place lines n m numbered) h) dead.0, dead.1);
+}
+
+-- ---- records settled at a time
+
+standing_at : (clock : ℕ) (stay : Stay) (due : ℕ) (c : Course) (ran_out : Bool) → IsStanding stay due c ran_out → IsStanding (stay_at clock stay due) due c ran_out
+standing_at clock Hidden due c ran_out stands = by_test (nat_le due clock)
+  where
+    by_test : (b : Bool) → IsStanding (cond b Shown Hidden) due c ran_out
+    by_test true = stands
+    by_test false = stands
+standing_at clock Shown due c ran_out stands = stands
+standing_at clock (Left target left_ran_out) due c ran_out stands = stands
+
+present-here : (stay : Stay) (due : ℕ) (c : Course) (ran_out : Bool) → not (is_left_stay stay) ≡ true → IsStanding stay due c ran_out → c.status ≡ Present
+present-here Hidden due c ran_out h stands = stands.0
+present-here Shown due c ran_out h stands = stands.0
+present-here (Left target left_ran_out) due c ran_out h stands = absurd (false≢true h)
+
+abbrev settled_stay : ℕ → Record → Record
+settled_stay clock r = with_stay (stay_at clock r.slot.stay r.slot.due) r
+
+module _ (lines : List Line) (clock : ℕ) (m : Message) (r : Record) (is : IsRecordOf lines m r) where
+  IsRecordOf-settled : IsRecordOf lines m (settled_stay clock r)
+  IsRecordOf-settled = record {
+    content = is.content;
+    enqueue_time = is.enqueue_time;
+    first_send_time = is.first_send_time;
+    origin = is.origin;
+    first_receive = is.first_receive;
+    last_receive = is.last_receive;
+    fresh = is.fresh;
+    standing = standing_at clock r.slot.stay r.slot.due (course_of lines m) (ran_out_before lines m) is.standing;
+  }
+
+  -- a record that is let go is of a message that is there and has expired
+  gone-settled : m.place < length lines → settled_record (settings_of lines).retention_seconds clock r ≡ None → (is_live lines clock m ≡ false) × (awaits_transfer lines m ≡ false)
+  gone-settled placed h =
+      let test = and_parts (not (is_left_record r)) (has_run_out (settings_of lines).retention_seconds clock r) (gone_if _ (settled_stay clock r) h) in
+      let present = present-here r.slot.stay r.slot.due (course_of lines m) (ran_out_before lines m) test.0 is.standing in
+      let by : runs_out_by (settings_of lines) clock m ≡ true = ap (λ sent. nat_le (sent + 1000 * (settings_of lines).retention_seconds) clock) (sym is.first_send_time) ∙ test.1 in
+      let expired : is_expired lines clock m ≡ true = expired-split lines clock m placed ∙ either-later (ran_out_before lines m) true (runs_out_by (settings_of lines) clock m) (λ _. by) (or_true (ran_out_before lines m)) in
+      (rw expired (and-false (is_present lines m)), ap awaits_status present)
+    where
+      or_true : (b : Bool) → (b || true) ≡ true
+      or_true true = refl
+      or_true false = refl
+
+pub recorded-settled : (lines : List Line) (clock : ℕ) (records after : Records) → AreRecorded lines clock records
+    → ((n : ℕ) → after n ≡ records_settled (settings_of lines).retention_seconds clock records n) → AreRecorded lines clock after
+recorded-settled lines clock records after is same = record {
+  some = λ n r at.
+      let x = then_some (λ r. settled_record (settings_of lines).retention_seconds clock r) (records n) r (sym (same n) ∙ at) in
+      let m = is.some n x.0 x.1 in
+      (m.0, m.1, subst (IsRecordOf lines m.0) (there_unless _ (settled_stay clock x.0) r x.2).1 (IsRecordOf-settled lines clock m.0 x.0 m.2));
+  none = λ n m numbered at. by_cases n m numbered (then_none (λ r. settled_record (settings_of lines).retention_seconds clock r) (records n) (sym (same n) ∙ at));
+}
+  where
+    by_cases : (n : ℕ) (m : Message) → message_numbered lines n ≡ Some m
+        → (records n ≡ None) ⊎ ((r : Record) × (records n ≡ Some r) × (settled_record (settings_of lines).retention_seconds clock r ≡ None))
+        → (is_live lines clock m ≡ false) × (awaits_transfer lines m ≡ false)
+    by_cases n m numbered (inl gone) = is.none n m numbered gone
+    by_cases n m numbered (inr x) = gone-settled lines clock m x.0 (record_numbered lines clock records is n m x.0 numbered x.1) (numbered-place lines n m numbered) x.2
+
+left_at : (clock : ℕ) (stay : Stay) (due : ℕ) → is_left_stay (stay_at clock stay due) ≡ is_left_stay stay
+left_at clock Hidden due = by_test (nat_le due clock)
+  where
+    by_test : (b : Bool) → is_left_stay (cond b Shown Hidden) ≡ false
+    by_test true = refl
+    by_test false = refl
+left_at clock Shown due = refl
+left_at clock (Left target ran_out) due = refl
+
+stay_twice : (clock : ℕ) (stay : Stay) (due : ℕ) → stay_at clock (stay_at clock stay due) due ≡ stay_at clock stay due
+stay_twice clock Hidden due = by_test (nat_le due clock) refl
+  where
+    by_test : (b : Bool) → nat_le due clock ≡ b → stay_at clock (cond b Shown Hidden) due ≡ cond b Shown Hidden
+    by_test true e = refl
+    by_test false e = rw e refl
+stay_twice clock Shown due = refl
+stay_twice clock (Left target ran_out) due = refl
+
+shown_at : (clock : ℕ) (stay : Stay) (due : ℕ) → (stay ≡ Shown → due ≤ clock) → stay_at clock stay due ≡ Shown → due ≤ clock
+shown_at clock Hidden due shown h = by_test (nat_le due clock) refl h
+  where
+    by_test : (b : Bool) → nat_le due clock ≡ b → cond b Shown Hidden ≡ Shown → due ≤ clock
+    by_test true e k = leb-true due clock e
+    by_test false e k = absurd cc
+shown_at clock Shown due shown h = shown refl
+shown_at clock (Left target ran_out) due shown h = absurd cc
+
+settled_twice : (retention clock : ℕ) (r : Record) → (not (is_left_record r) && has_run_out retention clock r) ≡ false
+    → settled_record retention clock (settled_stay clock r) ≡ Some (settled_stay clock r)
+settled_twice retention clock r h = rw (left_at clock r.slot.stay r.slot.due, h, stay_twice clock r.slot.stay r.slot.due) refl
+
+pub settled_is : (retention clock : ℕ) (records after : Records) → ((n : ℕ) (r : Record) → records n ≡ Some r → r.slot.stay ≡ Shown → r.slot.due ≤ clock)
+    → ((n : ℕ) → after n ≡ records_settled retention clock records n) → IsSettled retention clock after
+settled_is retention clock records after shown same = record {
+  settled = λ n r at.
+      let x = found n r at in
+      subst (λ (y : Record). settled_record retention clock y ≡ Some y) x.2.1 (settled_twice retention clock x.0 x.2.0);
+  shown = λ n r at.
+      let x = found n r at in
+      subst (λ (y : Record). y.slot.stay ≡ Shown → y.slot.due ≤ clock) x.2.1 (shown_at clock x.0.slot.stay x.0.slot.due (shown n x.0 x.1));
+}
+  where
+    found : (n : ℕ) (r : Record) → after n ≡ Some r
+        → (x : Record) × (records n ≡ Some x) × (((not (is_left_record x) && has_run_out retention clock x) ≡ false) × (settled_stay clock x ≡ r))
+    found n r at =
+        let x = then_some (λ r. settled_record retention clock r) (records n) r (sym (same n) ∙ at) in
+        (x.0, x.1, there_unless _ (settled_stay clock x.0) r x.2)
+
+-- ---- an event
+
+-- what a journal tells of a message
+abbrev told_of : List Line → Message → Told
+told_of lines m = record {
+  content = content_of lines m;
+  first_receive = first_receive_time lines m.number;
+  last_receive = last_receive_time lines m.number;
+  fresh = eqb (receive_count lines m.number) 0 && not (is_returned lines m);
+  course = course_of lines m;
+  ran_out = ran_out_before lines m;
+}
+
+told_from : (lines : List Line) (m : Message) (r : Record) → IsRecordOf lines m r → IsTold m (told_of lines m) r
+told_from lines m r is = record {
+  content = is.content;
+  enqueue_time = is.enqueue_time;
+  first_send_time = is.first_send_time;
+  origin = is.origin;
+  first_receive = is.first_receive;
+  last_receive = is.last_receive;
+  fresh = is.fresh;
+  standing = is.standing;
+}
+
+record_from : (lines : List Line) (m : Message) (r : Record) → IsTold m (told_of lines m) r → IsRecordOf lines m r
+record_from lines m r is = record {
+  content = is.content;
+  enqueue_time = is.enqueue_time;
+  first_send_time = is.first_send_time;
+  origin = is.origin;
+  first_receive = is.first_receive;
+  last_receive = is.last_receive;
+  fresh = is.fresh;
+  standing = is.standing;
+}
+
+fresh-back : (never returned back : Bool) → (never && not (back || returned)) ≡ (((never && not returned) && true) && not back)
+fresh-back false returned back = refl
+fresh-back true true true = refl
+fresh-back true true false = refl
+fresh-back true false true = refl
+fresh-back true false false = refl
+
+fresh-more : (count : ℕ) (returned offered back : Bool) → (eqb (count + cond offered 1 0) 0 && not (back || returned)) ≡ (((eqb count 0 && not returned) && not offered) && not back)
+fresh-more count returned true back =
+    let received : eqb (count + 1) 0 ≡ false = ne_eqb (count + 1) 0 (λ e. omega arith) in
+    rw (received, and-false (eqb count 0 && not returned)) refl
+fresh-more count returned false back = rw add-zero (fresh-back (eqb count 0) returned back)
+
+retention-kept : (s : QueueSettings) (event : Event ContentText) → opens event ≡ false → closes_period event ≡ false → (settings_after s event).retention_seconds ≡ s.retention_seconds
+retention-kept s (Opened uid settings) h k = absurd cc
+retention-kept s (Set settings) h k = absurd cc
+retention-kept s event h k = refl
+
+module _ (lines : List Line) (at : ℕ) (event : Event ContentText) (m : Message) (placed : m.place < length lines) where
+  abbrev line : Line
+  line = record { at = at; event = event }
+
+  told-push : (content : ContentText) → content_of lines m ≡ Some content → told_of (lines ++ line ∷ []) m ≡ told_after (settings_of lines) at event m (told_of lines m)
+  told-push content h =
+      let text : content_of (lines ++ line ∷ []) m ≡ content_of lines m = content-push lines line m content h ∙ sym h in
+      let first = first-push lines line m.number in
+      let last = last-push lines line m.number in
+      let course = course-push lines line m placed in
+      let ran_out = ran_out-push lines line m placed in
+      let fresh : (told_of (lines ++ line ∷ []) m).fresh ≡ (told_after (settings_of lines) at event m (told_of lines m)).fresh =
+      ap (λ (c : Course). eqb (receive_count (lines ++ line ∷ []) m.number) 0 && not c.returned) course
+      ∙ (ap (λ n. eqb n 0 && not (returns (course_of lines m).status event || is_returned lines m)) (receives-push lines line m.number)
+      ∙ fresh-more (receive_count lines m.number) (is_returned lines m) (offers_number m.number event) (returns (course_of lines m).status event)) in
+      λ i. record { content = text i; first_receive = first i; last_receive = last i; fresh = fresh i; course = course i; ran_out = ran_out i }
+
+  placed_more : m.place < length (lines ++ line ∷ [])
+  placed_more = omega (arith, length-append lines (line ∷ []))
+
+  ran-push : opens event ≡ false → (before closed now : Bool) → closes_period event ≡ closed → runs_out_by (settings_of lines) at m ≡ now → (before || now) ≡ true
+      → ((before || (closed && now)) || runs_out_by (settings_of (lines ++ line ∷ [])) at m) ≡ true
+  ran-push unopened true closed now e f h = refl
+  ran-push unopened false true now e f h = rw h refl
+  ran-push unopened false false now e f h =
+      let retention : (settings_of (lines ++ line ∷ [])).retention_seconds ≡ (settings_of lines).retention_seconds =
+      ap (λ (s : QueueSettings). s.retention_seconds) (settings_from-push default_settings lines line) ∙ retention-kept (settings_of lines) event unopened e in
+      ap (λ seconds. nat_le (m.first_send_time + 1000 * seconds) at) retention ∙ (f ∙ h)
+
+  -- what has expired stays so behind an event
+  expired-push : opens event ≡ false → is_expired lines at m ≡ true → is_expired (lines ++ line ∷ []) at m ≡ true
+  expired-push unopened h =
+      expired-split (lines ++ line ∷ []) at m placed_more
+      ∙ (ap (λ b. b || runs_out_by (settings_of (lines ++ line ∷ [])) at m) (ran_out-push lines line m placed)
+      ∙ ran-push unopened (ran_out_before lines m) (closes_period event) (runs_out_by (settings_of lines) at m) refl refl (sym (expired-split lines at m placed) ∙ h))
+
+live_in_state : (live : Bool) (state : MessageState) → option_map_or (λ s. same_state Visible s) (cond live (Some state) None) false ≡ true → live ≡ true
+live_in_state true state h = refl
+live_in_state false state h = absurd (false≢true h)
+
+-- what an event offers, or what leaves by it, is live
+module _ (lines : List Line) (clock n : ℕ) (seen : is_numbered (λ m. is_in_state Visible lines clock m) lines n ≡ true) where
+  live_numbered : (m : Message) → message_numbered lines n ≡ Some m → is_live lines clock m ≡ true
+  live_numbered m numbered =
+      live_in_state (is_live lines clock m) (waiting_state lines clock m)
+      (sym (ap (λ (o : Option Message). option_map_or (λ m. is_in_state Visible lines clock m) o false) numbered) ∙ seen)
+
+  none_numbered : message_numbered lines n ≡ None → ⊥
+  none_numbered none = false≢true (sym (ap (λ (o : Option Message). option_map_or (λ m. is_in_state Visible lines clock m) o false) none) ∙ seen)
+
+module _ (q : QueueHistory) (event : Event ContentText) (caused : IsCausedIn q event) where
+  abbrev entry : Line
+  entry = record { at = q.clock; event = event }
+
+  abbrev more : List Line
+  more = q.lines ++ entry ∷ []
+
+  -- ---- a message that was there before
+
+  module _ (n : ℕ) (m : Message) (numbered : message_numbered q.lines n ≡ Some m) where
+    placed : m.place < length q.lines
+    placed = numbered-place q.lines n m numbered
+
+    own_number : message_numbered q.lines m.number ≡ Some m
+    own_number = subst (λ k. message_numbered q.lines k ≡ Some m) (sym (numbered-number q.lines n m numbered)) numbered
+
+    unoffered : (target : ℕ) → (course_of q.lines m).status ≡ Waiting target → offers_number m.number event ≡ false
+    unoffered target waiting =
+        let dead : is_live q.lines q.clock m ≡ false = ap (λ (s : Status). is_present_status s && not (is_expired q.lines q.clock m)) waiting in
+        false_from_ne_true (offers_number m.number event)
+        (λ offered. false≢true (sym dead ∙ live_numbered q.lines q.clock m.number ((about q event caused).offered m.number offered) m own_number))
+
+    undeparting : is_live q.lines q.clock m ≡ false → contains_number m.number (effect_of event).departures ≡ false
+    undeparting dead =
+        false_from_ne_true (contains_number m.number (effect_of event).departures)
+        (λ departing. false≢true (sym dead ∙ live_numbered q.lines q.clock m.number ((about q event caused).departing m.number departing) m own_number))
+
+    record-next : (r after : Record) → IsRecordOf q.lines m r → settled_record (settings_of q.lines).retention_seconds q.clock r ≡ Some r
+        → record_after (settings_of q.lines) q.clock event n r ≡ Some after → IsRecordOf more m after
+    record-next r after is settled h =
+        let by_number = subst (λ k. record_after (settings_of q.lines) q.clock event k r ≡ Some after) (sym (numbered-number q.lines n m numbered)) h in
+        let test = there_unless (not (is_left_record r) && has_run_out (settings_of q.lines).retention_seconds q.clock r) (settled_stay q.clock r) r settled in
+        let next = told-next (settings_of q.lines) q.clock event m (told_of q.lines m) r (told_from q.lines m r is) after unoffered test.0 by_number in
+        record_from more m after (subst (λ (t : Told). IsTold m t after) (sym (told-push q.lines q.clock event m placed r.content is.content)) next)
+
+    record-gone : (r : Record) → IsRecordOf q.lines m r → record_after (settings_of q.lines) q.clock event n r ≡ None → (is_live more q.clock m ≡ false) × (awaits_transfer more m ≡ false)
+    record-gone r is h =
+        let by_number = subst (λ k. record_after (settings_of q.lines) q.clock event k r ≡ None) (sym (numbered-number q.lines n m numbered)) h in
+        let gone = told-gone (settings_of q.lines) q.clock event m (told_of q.lines m) r (told_from q.lines m r is) by_number in
+        let push = told-push q.lines q.clock event m placed r.content is.content in
+        let dead : (is_present more m && not (ran_out_before more m)) ≡ false = ap (λ (t : Told). is_present_status t.course.status && not t.ran_out) push ∙ gone.0 in
+        let lasts : ran_out_before more m ≡ true → is_expired more q.clock m ≡ true = λ ran. expired-split more q.clock m (placed_more q.lines q.clock event m placed) ∙ rw ran refl in
+        (dead-later (is_present more m) (ran_out_before more m) (is_expired more q.clock m) lasts dead, ap (λ (t : Told). awaits_status t.course.status) push ∙ gone.1)
+
+    none-next : (is_live q.lines q.clock m ≡ false) × (awaits_transfer q.lines m ≡ false) → (is_live more q.clock m ≡ false) × (awaits_transfer more m ≡ false)
+    none-next dead =
+        let push = course-push q.lines entry m placed in
+        let next = untold m.number event (course_of q.lines m).status (is_expired q.lines q.clock m) (is_expired more q.clock m) dead
+        (expired-push q.lines q.clock event m placed (about q event caused).unopened) (undeparting dead.0) in
+        (ap (λ (c : Course). is_present_status c.status && not (is_expired more q.clock m)) push ∙ next.0, ap (λ (c : Course). awaits_status c.status) push ∙ next.1)
+
+  -- ---- the message that the event begins
+
+  abbrev born_of : Birth ContentText → Record
+  born_of birth = record {
+    content = birth.content;
+    enqueue_time = q.clock;
+    first_send_time = option_map_or (λ origin. origin.sent) birth.origin q.clock;
+    origin = birth.origin;
+    first_receive = None;
+    last_receive = 0;
+    slot = record { stay = Hidden; due = q.clock + 1000 * birth.delay; sent = option_map_or (λ origin. origin.sent) birth.origin q.clock; is_fresh = true };
+  }
+
+  abbrev born_message : ℕ → Birth ContentText → Message
+  born_message n birth = record {
+    number = n;
+    place = length q.lines;
+    enqueue_time = q.clock;
+    first_send_time = option_map_or (λ origin. origin.sent) birth.origin q.clock;
+    first_due_time = q.clock + 1000 * birth.delay;
+    origin = birth.origin;
+  }
+
+  module _ (legal : IsLegal q) (n : ℕ) (past : message_count q.lines ≤ n) where
+    born_is : (birth : Birth ContentText) → (effect_of event).birth ≡ Some birth → IsRecordOf more (born_message n birth) (born_of birth)
+    born_is birth e =
+        let new = newborn q.lines entry n (born_message n birth) (ap (option_map (born_message n)) e) in
+        let un = unborn q n legal past in
+        let none = numbered-past q.lines n past in
+        let unoffered_yet : offers_number n event ≡ false =
+        false_from_ne_true (offers_number n event) (λ offered. none_numbered q.lines q.clock n ((about q event caused).offered n offered) none) in
+        let receives : receive_count more n ≡ 0 = receives-push q.lines entry n ∙ rw (un.receives, unoffered_yet) refl in
+        record {
+          content = new.content ∙ ap (option_map (λ (b : Birth ContentText). b.content)) e;
+          enqueue_time = refl;
+          first_send_time = refl;
+          origin = refl;
+          first_receive = sym (first-push q.lines entry n ∙ rw (un.first, unoffered_yet) refl);
+          last_receive = sym (last-push q.lines entry n ∙ rw (unoffered_yet, un.last) refl);
+          fresh = sym (ap (λ k. eqb k 0 && not (is_returned more (born_message n birth))) receives ∙ ap (λ (c : Course). not c.returned) new.course);
+          standing = (ap (λ (c : Course). c.status) new.course, ap (λ (c : Course). c.due) new.course, new.ran_out);
+        }
+
+    record-born : (after : Record) → born_record q.clock event ≡ Some after → (m : Message) × (message_of (length q.lines) n q.clock event ≡ Some m) × IsRecordOf more m after
+    record-born after h = by_birth (effect_of event).birth refl
+      where
+        by_birth : (birth : Option (Birth ContentText)) → (effect_of event).birth ≡ birth → (m : Message) × (message_of (length q.lines) n q.clock event ≡ Some m) × IsRecordOf more m after
+        by_birth None e = absurd (none-some after (sym (ap (option_map born_of) e) ∙ h))
+        by_birth (Some birth) e = (
+          born_message n birth,
+          ap (option_map (born_message n)) e,
+          subst (IsRecordOf more (born_message n birth)) (same_Some (born_of birth) after (sym (ap (option_map born_of) e) ∙ h)) (born_is birth e),
+        )
+
+  -- a message that begins has a record
+  born-none : (n : ℕ) (m : Message) → message_of (length q.lines) n q.clock event ≡ Some m → born_record q.clock event ≡ None → ⊥
+  born-none n m h none = by_birth (effect_of event).birth refl
+    where
+      by_birth : (birth : Option (Birth ContentText)) → (effect_of event).birth ≡ birth → ⊥
+      by_birth None e = none-some m (sym (ap (option_map (born_message n)) e) ∙ h)
+      by_birth (Some birth) e = none-some (born_of birth) (sym none ∙ ap (option_map born_of) e)
+
+pub recorded-event : (q : QueueHistory) (event : Event ContentText) (records after : Records) → IsLegal q → IsCausedIn q event → AreRecorded q.lines q.clock records
+    → IsSettled (settings_of q.lines).retention_seconds q.clock records → ((n : ℕ) → after n ≡ records_after (settings_of q.lines) q.clock event (message_count q.lines) records n)
+    → AreRecorded (with_event q event).lines q.clock after
+recorded-event q event records after legal caused is settled same = record {
+  some = λ n r at. some_by n r (nat_eq n (message_count q.lines)) refl (sym (same n) ∙ at) (numbered-push q.lines (entry q event caused) n);
+  none = λ n m numbered at. none_by n m (nat_eq n (message_count q.lines)) refl (sym (same n) ∙ at) (sym (numbered-push q.lines (entry q event caused) n) ∙ numbered);
+}
+  where
+    some_by : (n : ℕ) (r : Record) (b : Bool) → nat_eq n (message_count q.lines) ≡ b
+        → cond b (born_record q.clock event) (option_and_then (λ r. record_after (settings_of q.lines) q.clock event n r) (records n)) ≡ Some r
+        → message_numbered (with_event q event).lines n ≡ cond b (message_of (length q.lines) n q.clock event) (message_numbered q.lines n)
+        → (m : Message) × (message_numbered (with_event q event).lines n ≡ Some m) × IsRecordOf (with_event q event).lines m r
+    some_by n r true e at numbered =
+        let count : n ≡ message_count q.lines = eqb-true n (message_count q.lines) e in
+        let x = record-born q event caused legal n (omega arith) r at in
+        (x.0, numbered ∙ x.1, x.2)
+    some_by n r false e at numbered =
+        let x = then_some (λ r. record_after (settings_of q.lines) q.clock event n r) (records n) r at in
+        let m = is.some n x.0 x.1 in
+        (m.0, numbered ∙ m.1, record-next q event caused n m.0 m.1 x.0 r m.2 (settled.settled n x.0 x.1) x.2)
+
+    gone_by : (n : ℕ) (m : Message) → message_numbered q.lines n ≡ Some m → (records n ≡ None) ⊎ ((r : Record) × (records n ≡ Some r) × (record_after (settings_of q.lines) q.clock event n r ≡ None))
+        → (is_live (with_event q event).lines q.clock m ≡ false) × (awaits_transfer (with_event q event).lines m ≡ false)
+    gone_by n m numbered (inl gone) = none-next q event caused n m numbered (is.none n m numbered gone)
+    gone_by n m numbered (inr x) = record-gone q event caused n m numbered x.0 (record_numbered q.lines q.clock records is n m x.0 numbered x.1) x.2
+
+    none_by : (n : ℕ) (m : Message) (b : Bool) → nat_eq n (message_count q.lines) ≡ b
+        → cond b (born_record q.clock event) (option_and_then (λ r. record_after (settings_of q.lines) q.clock event n r) (records n)) ≡ None
+        → cond b (message_of (length q.lines) n q.clock event) (message_numbered q.lines n) ≡ Some m
+        → (is_live (with_event q event).lines q.clock m ≡ false) × (awaits_transfer (with_event q event).lines m ≡ false)
+    none_by n m true e at numbered = absurd (born-none q event caused n m numbered at)
+    none_by n m false e at numbered = gone_by n m numbered (then_none (λ r. record_after (settings_of q.lines) q.clock event n r) (records n) at)

@@ -1,0 +1,305 @@
+-- What a journal tells of one message, what an event makes of that, and that the message's record follows it.
+use Rattle.std.proofs.Common.{◌≡◌, ℕ, ◌+◌, ◌*◌, Bool, true, false, not, cond, ◌&&◌, ◌||◌, Option, Some, None, refl, sym, ap, subst, ◌∙◌}
+use Rattle.std.specs.Prelude.{nat_le, unwrap_or}
+use Rattle.std.proofs.Math.Bool.{and-false, and-true}
+use Rattle.std.proofs.lemmas.Bool.{false≢true}
+use Rattle.std.proofs.lemmas.Option.{none-some, same_Some}
+use Rattle.message.specs.Content.{ContentText}
+use Rattle.journal.specs.declared.entry.Event.{Event}
+use Rattle.journal.specs.declared.entry.Event.TheVariants.{Set}
+use Rattle.queue_config.specs.Settings.{QueueSettings}
+use Rattle.queue_core.specs.declared.facts.Message.{Message}
+use Rattle.queue_core.specs.declared.facts.Course.{Course}
+use Rattle.queue_core.specs.declared.facts.Status.{Status}
+use Rattle.queue_core.specs.declared.facts.Status.TheVariants.{Present, Removed, Waiting, Transferred}
+use Rattle.queue_core.specs.Messages.{effect_of, contains_number, offers_number, loses, closes, closes_period, status_after, returns, due_after, course_after, is_present_status, awaits_status}
+use Rattle.queue_core.specs.declared.slot.Stay.{Stay}
+use Rattle.queue_core.specs.declared.slot.Stay.TheVariants.{Hidden, Shown, Left}
+use Rattle.queue_core.specs.declared.record.Record.{Record}
+use Rattle.queue_core.specs.Slots.{is_left_stay}
+use Rattle.queue_core.specs.Records.{with_stay, hidden_until, received_at, back_at, has_run_out, offered_after, rescheduled_after, here_after, left_after, record_after_stay, record_after}
+use Rattle.queue_core.specs.Recorded.{runs_out_by, IsStanding}
+use Rattle.queue_core.proofs.FactLemmas.{first_of_both}
+
+-- what a journal tells of a message that it has
+pub record Told : Type 0 where
+  pub content : Option ContentText
+  pub first_receive : Option ℕ
+  pub last_receive : ℕ
+  pub fresh : Bool
+  pub course : Course
+  pub ran_out : Bool
+
+-- a record says what is told of a message
+pub record IsTold (m : Message) (t : Told) (r : Record) : Type 0 where
+  pub content : t.content ≡ Some r.content
+  pub enqueue_time : r.enqueue_time ≡ m.enqueue_time
+  pub first_send_time : r.first_send_time ≡ m.first_send_time
+  pub origin : r.origin ≡ m.origin
+  pub first_receive : r.first_receive ≡ t.first_receive
+  pub last_receive : r.last_receive ≡ t.last_receive
+  pub fresh : r.slot.is_fresh ≡ t.fresh
+  pub standing : IsStanding r.slot.stay r.slot.due t.course t.ran_out
+
+-- a message that stands so, and has expired or not, is not live and does not wait for its dead-letter queue
+abbrev pub IsGone : Status → Bool → Type 0
+IsGone status expired = ((is_present_status status && not expired) ≡ false) × (awaits_status status ≡ false)
+
+-- ---- tests
+
+first-none : (o : Option ℕ) → first_of_both o None ≡ o
+first-none None = refl
+first-none (Some x) = refl
+
+first-some : (at : ℕ) (o : Option ℕ) → Some (unwrap_or o at) ≡ first_of_both o (Some at)
+first-some at None = refl
+first-some at (Some x) = refl
+
+-- what is there unless a test holds
+pub there_unless : {A : Type 0} (b : Bool) (x y : A) → cond b None (Some x) ≡ Some y → (b ≡ false) × (x ≡ y)
+there_unless true x y h = absurd (none-some y h)
+there_unless false x y h = (refl, same_Some x y h)
+
+pub gone_if : {A : Type 0} (b : Bool) (x : A) → cond b None (Some x) ≡ None → b ≡ true
+gone_if true x h = refl
+gone_if false x h = absurd (none-some x (sym h))
+
+-- ---- a message that is there, by what an event does to it
+
+module _ (m : Message) (t : Told) (r : Record) (is : IsTold m t r) where
+  offered-told : (at : ℕ) (b : Bool)
+      → IsTold m (record t { first_receive = first_of_both t.first_receive (cond b (Some at) None); last_receive = cond b at t.last_receive; fresh = t.fresh && not b }) (cond b (received_at at r) r)
+  offered-told at true = record {
+    content = is.content;
+    enqueue_time = is.enqueue_time;
+    first_send_time = is.first_send_time;
+    origin = is.origin;
+    first_receive = ap (λ (o : Option ℕ). Some (unwrap_or o at)) is.first_receive ∙ first-some at t.first_receive;
+    last_receive = refl;
+    fresh = sym (and-false t.fresh);
+    standing = is.standing;
+  }
+  offered-told at false = record {
+    content = is.content;
+    enqueue_time = is.enqueue_time;
+    first_send_time = is.first_send_time;
+    origin = is.origin;
+    first_receive = is.first_receive ∙ sym (first-none t.first_receive);
+    last_receive = is.last_receive;
+    fresh = is.fresh ∙ sym (and-true t.fresh);
+    standing = is.standing;
+  }
+
+  module _ (present : t.course.status ≡ Present) (kept : t.ran_out ≡ false) where
+    rescheduled-told : (due : ℕ) (b : Bool) → IsTold m (record t { course = record t.course { due = cond b due t.course.due } }) (cond b (hidden_until due r) r)
+    rescheduled-told due true = record {
+      content = is.content;
+      enqueue_time = is.enqueue_time;
+      first_send_time = is.first_send_time;
+      origin = is.origin;
+      first_receive = is.first_receive;
+      last_receive = is.last_receive;
+      fresh = is.fresh;
+      standing = (present, refl, kept);
+    }
+    rescheduled-told due false = is
+
+    departed-told : (target : ℕ) (b : Bool)
+        → IsTold m (record t { course = record t.course { status = cond b (Waiting target) Present } }) (cond b (with_stay (Left target false) r) r)
+    departed-told target true = record {
+      content = is.content;
+      enqueue_time = is.enqueue_time;
+      first_send_time = is.first_send_time;
+      origin = is.origin;
+      first_receive = is.first_receive;
+      last_receive = is.last_receive;
+      fresh = is.fresh;
+      standing = (refl, kept);
+    }
+    departed-told target false = subst (λ (s : Status). IsTold m (record t { course = record t.course { status = s } }) r) present is
+
+-- ---- one event, by the settings in force until then, at its time
+
+-- what is told of a message after it
+abbrev pub told_after : QueueSettings → ℕ → Event ContentText → Message → Told → Told
+told_after s at event m t = record {
+  content = t.content;
+  first_receive = first_of_both t.first_receive (cond (offers_number m.number event) (Some at) None);
+  last_receive = cond (offers_number m.number event) at t.last_receive;
+  fresh = (t.fresh && not (offers_number m.number event)) && not (returns t.course.status event);
+  course = course_after m.number t.course (record { at = at; event = event });
+  ran_out = t.ran_out || (closes_period event && runs_out_by s at m);
+}
+
+-- what brings a message back closes no period
+lost-open : (target : ℕ) (event : Event ContentText) → loses target event ≡ true → closes_period event ≡ false
+lost-open target (Set settings) h = absurd (false≢true h)
+lost-open target event h = refl
+
+module _ (s : QueueSettings) (at : ℕ) (event : Event ContentText) (m : Message) (t : Told) where
+  abbrev here_told : Told
+  here_told = record t {
+    first_receive = first_of_both t.first_receive (cond (offers_number m.number event) (Some at) None);
+    last_receive = cond (offers_number m.number event) at t.last_receive;
+    fresh = t.fresh && not (offers_number m.number event);
+    course = record t.course {
+      status = cond (contains_number m.number (effect_of event).departures) (Waiting (effect_of event).target) Present;
+      due = due_after m.number t.course.due at event;
+    };
+  }
+
+  -- a message that is there and that the event does not remove
+  here-same : t.course.status ≡ Present → t.ran_out ≡ false → (effect_of event).removes m.number ≡ false → (closes_period event && runs_out_by s at m) ≡ false → here_told ≡ told_after s at event m t
+  here-same present kept unremoved retained =
+      let status : here_told.course.status ≡ status_after m.number t.course.status event = rw (present, unremoved) refl in
+      let returned : returns t.course.status event ≡ false = rw present refl in
+      let fresh : (t.fresh && not (offers_number m.number event)) ≡ (told_after s at event m t).fresh = rw returned (sym (and-true (t.fresh && not (offers_number m.number event)))) in
+      let due : here_told.course.due ≡ (told_after s at event m t).course.due = rw returned refl in
+      let back : t.course.returned ≡ (told_after s at event m t).course.returned = rw returned refl in
+      let ran : t.ran_out ≡ (told_after s at event m t).ran_out = rw (kept, retained) refl in
+      λ i. record {
+        content = t.content;
+        first_receive = here_told.first_receive;
+        last_receive = here_told.last_receive;
+        fresh = fresh i;
+        course = record { status = status i; due = due i; returned = back i };
+        ran_out = ran i;
+      }
+
+  module _ (r : Record) where
+    abbrev kept_here : Record
+    kept_here = rescheduled_after at event m.number (offered_after at event m.number r)
+
+    abbrev here_record : Record
+    here_record = cond (contains_number m.number (effect_of event).departures) (with_stay (Left (effect_of event).target false) kept_here) kept_here
+
+    abbrev left_record : ℕ → Bool → Record
+    left_record target ran_out = with_stay (Left target (ran_out || (closes_period event && has_run_out s.retention_seconds at r))) r
+
+    abbrev left_by : ℕ → Bool → Bool → Bool → Bool → Option Record
+    left_by target lost ran_out confirmed closed = cond lost (cond ran_out None (Some (back_at at r))) (cond confirmed None (cond closed None (Some (left_record target ran_out))))
+
+  module _ (r : Record) (is : IsTold m t r) where
+    ran-same : has_run_out s.retention_seconds at r ≡ runs_out_by s at m
+    ran-same = ap (λ sent. nat_le (sent + 1000 * s.retention_seconds) at) is.first_send_time
+
+    here-told : t.course.status ≡ Present → t.ran_out ≡ false → IsTold m here_told (here_record r)
+    here-told present kept =
+        let offered = offered-told m t r is at (offers_number m.number event) in
+        let rescheduled = rescheduled-told m _ _ offered present kept (at + 1000 * (effect_of event).timeout) ((effect_of event).reschedules m.number) in
+        departed-told m _ _ rescheduled present kept (effect_of event).target (contains_number m.number (effect_of event).departures)
+
+    here-next : (after : Record) → t.course.status ≡ Present → t.ran_out ≡ false → has_run_out s.retention_seconds at r ≡ false
+        → here_after at event m.number r ≡ Some after → IsTold m (told_after s at event m t) after
+    here-next after present kept unexpired h =
+        let there = there_unless ((effect_of event).removes m.number) (here_record r) after h in
+        let retained : (closes_period event && runs_out_by s at m) ≡ false = rw (← ran-same, unexpired) (and-false (closes_period event)) in
+        subst (IsTold m (told_after s at event m t)) there.1 (subst (λ (u : Told). IsTold m u (here_record r)) (here-same present kept there.0 retained) (here-told present kept))
+
+    -- a message that has left
+    module _ (target : ℕ) (waiting : t.course.status ≡ Waiting target) (unoffered : offers_number m.number event ≡ false) where
+      left-first : r.first_receive ≡ first_of_both t.first_receive (cond (offers_number m.number event) (Some at) None)
+      left-first = is.first_receive ∙ rw unoffered (sym (first-none t.first_receive))
+
+      left-last : r.last_receive ≡ cond (offers_number m.number event) at t.last_receive
+      left-last = is.last_receive ∙ rw unoffered refl
+
+      back-told : t.ran_out ≡ false → loses target event ≡ true → IsTold m (told_after s at event m t) (back_at at r)
+      back-told kept lost = record {
+        content = is.content;
+        enqueue_time = is.enqueue_time;
+        first_send_time = is.first_send_time;
+        origin = is.origin;
+        first_receive = left-first;
+        last_receive = left-last;
+        fresh = rw (waiting, lost) (sym (and-false (t.fresh && not (offers_number m.number event))));
+        standing = (rw (waiting, lost) refl, rw (waiting, lost) refl, rw (kept, lost-open target event lost) refl);
+      }
+
+      stays-told : (ran_out : Bool) → t.ran_out ≡ ran_out → loses target event ≡ false → (effect_of event).confirms m.number ≡ false → closes event ≡ false
+          → IsTold m (told_after s at event m t) (left_record r target ran_out)
+      stays-told ran_out ran unlost unconfirmed unclosed = record {
+        content = is.content;
+        enqueue_time = is.enqueue_time;
+        first_send_time = is.first_send_time;
+        origin = is.origin;
+        first_receive = left-first;
+        last_receive = left-last;
+        fresh = is.fresh ∙ rw (waiting, unlost, unoffered) (sym (and-true (t.fresh && true) ∙ and-true t.fresh));
+        standing = (rw (waiting, unlost, unconfirmed, unclosed) refl, rw (ran, ran-same) refl);
+      }
+
+      left-next : (ran_out : Bool) (after : Record) → t.ran_out ≡ ran_out → left_after s at event m.number target ran_out r ≡ Some after → IsTold m (told_after s at event m t) after
+      left-next ran_out after ran h = by_tests (loses target event) ran_out ((effect_of event).confirms m.number) (closes event) refl ran refl refl h
+        where
+          by_tests : (lost ran_out confirmed closed : Bool) → loses target event ≡ lost → t.ran_out ≡ ran_out → (effect_of event).confirms m.number ≡ confirmed → closes event ≡ closed
+              → left_by r target lost ran_out confirmed closed ≡ Some after
+              → IsTold m (told_after s at event m t) after
+          by_tests true true confirmed closed e f g k is_after = absurd (none-some after is_after)
+          by_tests true false confirmed closed e f g k is_after = subst (IsTold m (told_after s at event m t)) (same_Some _ after is_after) (back-told f e)
+          by_tests false ran_out true closed e f g k is_after = absurd (none-some after is_after)
+          by_tests false ran_out false true e f g k is_after = absurd (none-some after is_after)
+          by_tests false ran_out false false e f g k is_after = subst (IsTold m (told_after s at event m t)) (same_Some _ after is_after) (stays-told ran_out f e g k)
+
+    -- the record after the event says what is told then
+    pub told-next : (after : Record) → ((target : ℕ) → t.course.status ≡ Waiting target → offers_number m.number event ≡ false)
+        → (not (is_left_stay r.slot.stay) && has_run_out s.retention_seconds at r) ≡ false
+        → record_after s at event m.number r ≡ Some after → IsTold m (told_after s at event m t) after
+    told-next after unoffered settled h = by_stay r.slot.stay is.standing settled h
+      where
+        by_stay : (stay : Stay) → IsStanding stay r.slot.due t.course t.ran_out → (not (is_left_stay stay) && has_run_out s.retention_seconds at r) ≡ false
+            → record_after_stay s at event m.number stay r ≡ Some after → IsTold m (told_after s at event m t) after
+        by_stay Hidden stands unexpired k = here-next after stands.0 stands.2 unexpired k
+        by_stay Shown stands unexpired k = here-next after stands.0 stands.2 unexpired k
+        by_stay (Left target ran_out) stands unexpired k = left-next target stands.0 (unoffered target stands.0) ran_out after stands.1 k
+
+    -- and a message that loses its record is not there, or has run out in a period that is over, and does not wait
+    pub told-gone : record_after s at event m.number r ≡ None
+        → IsGone (told_after s at event m t).course.status (told_after s at event m t).ran_out
+    told-gone h = by_stay r.slot.stay is.standing h
+      where
+        stands_as : (status : Status) (ran_out : Bool) → (told_after s at event m t).course.status ≡ status → (told_after s at event m t).ran_out ≡ ran_out
+            → IsGone status ran_out
+            → IsGone (told_after s at event m t).course.status (told_after s at event m t).ran_out
+        stands_as status ran_out e f k = rw (e, f) k
+
+        by_tests : (target : ℕ) → t.course.status ≡ Waiting target → (lost ran_out confirmed closed : Bool) → loses target event ≡ lost → t.ran_out ≡ ran_out → (effect_of event).confirms m.number ≡ confirmed
+            → closes event ≡ closed
+            → left_by r target lost ran_out confirmed closed ≡ None
+            → IsGone (told_after s at event m t).course.status (told_after s at event m t).ran_out
+        by_tests target waiting true true confirmed closed e f g k is_none = stands_as Present true (rw (waiting, e) refl) (rw f refl) (refl, refl)
+        by_tests target waiting true false confirmed closed e f g k is_none = absurd (none-some (back_at at r) (sym is_none))
+        by_tests target waiting false ran_out true closed e f g k is_none = stands_as Transferred (told_after s at event m t).ran_out (rw (waiting, e, g) refl) refl (refl, refl)
+        by_tests target waiting false ran_out false true e f g k is_none = stands_as Removed (told_after s at event m t).ran_out (rw (waiting, e, g, k) refl) refl (refl, refl)
+        by_tests target waiting false ran_out false false e f g k is_none = absurd (none-some _ (sym is_none))
+
+        by_removal : t.course.status ≡ Present → here_after at event m.number r ≡ None
+            → IsGone (told_after s at event m t).course.status (told_after s at event m t).ran_out
+        by_removal present k =
+            let removed = gone_if ((effect_of event).removes m.number) (here_record r) k in
+            stands_as Removed (told_after s at event m t).ran_out (rw (present, removed) refl) refl (refl, refl)
+
+        by_stay : (stay : Stay) → IsStanding stay r.slot.due t.course t.ran_out → record_after_stay s at event m.number stay r ≡ None
+            → IsGone (told_after s at event m t).course.status (told_after s at event m t).ran_out
+        by_stay Hidden stands k = by_removal stands.0 k
+        by_stay Shown stands k = by_removal stands.0 k
+        by_stay (Left target ran_out) stands k = by_tests target stands.0 (loses target event) ran_out ((effect_of event).confirms m.number) (closes event) refl stands.1 refl refl k
+
+-- a message without a record, which neither is live nor waits, and does not leave by the event: it is so after it
+pub untold : (number : ℕ) (event : Event ContentText) (status : Status) (expired later : Bool) → IsGone status expired
+    → (expired ≡ true → later ≡ true) → contains_number number (effect_of event).departures ≡ false
+    → IsGone (status_after number status event) later
+untold number event Present true later gone lasts stays =
+    (rw (lasts refl) (and-false (is_present_status (status_after number Present event))), by_test ((effect_of event).removes number))
+  where
+    by_test : (removed : Bool) → awaits_status (cond removed Removed (cond (contains_number number (effect_of event).departures) (Waiting (effect_of event).target) Present)) ≡ false
+    by_test true = refl
+    by_test false = rw stays refl
+untold number event Present false later gone lasts stays = absurd (false≢true (sym gone.0))
+untold number event Removed expired later gone lasts stays = (refl, refl)
+untold number event (Waiting target) expired later gone lasts stays = absurd (false≢true (sym gone.1))
+untold number event Transferred expired later gone lasts stays = by_test (closes event)
+  where
+    by_test : (closed : Bool) → IsGone (cond closed Removed Transferred) later
+    by_test true = (refl, refl)
+    by_test false = (refl, refl)

@@ -1,0 +1,15 @@
+-- The message comes under the number of those that there were.
+use Rattle.std.proofs.Common.{◌≡◌, arith}
+use Rattle.queue_core.specs.Records.{born_in}
+use Rattle.queue_core.proofs.KeptRecordLemmas.{can_begin, has_begun}
+use Rattle.queue_core.proofs.index.MessageIndex.begin.Goals as goal
+
+pub replace-requires : goal.replace-requires
+replace-requires c =
+    let next : c.len-number.result ≡ born_in c.args.self.now = omega (arith, c.args.self.now.receives.ok.0) in
+    can_begin c.args.self.now c.len-number.result c.args.kept.slot c.requires.indices c.requires.ready next c.requires.few
+
+pub returns-clause-indices : goal.returns-clause-indices
+returns-clause-indices c =
+    let next : c.len-number.result ≡ born_in c.args.self.now = omega (arith, c.args.self.now.receives.ok.0) in
+    has_begun c.args.self.now _ c.len-number.result c.args.kept c.requires.indices c.requires.ready next c.requires.sent c.replace.ensures c.put_record.ensures c.push_reserved.ensures.items

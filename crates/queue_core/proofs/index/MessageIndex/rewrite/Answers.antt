@@ -1,0 +1,12 @@
+-- The slot before is that of a record that is there.
+use Rattle.std.proofs.Common.{refl, Some}
+use Rattle.queue_core.proofs.KeptRecordLemmas.{can_change, has_rewritten}
+use Rattle.queue_core.proofs.index.MessageIndex.rewrite.Goals as goal
+
+pub replace-requires : goal.replace-requires
+replace-requires c = rw c.slot_of-before.ensures (can_change c.args.self.now c.args.number c.requires.indices c.requires.kept (Some c.args.slot) c.requires.few)
+
+pub returns-clause-indices : goal.returns-clause-indices
+returns-clause-indices c =
+    has_rewritten c.args.self.now c.args.number c.requires.indices c.requires.kept _ c.args.first_receive c.args.last_receive c.args.slot c.requires.sent
+    (rw c.slot_of-before.ensures at c.replace.ensures) c.write_parts.ensures.records refl

@@ -1,6 +1,0 @@
-use Rattle.std.proofs.Common.{◌≡◌, drop}
-use Rattle.queue_core.specs.Messages.{created_time}
-use Rattle.queue_core.proofs.reading.created_time.Given as goal
-
-abbrev pub invariant-loop-place : goal.invariant-loop-place
-invariant-loop-place l = created_time (drop l.place l.lines) ≡ created_time l.lines

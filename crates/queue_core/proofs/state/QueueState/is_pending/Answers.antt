@@ -1,0 +1,7 @@
+use Rattle.std.proofs.Common.{◌∙◌}
+use Rattle.queue_core.proofs.QuestionLemmas.{index_of, left_at}
+use Rattle.queue_core.proofs.state.QueueState.is_pending.Goals as goal
+
+pub returns : goal.returns
+returns c =
+    c.is_left.ensures ∙ left_at c.args.self.now c.self.inside.index (index_of _ _ c.self.inside.index c.self.view_is c.self.invariant.2) c.args.number c.slot_of.result c.slot_of.ensures

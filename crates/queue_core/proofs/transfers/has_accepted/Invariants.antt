@@ -1,6 +1,0 @@
-use Rattle.std.proofs.Common.{◌≡◌, drop}
-use Rattle.queue_core.specs.Messages.{has_accepted}
-use Rattle.queue_core.proofs.transfers.has_accepted.Given as goal
-
-abbrev pub invariant-loop-place : goal.invariant-loop-place
-invariant-loop-place l = has_accepted (drop l.place l.lines) l.uid l.number ≡ has_accepted l.lines l.uid l.number

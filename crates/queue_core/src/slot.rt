@@ -1,0 +1,25 @@
+//! Where a message stands in the indices.
+
+/// Where a message stands that a queue has, or that waits for a dead-letter queue.
+#[derive(Clone, Copy, Debug, PartialEq, Eq)]
+pub(crate) enum Stay {
+    /// It is there, and its due time was not reached when that was last looked at.
+    Hidden,
+    /// It is there, and may be received.
+    Shown,
+    /// It has left for the dead-letter queue of a uid, which has not confirmed the transfer. Its retention
+    /// may have ended in a period of settings that is over.
+    Left { target: u64, ran_out: bool },
+}
+
+/// What the indices have to know of a message.
+#[derive(Clone, Copy, Debug, PartialEq, Eq)]
+pub(crate) struct Slot {
+    pub stay: Stay,
+    /// When it is to be offered next, in milliseconds. It may pass the greatest moment.
+    pub due: u64,
+    /// When it was first sent, in milliseconds.
+    pub sent: u64,
+    /// Whether it was never received here, nor brought back.
+    pub is_fresh: bool,
+}
