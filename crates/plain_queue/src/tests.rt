@@ -1,0 +1,112 @@
+//! Commands from scripts, performed on a queue: before each its answer is foreseen from the journal's
+//! entries, and after it what the queue tells is compared with what they say. No answer is written down.
+
+mod commands;
+mod said;
+mod scripts;
+
+use super::*;
+use commands::{open, origin, step};
+use journal::{Moment, Ticks};
+use message::Fault;
+use metric_window::minute_of;
+use queue_core::plain::{Entries, minute_flows};
+use queue_core::{Look, QueueState, Reply, Step};
+use said::{alarm_of, first_waiting_of, foreseen, look_of, rows_of, tell_received};
+use std::alloc::Global;
+use std::process::Abort;
+use std::test::Fail;
+
+/// Tells an answer as it is foreseen.
+fn told(alloc: Global, queue: &QueueState, answer: &Result<Reply, Fault>) -> Result<String, Fault> {
+    match answer {
+        Ok(Reply::Received(offers)) => {
+            tell_received(alloc, &Entries::of(queue.journal()), offers.as_slice())
+        }
+        Ok(reply) => Ok(format!(in alloc; "{reply:?}")?),
+        Err(fault) => Ok(format!(in alloc; "{fault:?}")?),
+    }
+}
+
+/// Asserts that the metrics of each minute and the state of the alarm are those of the entries.
+fn compare_rows(
+    rt: &impl Abort,
+    alloc: Global,
+    queue: &QueueState,
+    clock: Moment,
+    call: &str,
+) -> Result<(), Fail> {
+    let lines = &Entries::of(queue.journal());
+    let rows = rows_of(alloc, lines, clock)?;
+    assert_eq!(rt; queue.rows(alloc)?.as_slice(), rows.as_slice(), "{call}");
+    for row in rows.as_slice() {
+        assert_eq!(rt; queue.row(row.minute), Some(*row), "{call}");
+    }
+    let state = alarm_of(lines, clock, rows.as_slice())?;
+    assert_eq!(rt; queue.alarm_state(0), Some(state), "{call}");
+    Ok(())
+}
+
+/// Asserts that what the queue tells is what its entries say.
+fn compare(rt: &impl Abort, queue: &QueueState, look: Look, call: &str) -> Result<(), Fail> {
+    let lines = &Entries::of(queue.journal());
+    assert_eq!(rt; look, look_of(lines, look.clock), "{call}");
+    assert_eq!(rt; queue.message_count(), message_count(lines), "{call}");
+    assert_eq!(rt; queue.first_waiting(), first_waiting_of(lines)?, "{call}");
+    for number in 0..4 {
+        let from = origin(number, Moment::zero())?;
+        let known = has_accepted(lines, from.uid, from.number);
+        assert_eq!(rt; queue.has_accepted(&from), known, "{call}");
+    }
+    let flows = minute_flows(lines, minute_of(look.clock));
+    assert_eq!(rt; queue.current(), flows, "{call}");
+    Ok(())
+}
+
+/// Performs the command of a line on a queue whose clock is known, and gives its clock afterwards. The rows, which
+/// are those of the minutes before, are compared where another minute begins.
+fn perform(
+    rt: &impl Abort,
+    alloc: Global,
+    queue: &mut QueueState,
+    clock: Moment,
+    call: &str,
+    ticks: &mut Ticks,
+) -> Result<Moment, Fail> {
+    let Step { at, command } = step(alloc, call)?;
+    let lines = Entries::of(queue.journal());
+    let wanted = foreseen(alloc, &lines, clock.later(at), &command)?;
+    let answer = queue.perform(alloc, at, &command, ticks);
+    if let Some(wanted) = wanted {
+        let told = told(alloc, queue, &answer)?;
+        assert_eq!(rt; told.as_str(), wanted.as_str(), "{call}");
+    }
+    let look = queue.look(Moment::zero(), ticks);
+    let now = look.clock;
+    compare(rt, queue, look, call)?;
+    if minute_of(clock) != minute_of(now) {
+        compare_rows(rt, alloc, queue, now, call)?;
+    }
+    Ok(now)
+}
+
+/// Performs a script: its first line opens the queue, each other one is a command.
+fn run(rt: &impl Abort, host: &HostRuntime, script: &str) -> Result<(), Fail> {
+    let ticks = &mut Ticks::new(host);
+    let (first, calls) = script.split_once("\n").unwrap_or((script, ""));
+    let mut queue = open(host.alloc(), first)?;
+    let mut clock = Moment::zero();
+    for call in calls.lines() {
+        clock = perform(rt, host.alloc(), &mut queue, clock, call, ticks)?;
+    }
+    compare_rows(rt, host.alloc(), &queue, clock, script)
+}
+
+#[test]
+fn queues_tell_what_their_journals_say(rt: HostRuntime) -> Result<(), Fail> {
+    for script in scripts::SCRIPTS {
+        run(&rt, &rt, script)?;
+    }
+    let script = scripts::drawn(rt.alloc(), 200)?;
+    run(&rt, &rt, script.as_str())
+}
