@@ -23,6 +23,7 @@ pub mod LastingLemmas
 mod CountedLemmas
 mod WindowLemmas
 mod RowLemmas
+mod WatchLemmas
 mod SlotCountLemmas
 mod SlotLemmas
 mod MomentLemmas

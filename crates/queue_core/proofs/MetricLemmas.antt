@@ -32,7 +32,7 @@ use Rattle.queue_core.proofs.BeforeLemmas.{not_before}
 use Rattle.queue_core.proofs.LastingLemmas.{lasts_all}
 use Rattle.queue_core.proofs.MarkLemmas.{map_agree, created_time-marks, gauges_of-marks}
 
-row-parts : (minute : ℕ) (f g : Flows) (a b : Gauges) → f ≡ g → a ≡ b
+pub row-parts : (minute : ℕ) (f g : Flows) (a b : Gauges) → f ≡ g → a ≡ b
     → (let r : Row = record { minute = minute; flows = f; gauges = a } in r) ≡ record { minute = minute; flows = g; gauges = b }
 row-parts minute f g a b p q = rw (p, q) refl
 
@@ -121,7 +121,7 @@ rows-flows : (lines : List (Entry ContentText)) (ms : List ℕ) → map (λ r. r
 rows-flows lines [] = refl
 rows-flows lines (m ∷ ms) = ap (λ (fs : List Flows). minute_flows content_size lines m ∷ fs) (rows-flows lines ms)
 
-not_after : (from clock : ℕ) (lines : List (Entry ContentText)) → IsOrdered from lines clock → from ≤ clock
+pub not_after : (from clock : ℕ) (lines : List (Entry ContentText)) → IsOrdered from lines clock → from ≤ clock
 not_after from clock [] h = h
 not_after from clock (e ∷ es) h = omega (arith, h.0, not_after e.at clock es h.1)
 

@@ -172,15 +172,29 @@ module _ (q : QueueHistory) (x : MessageIndex) (is : IsIndexOf q.lines q.clock x
       ∙ ap (λ (n : ℕ). nat_lt (last_receive_time q.lines number + 43200000) (n + 1000 * seconds)) now
       ∙ ap (λ (n : ℕ). nat_lt (last_receive_time q.lines number + 43200000) (q.clock + 1000 * n)) given
 
-  pub age_at : (number since clock age : ℕ) (r : Record) → Some r ≡ records_in x number → since ≡ r.enqueue_time → clock ≡ q.clock → age ≡ clock - since
-      → (m : Message) → message_numbered q.lines number ≡ Some m → age / 1000 ≡ (q.clock - m.enqueue_time) / 1000
-  age_at number since clock age r same at now is_age m e =
-      ap (λ (n : ℕ). n / 1000) (is_age ∙ ap (λ (n : ℕ). clock - n) (at ∙ enqueued_at number r same m e) ∙ ap (λ (n : ℕ). n - m.enqueue_time) now)
+  -- the first that is there is the oldest
+  live_at : (number : ℕ) (b : Bool) → is_here (slots_in x number) ≡ b → is_numbered (λ m. is_live q.lines q.clock m) q.lines number ≡ b
+  live_at number b h = sym (here_at number (slots_in x number) refl) ∙ h
+
+  kept_here : (o : Option Record) → is_here (slot_in o) ≡ true → (r : Record) × (o ≡ Some r)
+  kept_here None h = absurd (false≢true h)
+  kept_here (Some r) h = (r, refl)
+
+  pub oldest_by : (number age : ℕ) → is_here (slots_in x number) ≡ true → ((k : ℕ) → k < number → is_here (slots_in x k) ≡ false)
+      → ((r : Record) → records_in x number ≡ Some r → age ≡ (q.clock - r.enqueue_time) / 1000) → age ≡ oldest_age q.lines q.clock
+  oldest_by number age here first is_age =
+      let kept = kept_here (records_in x number) here in
+      oldest_age-found q.lines q.clock number age (λ k h. live_at k false (first k h)) (live_at number true here)
+      (λ m e. is_age kept.0 kept.1 ∙ ap (λ (n : ℕ). (q.clock - n) / 1000) (enqueued_at number kept.0 (sym kept.1) m e))
 
   -- ---- counts
 
   born_is : born_in x ≡ message_count q.lines
   born_is = ap length is.recorded.receives ∙ length-map-range_with_len (λ n. receive_count q.lines n) 0 (message_count q.lines)
+
+  pub oldest_none : ((k : ℕ) → k < born_in x → is_here (slots_in x k) ≡ false) → 0 ≡ oldest_age q.lines q.clock
+  oldest_none none =
+      oldest_age-none q.lines q.clock (message_count q.lines) (omega arith) (λ k h. live_at k false (none k (omega (arith, h, born_is))))
 
   indices_are : AreIndexed (slots_in x) (message_count q.lines) x.indices
   indices_are = subst (λ (n : ℕ). AreIndexed (slots_in x) n x.indices) born_is is.indexed.indices.indices

@@ -12,7 +12,7 @@ modified_from-push time [] e = refl
 modified_from-push time (x ∷ xs) e = modified_from-push (cond (gives_settings x.event) x.at time) xs e
 
 -- a journal that begins with an opening was created then, whatever comes behind
-created_time-push : (q : QueueHistory) (lines : List Line) (e : Line) → BeginsAndFollows q lines → created_time (lines ++ e ∷ []) ≡ created_time lines
+pub created_time-push : (q : QueueHistory) (lines : List Line) (e : Line) → BeginsAndFollows q lines → created_time (lines ++ e ∷ []) ≡ created_time lines
 created_time-push q [] e begins = absurd begins
 created_time-push q (x ∷ xs) e begins =
     let is : opens x.event ≡ true = ap opens begins.0.opened in

@@ -15,6 +15,7 @@ pub mod Accepted
 pub mod Kept
 pub mod Run
 pub mod Metrics
+pub mod Watched
 pub mod Turns
 pub mod Lasting
 pub mod Examples

@@ -24,6 +24,7 @@
 mod accepted;
 mod applying;
 mod command;
+mod counts;
 mod entries;
 pub mod examples;
 mod facts;
@@ -35,6 +36,7 @@ mod metrics;
 mod numbering;
 mod offers;
 mod parcel;
+mod passing;
 pub mod plain;
 mod reading;
 mod record;
@@ -42,6 +44,7 @@ mod reply;
 mod slot;
 mod state;
 mod tally;
+mod watch;
 #[cfg(test)]
 mod tests;
 

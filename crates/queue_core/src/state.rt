@@ -1,4 +1,4 @@
-//! A queue, kept as its journal, a clock, and an index of its messages.
+//! A queue, kept as its journal, a clock, an index of its messages, and a watch of its last minutes.
 
 ghost use Rattle.std.specs.Prelude.{◌≡◌, ℕ, ◌+◌, ◌-◌, ◌<◌, ◌≤◌, ◌^◌, ◌/◌, ◌≢◌, nat_lt, nat_le, true, false, length, slice_get, option_map, if◌then◌else◌, unwrap_or, Some, None, IsTrue, IfSome, IfOk, OnOk, OnErr, IfErr};
 ghost use Rattle.std.specs.Option.{ForSome, option_map_or};
@@ -9,16 +9,17 @@ ghost use Rattle.queue_config.specs.Settings.{AreSettings, settings_with};
 
 use crate::accepted::Accepted;
 use crate::command::{Command, Maximum, Step, Timeout};
-use crate::entries::Entries;
 use crate::index::MessageIndex;
 use crate::indices::{is_here, is_in_flight};
 use crate::offers::{Offer, Offers};
+use crate::passing::catch_up;
 use crate::record::{Record, record_born};
 use crate::reply::{Look, Posted, Reply};
 use crate::tally::Tally;
+use crate::watch::Watch;
 use journal::{Entry, Event, Journal, Moment, Numbers, Origin, Ticks};
 use message::{Content, Fault, MessageId, QueueName};
-use metric_window::Gauges;
+use metric_window::{Gauges, minute_of};
 use queue_config::{AlarmRule, Limits, Settings, Wish};
 use receipt_handle::Handle;
 use std::alloc::Global;
@@ -56,6 +57,7 @@ pub struct QueueState {
     tally: Tally,
     index: MessageIndex,
     accepted: Accepted,
+    watch: Watch,
 }
 
 impl Model for QueueState {
@@ -64,12 +66,14 @@ impl Model for QueueState {
     ghost use Rattle.queue_core.specs.Tally.{Tallies};
     ghost use Rattle.queue_core.specs.Indexed.{IsIndexOf};
     ghost use Rattle.queue_core.specs.Accepted.{AreAccepted};
+    ghost use Rattle.metric_window.specs.Flows.{minute_of};
+    ghost use Rattle.queue_core.specs.Watched.{IsWatchOf};
 
     ghost Value = { QueueHistory };
 
     ghost view = { λ q. record { uid = q.uid; name = q.name; limits = q.limits; rules = q.rules.items; clock = q.clock; lines = q.journal.lines } };
 
-    ghost invariant = { λ q. IsKept (record { uid = q.uid; name = q.name; limits = q.limits; rules = q.rules.items; clock = q.clock; lines = q.journal.lines }) q.journal.limit × Tallies q.tally q.journal.lines × IsIndexOf q.journal.lines q.clock q.index × AreAccepted q.accepted q.journal.lines };
+    ghost invariant = { λ q. IsKept (record { uid = q.uid; name = q.name; limits = q.limits; rules = q.rules.items; clock = q.clock; lines = q.journal.lines }) q.journal.limit × Tallies q.tally q.journal.lines × IsIndexOf q.journal.lines q.clock q.index × AreAccepted q.accepted q.journal.lines × IsWatchOf q.journal.lines (minute_of q.clock) q.rules.items q.watch };
 }
 
 impl QueueState {
@@ -103,6 +107,7 @@ impl QueueState {
         let _seconds = settings.delay_seconds;
         let event = Event::Opened { uid, settings };
         journal.push(alloc, Entry { at, event })?;
+        let watch = Watch::open(alloc, minute_of(at), rules.as_slice())?;
         Ok(QueueState {
             uid,
             name,
@@ -113,14 +118,8 @@ impl QueueState {
             tally: Tally::opened(settings, at),
             index: MessageIndex::new(alloc),
             accepted: Accepted::new(alloc),
+            watch,
         })
-    }
-
-    /// All entries of its journal.
-    fn entries(&self) -> Entries<'_>
-        ensures { result ≡ self.now.lines }
-    {
-        Entries::of(&self.journal)
     }
 
     /// Moves the clock to a moment, where that is later.
@@ -129,9 +128,10 @@ impl QueueState {
     {
         // The journal has at most one entry more than this, a number of 25 bits.
         let _most = self.limits.max_lines;
-        self.clock = self.clock.later(at);
+        let clock = self.clock.later(at);
         let retention = self.tally.settings.retention_seconds;
-        self.index.settle(retention, self.clock, ticks);
+        catch_up(&mut self.index, &mut self.watch, retention, clock, ticks);
+        self.clock = clock;
     }
 
     /// Whether the journal has as many entries as it may have.
@@ -491,7 +491,9 @@ impl QueueState {
         self.index.settle(retention, at, ticks);
         self.accepted.note(&event);
         self.tally = tally;
-        self.journal.push_reserved(Entry { at, event });
+        let entry = Entry { at, event };
+        self.watch.window.count(&entry);
+        self.journal.push_reserved(entry);
         Ok(())
     }
 
@@ -764,38 +766,7 @@ impl QueueState {
         ensures counts { result ≡ gauges_of self.now.lines self.now.clock }
         ensures legal { IsLegal self.now }
     {
-        Gauges {
-            visible: self.index.indices.visible.len() as u64,
-            delayed: self.index.indices.delayed,
-            in_flight: self.index.indices.in_flight,
-            age: self.oldest_age(),
-        }
-    }
-
-    /// Whole seconds since the first live message came, 0 where none is live.
-    fn oldest_age(&self) -> u64
-        ensures { result ≡ oldest_age self.now.lines self.now.clock }
-    {
-        for number in 0..self.message_count() {
-            if self.is_live(number) {
-                return self.age_of(number);
-            }
-        }
-        0
-    }
-
-    /// Whole seconds since the live message of a number came.
-    fn age_of(&self, number: u64) -> u64
-        requires { is_numbered (λ m. is_live self.now.lines self.now.clock m) self.now.lines number ≡ true }
-        ensures { (m : Message) → message_numbered self.now.lines number ≡ Some m → result ≡ (self.now.clock - m.enqueue_time) / 1000 }
-    {
-        match self.index.records.get(&number) {
-            Some(kept) => {
-                let since = kept.enqueue_time.milliseconds();
-                self.clock.milliseconds().saturating_sub(since) / 1000
-            }
-            None => unreachable!(),
-        }
+        self.index.gauges(self.clock)
     }
 
     /// Does what the call that the command names does. A send shares the content, where the queue is

@@ -1,7 +1,8 @@
-use Rattle.std.proofs.Common.{◌≡◌, ℕ, ◌+◌, ◌++◌, [], ◌∷◌, List, length, Ok, subst, sym, ap, ◌∙◌, arith}
+use Rattle.std.proofs.Common.{◌≡◌, ℕ, ◌+◌, ◌++◌, [], ◌∷◌, List, length, Ok, refl, subst, sym, ap, ◌∙◌, arith}
 use Rattle.message.specs.Content.{ContentText}
 use Rattle.journal.specs.declared.entry.Entry.{Entry}
 use Rattle.journal.specs.Journal.{Lines}
+use Rattle.queue_core.specs.declared.watch.Watch.{Watch}
 use Rattle.queue_core.specs.Queue.{QueueHistory}
 use Rattle.queue_core.specs.Messages.{message_count}
 use Rattle.queue_core.specs.Legal.{IsCausedIn}
@@ -9,9 +10,12 @@ use Rattle.queue_core.specs.Kept.{IsKept}
 use Rattle.queue_core.specs.Tally.{births, Tallies}
 use Rattle.queue_core.specs.Indexed.{IsIndexOf}
 use Rattle.queue_core.specs.Accepted.{AreAccepted}
+use Rattle.metric_window.specs.Flows.{minute_of}
+use Rattle.queue_core.specs.Watched.{IsWatchOf}
 use Rattle.queue_core.proofs.LegalLemmas.{IsKept-pushed}
 use Rattle.queue_core.proofs.TallyLemmas.{tallies-push, GoesOn}
 use Rattle.queue_core.proofs.IndexLemmas.{same-index, few_born, few-more, can_apply, event-index}
+use Rattle.queue_core.proofs.WatchLemmas.{watch-pushed}
 use Rattle.queue_core.proofs.AcceptedLemmas.{accepted-same, accepted-noted}
 use Rattle.queue_core.proofs.state.QueueState.add.Goals as goal
 
@@ -22,6 +26,7 @@ invariant_of-self c = (
   c.self.invariant.1,
   same-index c.self.inside.journal.lines c.self.inside.clock c.self.inside.index c.self.invariant.2 c.make_room.new.self c.make_room.ensures.same c.make_room.ensures.indexed,
   c.self.invariant.3,
+  c.self.invariant.4,
 )
 
 pub invariant_of-self-in_err-make_place : goal.invariant_of-self-in_err-make_place
@@ -30,6 +35,7 @@ invariant_of-self-in_err-make_place c = (
   c.self.invariant.1,
   same-index c.self.inside.journal.lines c.self.inside.clock c.self.inside.index c.self.invariant.2 c.make_room.new.self c.make_room.ensures.same c.make_room.ensures.indexed,
   accepted-same c.self.inside.journal.lines c.self.inside.accepted c.make_place.new.self c.self.invariant.3 c.make_place.ensures.same,
+  c.self.invariant.4,
 )
 
 pub invariant_of-self-in_err-reserve : goal.invariant_of-self-in_err-reserve
@@ -38,7 +44,7 @@ invariant_of-self-in_err-reserve c =
     let limit = ap (λ (j : Lines). j.limit) c.reserve.ensures.lines in
     let index = same-index c.self.inside.journal.lines c.self.inside.clock c.self.inside.index c.self.invariant.2 c.make_room.new.self c.make_room.ensures.same c.make_room.ensures.indexed in
     let accepted = accepted-same c.self.inside.journal.lines c.self.inside.accepted c.make_place.new.self c.self.invariant.3 c.make_place.ensures.same in
-    rw (lines, limit) (c.self.invariant.0, c.self.invariant.1, index, accepted)
+    rw (lines, limit) (c.self.invariant.0, c.self.invariant.1, index, accepted, c.self.invariant.4)
 
 -- ---- the event
 
@@ -85,6 +91,7 @@ invariant_of-self-2 c =
       messages = c.after-tally.ensures.messages ∙ ap (λ n. n + births c.args.event) (c.messages_so_far.ensures.count ∙ sym (ap (λ (q : QueueHistory). message_count q.lines) c.self.view_is));
     } in
     let tallies = tallies-push q q.lines entry c.self.inside.tally c.after-tally.result c.self.invariant.0.legal.caused c.self.invariant.1 goes in
+    let watch : Watch = record { window = c.count.new.self; alarms = c.self.inside.watch.alarms } in
     let behind =
     event-index q c.args.event c.self.inside.tally.settings _ c.make_room.new.self c.apply.new.self c.settle.new.self c.self.invariant.0.legal caused index c.self.invariant.1.settings
     (record { indexed = c.apply.ensures.indexed; records = c.apply.ensures.records; receives = c.apply.ensures.receives; leaving = c.apply.ensures.leaving })
@@ -95,4 +102,6 @@ invariant_of-self-2 c =
       subst (λ lines. IsIndexOf lines q.clock c.settle.new.self) (sym lines) behind,
       subst (λ lines. AreAccepted c.note.new.self lines) (sym lines)
           (accepted-noted q.lines entry c.self.inside.accepted c.make_place.new.self c.note.new.self c.self.invariant.3 c.make_place.ensures.same c.note.ensures),
+      subst (λ lines. IsWatchOf lines (minute_of q.clock) q.rules watch) (sym lines)
+          (watch-pushed q c.args.event c.self.invariant.0.legal q.rules c.self.inside.watch watch c.self.invariant.4 c.count.ensures refl),
     )

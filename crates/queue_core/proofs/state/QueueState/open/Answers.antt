@@ -1,6 +1,12 @@
-use Rattle.std.proofs.Common.{arith, refl, subst, ap}
+use Rattle.std.proofs.Common.{◌≡◌, ◌≤◌, List, map, arith, refl, subst, ap, ◌∙◌}
+use Rattle.std.specs.List.{All}
 use Rattle.queue_config.specs.Settings.{QueueSettings, AreSettings}
+use Rattle.queue_config.specs.AlarmRules.{Rule}
+use Rattle.metric_window.specs.KeptRows.{opened_at}
+use Rattle.metric_window.specs.Window.{longest_window}
+use Rattle.alarm.specs.KeptAlarm.{new_alarm}
 use Rattle.queue_core.proofs.IndexLemmas.{opened-index}
+use Rattle.queue_core.proofs.WatchLemmas.{watch-opened}
 use Rattle.queue_core.proofs.state.QueueState.open.Goals as goal
 
 pub invariant_of-result : goal.invariant_of-result
@@ -20,4 +26,6 @@ invariant_of-result c =
       record { settings = c.opened.ensures.0; created = c.opened.ensures.1; modified = c.opened.ensures.2; closed = c.opened.ensures.3; messages = c.opened.ensures.4 },
       index,
       c.new-3.ensures,
+      watch-opened c.args.at c.args.uid c.args.settings c.args.rules.items c.in_ok-watch.watch (c.in_ok-watch.ensures.window ∙ ap opened_at c.minute_of.ensures) (subst (λ (rules : List Rule). c.in_ok-watch.watch.alarms.items ≡ map new_alarm rules) c.as_slice.ensures.value c.in_ok-watch.ensures.alarms)
+      (subst (λ (rules : List Rule). All (λ rule. rule.minutes ≤ longest_window) rules) c.as_slice.ensures.value c.in_ok-watch.ensures.allowed),
     )

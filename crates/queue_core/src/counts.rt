@@ -1,0 +1,66 @@
+//! The counts of a queue's messages and the age of the oldest, by its index.
+
+ghost use Rattle.std.specs.Prelude.{◌≡◌, ℕ, ◌-◌, ◌<◌, ◌/◌, true, false, Some, IfSome, IfNone};
+ghost use Rattle.queue_core.specs.States.{gauges_of, oldest_age};
+ghost use Rattle.queue_core.specs.Queue.{QueueHistory};
+ghost use Rattle.queue_core.specs.Slots.{is_here};
+ghost use Rattle.queue_core.specs.declared.record.Record.{Record};
+ghost use Rattle.queue_core.specs.Records.{records_in, slots_in, born_in};
+ghost use Rattle.queue_core.specs.Indexed.{IsIndexOf};
+
+use crate::index::MessageIndex;
+use crate::indices::is_here;
+use journal::Moment;
+use metric_window::Gauges;
+
+impl MessageIndex {
+    /// The counts and the age at a time to which the index has come.
+    pub(crate) fn gauges(&self, at: Moment) -> Gauges
+        ensures { (q : QueueHistory) → q.clock ≡ at → IsIndexOf q.lines q.clock self.now → result ≡ gauges_of q.lines q.clock }
+    {
+        Gauges {
+            visible: self.indices.visible.len() as u64,
+            delayed: self.indices.delayed,
+            in_flight: self.indices.in_flight,
+            age: self.oldest_age(at),
+        }
+    }
+
+    /// Whole seconds since the first message that is there came, 0 where none is there.
+    fn oldest_age(&self, at: Moment) -> u64
+        ensures { (q : QueueHistory) → q.clock ≡ at → IsIndexOf q.lines q.clock self.now → result ≡ oldest_age q.lines q.clock }
+    {
+        match self.first_here() {
+            Some(number) => self.age_of(number, at),
+            None => 0,
+        }
+    }
+
+    /// The number of the first message that is there.
+    fn first_here(&self) -> Option<u64>
+        ensures here { IfSome result (λ number. is_here (slots_in self.now number) ≡ true) }
+        ensures first { IfSome result (λ number. (k : ℕ) → k < number → is_here (slots_in self.now k) ≡ false) }
+        ensures none { IfNone result ((k : ℕ) → k < born_in self.now → is_here (slots_in self.now k) ≡ false) }
+    {
+        for number in 0..self.receives.len() as u64 {
+            if is_here(self.slot_of(number)) {
+                return Some(number);
+            }
+        }
+        None
+    }
+
+    /// Whole seconds since the message of a number, which is there, came.
+    fn age_of(&self, number: u64, at: Moment) -> u64
+        requires { is_here (slots_in self.now number) ≡ true }
+        ensures { (r : Record) → records_in self.now number ≡ Some r → result ≡ (at - r.enqueue_time) / 1000 }
+    {
+        match self.records.get(&number) {
+            Some(kept) => {
+                let since = kept.enqueue_time.milliseconds();
+                at.milliseconds().saturating_sub(since) / 1000
+            }
+            None => unreachable!(),
+        }
+    }
+}
