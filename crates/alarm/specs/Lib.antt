@@ -1,1 +1,2 @@
 pub mod AlarmState
+pub mod KeptAlarm

@@ -3,11 +3,13 @@
 
 ghost use Rattle.std.specs.Prelude.{◌≡◌, ◌↔◌, ℕ, ◌+◌, ◌≤◌, ◌<◌, not, List, ◌++◌, length, IsTrue};
 ghost use Rattle.std.specs.List.{All};
+ghost use Rattle.circular_buffer.specs.Buffer.{keep_last};
 ghost use Rattle.queue_config.specs.AlarmRules.{Rule};
 ghost use Rattle.queue_config.specs.declared.operator.Operator.TheVariants.{GreaterThanThreshold, GreaterThanOrEqualToThreshold, LessThanThreshold, LessThanOrEqualToThreshold};
 ghost use Rattle.metric_window.specs.declared.row.Row.{Row};
 ghost use Rattle.alarm.specs.AlarmState.{compares, satisfies, breaches_in, state_with, alarm_state_of};
 ghost use Rattle.alarm.specs.declared.state.AlarmState.TheVariants.{InsufficientData, Okay, Alarm};
+ghost use Rattle.alarm.specs.KeptAlarm.{new_alarm, with_minutes, kept_state};
 
 /// What each state says.
 pub fn states_tell_minutes_and_breaches()
@@ -47,4 +49,11 @@ pub fn breaches_add_up()
 pub fn all_minutes_are_breaches()
     ensures { (rule : Rule) (complete : ℕ) (rows : List Row) → length rows ≤ rule.breaches
         → alarm_state_of rule complete rows ≡ Alarm → All (λ row. IsTrue (satisfies rule row)) rows }
+{}
+
+/// An alarm that was told the rows of all minutes since the queue's creation, one by one, has the state of
+/// its rule: by how many they are, and by the last ones.
+pub fn states_are_of_the_rows_told()
+    ensures { (rule : Rule) (rows : List Row)
+        → kept_state (with_minutes (new_alarm rule) rows) ≡ alarm_state_of rule (length rows) (keep_last rule.minutes rows) }
 {}

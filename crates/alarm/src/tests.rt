@@ -3,7 +3,7 @@
 
 use super::*;
 use metric_window::{Flows, Gauges, Row};
-use queue_config::{ALL_METRICS, AlarmRule, config_from_text};
+use queue_config::{ALL_METRICS, AlarmRule, ConfigFault, config_from_text};
 use std::alloc::Global;
 use std::test::Fail;
 
@@ -31,12 +31,12 @@ fn row(refused: u64) -> Row {
 }
 
 /// The rule for refused calls that these keys of an alarm's table say, in one line.
-fn rule(alloc: Global, keys: &str) -> Result<AlarmRule, Fail> {
+fn rule(alloc: Global, keys: &str) -> Result<AlarmRule, ConfigFault> {
     let mut text = String::from_str(alloc, "queue = [{name = \"jobs\"}]\n")?;
     text.push_str("alarm = [{queue = \"jobs\", name = \"deep\", metric = \"RefusedCalls\", ")?;
     write!(text, "{keys}}}]")?;
     let config = config_from_text(alloc, text.as_str())?;
-    Ok(config.alarms.first().ok_or("an alarm")?.rule)
+    Ok(config.alarms.first().ok_or(ConfigFault::NoSuchTarget)?.rule)
 }
 
 /// How many breaches there are and the state, where a text says how many minutes are complete and how many
@@ -108,6 +108,78 @@ fn lines(rt: HostRuntime) -> Result<(), Fail> {
         for text in texts.split(" | ") {
             let told = told(rt.alloc(), judged_by.as_ref().ok_or("a rule")?, text)?;
             assert_eq!(rt; told.as_str(), wanted, "{line}");
+        }
+    }
+    Ok(())
+}
+
+/// Does what a call says of an alarm, and gives what is told. The text has its memory first, so that the
+/// call can be made again where memory is refused.
+fn told_of(alloc: Global, talk: &mut Option<Alarm>, call: &str) -> Result<String, ConfigFault> {
+    let mut text = String::with_capacity(alloc, 100)?;
+    let (verb, rest) = call.split_once(' ').unwrap_or((call, ""));
+    if verb == "new" {
+        *talk = Some(Alarm::new(alloc, rule(alloc, rest)?)?);
+    }
+    let alarm = talk.as_mut().ok_or(ConfigFault::Syntax)?;
+    if verb == "told" {
+        let (count, value) = rest.split_once(' ').ok_or(ConfigFault::Syntax)?;
+        let count = count.parse::<u64>().map_err(|_| ConfigFault::WrongKind)?;
+        let value = value.parse::<u64>().map_err(|_| ConfigFault::WrongKind)?;
+        for _ in 0..count {
+            alarm.minute_closed(&row(value));
+        }
+    }
+    write!(text, "{}", alarm.state().name())?;
+    if verb == "name" {
+        write!(text, " {}", alarm.name().as_text())?;
+    }
+    Ok(text)
+}
+
+/// The state after each call, with `|` between calls after which it is the same. `told` says of how many
+/// minutes an alarm is told, and how many calls were refused in each.
+const CALLS: &str = r#"// The queue was created in minute 0, and the first breach is in minute 3.
+new operator = "GreaterThanThreshold", threshold = 0, minutes = 3, breaches = 2 | told 2 0 => INSUFFICIENT_DATA
+name => INSUFFICIENT_DATA deep
+told 1 0 | told 1 1 => OK
+told 1 1 | told 1 1 => ALARM
+// Two of the last three, wherever they are, and no other.
+told 1 0 => ALARM
+told 1 0 | told 1 1 | told 1 0 => OK
+told 1 1 => ALARM
+told 2 0 => OK
+told 2 18446744073709551615 => ALARM
+// Breaches do not make up for minutes.
+new operator = "GreaterThanThreshold", threshold = 0, minutes = 3, breaches = 1 | told 2 1 => INSUFFICIENT_DATA
+told 1 0 | told 1 0 => ALARM
+told 1 0 => OK
+// The longest rule, as after a jump; the oldest of its minutes counts, and the one before it does not.
+new operator = "LessThanThreshold", threshold = 1, minutes = 180, breaches = 180 | told 179 0 => INSUFFICIENT_DATA
+told 1 0 | told 300 0 => ALARM
+told 1 1 | told 179 0 => OK
+told 1 0 => ALARM
+// The shortest rule.
+new operator = "GreaterThanOrEqualToThreshold", threshold = 9, minutes = 1 => INSUFFICIENT_DATA
+told 1 9 => ALARM
+told 1 8 => OK
+"#;
+
+/// After each call the state is as its line says. One that finds no memory changes nothing, and is made
+/// again: so this passes with ample memory, and under `rt try --test --fail-alloc N`, which refuses the Nth
+/// allocation.
+#[test]
+fn refused_memory(rt: HostRuntime) -> Result<(), Fail> {
+    let alloc = rt.alloc();
+    let mut talk = None;
+    for line in CALLS.lines().filter(|line| !line.starts_with("//")) {
+        let (calls, wanted) = line.split_once(" => ").ok_or("what is told")?;
+        for call in calls.split(" | ") {
+            let told = match told_of(alloc, &mut talk, call) {
+                Err(ConfigFault::OutOfMemory) => told_of(alloc, &mut talk, call)?,
+                told => told?,
+            };
+            assert_eq!(rt; told.as_str(), wanted, "{call}");
         }
     }
     Ok(())

@@ -1,3 +1,4 @@
 pub mod FlowLemmas
+pub mod KeptLemmas
 pub mod MinuteLemmas
 pub mod WindowLemmas

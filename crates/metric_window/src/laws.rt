@@ -1,13 +1,16 @@
 //! Laws about the definitions in `specs/`. Nothing runs here: each function is empty, and its
 //! contract is the law.
 
-ghost use Rattle.std.specs.Prelude.{◌≡◌, ℕ, ◌+◌, ◌-◌, ◌*◌, ◌<◌, ◌≤◌, ◌==◌, if◌then◌else◌, List, [], ◌∷◌, ◌++◌, map, IsTrue};
+ghost use Rattle.std.specs.Prelude.{◌≡◌, ℕ, ◌+◌, ◌-◌, ◌*◌, ◌<◌, ◌≤◌, ◌==◌, if◌then◌else◌, List, [], ◌∷◌, ◌++◌, map, length, None, IsSome, IsTrue};
 ghost use Rattle.std.specs.List.{All, range_with_len};
 ghost use Rattle.message.specs.Content.{ContentText, content_size};
 ghost use Rattle.journal.specs.declared.entry.Entry.{Entry};
+ghost use Rattle.circular_buffer.specs.Buffer.{keep_last};
 ghost use Rattle.metric_window.specs.declared.flows.Flows.{Flows};
+ghost use Rattle.metric_window.specs.declared.row.Row.{Row};
 ghost use Rattle.metric_window.specs.Flows.{no_flows, flows_of, added, total, capped, minute_of, entries_in, flows_total, minute_flows};
 ghost use Rattle.journal.specs.Mark.{mark_of};
+ghost use Rattle.metric_window.specs.KeptRows.{row_in, AreLast};
 ghost use Rattle.metric_window.specs.Window.{longest_window, window_start, window_end, is_in_window};
 
 /// Counting line by line, from no flows on and up to the greatest number, gives what happened in the
@@ -49,4 +52,17 @@ pub fn rows_are_of_the_last_minutes()
         → minute_of clock ≤ minute + longest_window }
     ensures longest { (created clock : ℕ)
         → window_end clock ≤ window_start created clock + longest_window }
+{}
+
+/// Rows that fell out before make no difference to those that are kept; and a minute has a row exactly
+/// where it is one of the last, as many as are kept.
+pub fn rows_are_the_last_that_were_closed()
+    ensures fallen { (rows : List Row) (row : Row)
+        → keep_last longest_window (keep_last longest_window rows ++ row ∷ []) ≡ keep_last longest_window (rows ++ row ∷ []) }
+    ensures before { (end minute : ℕ) (rows : List Row) → AreLast end rows
+        → minute + length rows < end → row_in rows minute ≡ None }
+    ensures within { (end minute : ℕ) (rows : List Row) → AreLast end rows
+        → end ≤ minute + length rows → minute < end → IsSome (row_in rows minute) }
+    ensures after { (end minute : ℕ) (rows : List Row) → AreLast end rows
+        → end ≤ minute → row_in rows minute ≡ None }
 {}

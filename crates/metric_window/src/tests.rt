@@ -1,5 +1,5 @@
-//! What each event counts as, the minutes of times and the borders of the window, with numbers that
-//! were worked out by hand.
+//! What each event counts as, the minutes of times, the borders of the window and what a window keeps,
+//! with numbers that were worked out by hand.
 
 use super::*;
 use journal::{Entry, Event, Moment, Numbers, Origin};
@@ -131,5 +131,162 @@ fn lines(rt: HostRuntime) -> Result<(), Fail> {
     }
     assert_eq!(rt; Flows::default(), Flows::none());
     assert_eq!(rt; LONGEST_WINDOW, 180);
+    Ok(())
+}
+
+/// The number that a text is.
+fn number(text: &str) -> Result<u64, Fault> {
+    text.parse::<u64>().map_err(|_| Fault::UnsupportedOperation)
+}
+
+/// Closes so many minutes with counts and an age, which grows by so many seconds from one to the next.
+fn close_minutes(window: &mut Window, numbers: &str) -> Result<(), Fault> {
+    let mut words = numbers.split(' ');
+    let count = number(words.next().unwrap_or(""))?;
+    let mut gauges = Gauges {
+        visible: number(words.next().unwrap_or(""))?,
+        delayed: number(words.next().unwrap_or(""))?,
+        in_flight: number(words.next().unwrap_or(""))?,
+        age: number(words.next().unwrap_or(""))?,
+    };
+    let growth = number(words.next().unwrap_or("0"))?;
+    for _ in 0..count {
+        window.close_minute(gauges);
+        gauges.age = gauges.age.saturating_add(growth);
+    }
+    Ok(())
+}
+
+/// Skips to a minute, where that is a later one.
+fn skip(window: &mut Window, minute: u64) -> Result<(), Fault> {
+    if minute <= window.span().1 {
+        return Err(Fault::InvalidParameterValue);
+    }
+    window.skip_to(minute);
+    Ok(())
+}
+
+/// Writes the seven numbers of flows.
+fn write_flows(text: &mut String, flows: Flows) -> Result<(), Fault> {
+    let (sent, size) = (flows.sent, flows.sent_size);
+    write!(
+        text,
+        "{sent} {size} {} {}",
+        flows.received, flows.empty_receives
+    )?;
+    let (deleted, refused) = (flows.deleted, flows.refused);
+    write!(text, " {deleted} {refused} {}", flows.dead_letters_arrived)?;
+    Ok(())
+}
+
+/// Writes a row: its minute, its flows, and its counts and age.
+fn write_row(text: &mut String, row: Option<Row>) -> Result<(), Fault> {
+    let Some(row) = row else {
+        write!(text, "none")?;
+        return Ok(());
+    };
+    write!(text, "{}: ", row.minute)?;
+    write_flows(text, row.flows)?;
+    let (visible, delayed) = (row.gauges.visible, row.gauges.delayed);
+    let (in_flight, age) = (row.gauges.in_flight, row.gauges.age);
+    write!(text, ", {visible} {delayed} {in_flight} {age}")?;
+    Ok(())
+}
+
+/// Does what a call says of a window, and gives what is told. The text has its memory first, so that the
+/// call can be made again where memory is refused.
+fn told_of(alloc: Global, talk: &mut Option<Window>, call: &str) -> Result<String, Fault> {
+    let mut text = String::with_capacity(alloc, 300)?;
+    let (verb, rest) = call.split_once(' ').unwrap_or((call, "0"));
+    if verb == "open" {
+        *talk = Some(Window::open(alloc, number(rest)?)?);
+        return Ok(text);
+    }
+    let window = talk.as_mut().ok_or(Fault::UnsupportedOperation)?;
+    match verb {
+        "count" => {
+            let (at, event) = (Moment::zero(), event(alloc, rest)?);
+            window.count(&Entry { at, event });
+        }
+        "close" => close_minutes(window, rest)?,
+        "skip" => skip(window, number(rest)?)?,
+        "row" => write_row(&mut text, window.row(number(rest)?))?,
+        "span" => write!(text, "{:?}", window.span())?,
+        _ => write_flows(&mut text, window.current())?,
+    }
+    Ok(text)
+}
+
+/// What is told of each call, with `|` between calls that are told the same; nothing of those that change
+/// the window. `close` says how many minutes, the messages visible, delayed and in flight, the age and by
+/// how much that grows.
+const CALLS: &str = "\
+// Two messages are sent and received in minute 0, and then nothing comes until minute 300: so 120 minutes
+// are skipped. At the end of minute 120 one message is visible again, at the end of the next one both are,
+// and in minute 200 they are gone.
+open 0 | count sent | count sent | count receive-o | count receive-o
+current => 2 10 2 0 0 0 0
+span => (0, 0)
+row 0 => none
+skip 120
+current => 0 0 0 0 0 0 0
+span => (120, 120)
+row 0 | row 119 | row 120 => none
+close 1 1 0 1 7259 | close 79 2 0 0 7319 60 | close 100 0 0 0 0
+span => (120, 300)
+row 120 => 120: 0 0 0 0 0 0 0, 1 0 1 7259
+row 121 => 121: 0 0 0 0 0 0 0, 2 0 0 7319
+row 199 => 199: 0 0 0 0 0 0 0, 2 0 0 11999
+row 200 => 200: 0 0 0 0 0 0 0, 0 0 0 0
+row 299 => 299: 0 0 0 0 0 0 0, 0 0 0 0
+row 0 | row 119 | row 300 | row 18446744073709551615 => none
+// Where nothing comes for 180 minutes, none is skipped: what came before still has its row, and a minute
+// later it has none.
+open 5 | count sent | count deleted | count receive-l
+current => 1 5 0 1 1 0 0
+close 180 0 0 0 0
+span => (5, 185)
+row 5 => 5: 1 5 0 1 1 0 0, 0 0 0 0
+row 6 => 6: 0 0 0 0 0 0 0, 0 0 0 0
+count refused | close 1 3 2 1 9
+span => (6, 186)
+row 5 => none
+row 6 => 6: 0 0 0 0 0 0 0, 0 0 0 0
+row 185 => 185: 0 0 0 0 0 1 0, 3 2 1 9
+current => 0 0 0 0 0 0 0
+// Rows go by a skip, and so does what was counted. No minute is skipped back to.
+count arrived | skip 187
+span => (187, 187)
+row 185 | row 186 => none
+current => 0 0 0 0 0 0 0
+skip 187 | skip 0 => InvalidParameterValue
+// The greatest minute does not end.
+open 18446744073709551614 | count refused | close 1 0 0 0 0 | count arrived | close 2 1 1 1 1
+span => (18446744073709551614, 18446744073709551615)
+row 18446744073709551614 => 18446744073709551614: 0 0 0 0 0 1 0, 0 0 0 0
+row 18446744073709551615 | row 0 => none
+current => 0 0 0 0 0 0 1
+";
+
+/// Each call is told as its line says. One that finds no memory changes nothing, and is made again: so this
+/// passes with ample memory, and under `rt try --test --fail-alloc N`, which refuses the Nth allocation.
+#[test]
+fn refused_memory(rt: HostRuntime) -> Result<(), Fail> {
+    let alloc = rt.alloc();
+    let mut talk = None;
+    for line in CALLS.lines().filter(|line| !line.starts_with("//")) {
+        let (calls, wanted) = line.split_once(" => ").unwrap_or((line, ""));
+        for call in calls.split(" | ") {
+            let told = match told_of(alloc, &mut talk, call) {
+                Err(Fault::OutOfMemory) => told_of(alloc, &mut talk, call),
+                told => told,
+            };
+            let told = match &told {
+                Ok(text) => text.as_str(),
+                Err(fault) => fault.name(),
+            };
+            assert_eq!(rt; told, wanted, "{call}");
+        }
+    }
     Ok(())
 }
