@@ -210,7 +210,7 @@ fn told_of(alloc: Global, talk: &mut Option<Window>, call: &str) -> Result<Strin
         }
         "close" => close_minutes(window, rest)?,
         "skip" => skip(window, number(rest)?)?,
-        "row" => write_row(&mut text, window.row(number(rest)?))?,
+        "minute" => write_row(&mut text, window.row(number(rest)?))?,
         "span" => write!(text, "{:?}", window.span())?,
         _ => write_flows(&mut text, window.current())?,
     }
@@ -218,8 +218,8 @@ fn told_of(alloc: Global, talk: &mut Option<Window>, call: &str) -> Result<Strin
 }
 
 /// What is told of each call, with `|` between calls that are told the same; nothing of those that change
-/// the window. `close` says how many minutes, the messages visible, delayed and in flight, the age and by
-/// how much that grows.
+/// the window. `minute` asks for the row of one. `close` says how many minutes, the messages visible,
+/// delayed and in flight, the age and by how much that grows.
 const CALLS: &str = "\
 // Two messages are sent and received in minute 0, and then nothing comes until minute 300: so 120 minutes
 // are skipped. At the end of minute 120 one message is visible again, at the end of the next one both are,
@@ -227,44 +227,44 @@ const CALLS: &str = "\
 open 0 | count sent | count sent | count receive-o | count receive-o
 current => 2 10 2 0 0 0 0
 span => (0, 0)
-row 0 => none
+minute 0 => none
 skip 120
 current => 0 0 0 0 0 0 0
 span => (120, 120)
-row 0 | row 119 | row 120 => none
+minute 0 | minute 119 | minute 120 => none
 close 1 1 0 1 7259 | close 79 2 0 0 7319 60 | close 100 0 0 0 0
 span => (120, 300)
-row 120 => 120: 0 0 0 0 0 0 0, 1 0 1 7259
-row 121 => 121: 0 0 0 0 0 0 0, 2 0 0 7319
-row 199 => 199: 0 0 0 0 0 0 0, 2 0 0 11999
-row 200 => 200: 0 0 0 0 0 0 0, 0 0 0 0
-row 299 => 299: 0 0 0 0 0 0 0, 0 0 0 0
-row 0 | row 119 | row 300 | row 18446744073709551615 => none
+minute 120 => 120: 0 0 0 0 0 0 0, 1 0 1 7259
+minute 121 => 121: 0 0 0 0 0 0 0, 2 0 0 7319
+minute 199 => 199: 0 0 0 0 0 0 0, 2 0 0 11999
+minute 200 => 200: 0 0 0 0 0 0 0, 0 0 0 0
+minute 299 => 299: 0 0 0 0 0 0 0, 0 0 0 0
+minute 0 | minute 119 | minute 300 | minute 18446744073709551615 => none
 // Where nothing comes for 180 minutes, none is skipped: what came before still has its row, and a minute
 // later it has none.
 open 5 | count sent | count deleted | count receive-l
 current => 1 5 0 1 1 0 0
 close 180 0 0 0 0
 span => (5, 185)
-row 5 => 5: 1 5 0 1 1 0 0, 0 0 0 0
-row 6 => 6: 0 0 0 0 0 0 0, 0 0 0 0
+minute 5 => 5: 1 5 0 1 1 0 0, 0 0 0 0
+minute 6 => 6: 0 0 0 0 0 0 0, 0 0 0 0
 count refused | close 1 3 2 1 9
 span => (6, 186)
-row 5 => none
-row 6 => 6: 0 0 0 0 0 0 0, 0 0 0 0
-row 185 => 185: 0 0 0 0 0 1 0, 3 2 1 9
+minute 5 => none
+minute 6 => 6: 0 0 0 0 0 0 0, 0 0 0 0
+minute 185 => 185: 0 0 0 0 0 1 0, 3 2 1 9
 current => 0 0 0 0 0 0 0
 // Rows go by a skip, and so does what was counted. No minute is skipped back to.
 count arrived | skip 187
 span => (187, 187)
-row 185 | row 186 => none
+minute 185 | minute 186 => none
 current => 0 0 0 0 0 0 0
 skip 187 | skip 0 => InvalidParameterValue
 // The greatest minute does not end.
 open 18446744073709551614 | count refused | close 1 0 0 0 0 | count arrived | close 2 1 1 1 1
 span => (18446744073709551614, 18446744073709551615)
-row 18446744073709551614 => 18446744073709551614: 0 0 0 0 0 1 0, 0 0 0 0
-row 18446744073709551615 | row 0 => none
+minute 18446744073709551614 => 18446744073709551614: 0 0 0 0 0 1 0, 0 0 0 0
+minute 18446744073709551615 | minute 0 => none
 current => 0 0 0 0 0 0 1
 ";
 
