@@ -27,7 +27,9 @@ mod SlotCountLemmas
 mod SlotLemmas
 mod MomentLemmas
 mod VisibleLemmas
+mod AgeLemmas
 mod SlotsIndexedLemmas
+mod AgeRoomLemmas
 mod KeptRecordLemmas
 mod DueLemmas
 mod NumberLemmas
@@ -35,5 +37,6 @@ mod ChangeLemmas
 mod AppliedLemmas
 mod ReceiveLemmas
 mod QuestionLemmas
+mod AgedLemmas
 mod IndexLemmas
 mod AcceptedLemmas

@@ -776,12 +776,10 @@ impl QueueState {
     fn oldest_age(&self) -> u64
         ensures { result ≡ oldest_age self.now.lines self.now.clock }
     {
-        for number in 0..self.message_count() {
-            if self.is_live(number) {
-                return self.age_of(number);
-            }
+        match self.index.first_here() {
+            Some(number) => self.age_of(number),
+            None => 0,
         }
-        0
     }
 
     /// Whole seconds since the live message of a number came.

@@ -1,16 +1,16 @@
-use Rattle.std.proofs.Common.{sym, ◌∙◌, arith, below_more}
-use Rattle.queue_core.proofs.QuestionLemmas.{oldest_age-found, oldest_age-none}
+use Rattle.queue_core.proofs.QuestionLemmas.{index_of}
+use Rattle.queue_core.proofs.AgedLemmas.{first_live, aged_by_first, unaged}
 use Rattle.queue_core.proofs.state.QueueState.oldest_age.Goals as goal
 
+pub first_here-requires : goal.first_here-requires
+first_here-requires c = c.self.invariant.2.indexed.indices
+
 pub age_of-requires : goal.age_of-requires
-age_of-requires c = sym c.is_live.ensures ∙ c.if-is_live.true
+age_of-requires c = first_live c.args.self.now c.self.inside.index (index_of _ _ c.self.inside.index c.self.view_is c.self.invariant.2) c.in-Some.number c.in-Some.ensures
 
-pub returns-then-is_live : goal.returns-then-is_live
-returns-then-is_live c =
-    oldest_age-found c.args.self.now.lines c.args.self.now.clock c.loop-number.number c.age_of.result c.loop-number.invariant (sym c.is_live.ensures ∙ c.if-is_live.true) c.age_of.ensures
+pub returns-in-Some : goal.returns-in-Some
+returns-in-Some c =
+    aged_by_first c.args.self.now c.self.inside.index (index_of _ _ c.self.inside.index c.self.view_is c.self.invariant.2) c.in-Some.number c.age_of.result c.in-Some.ensures c.age_of.ensures
 
-pub loop-number-preserved : goal.loop-number-preserved
-loop-number-preserved c = below_more _ _ c.loop-number.invariant (sym c.is_live.ensures ∙ c.if-is_live.false)
-
-pub returns : goal.returns
-returns c = oldest_age-none c.args.self.now.lines c.args.self.now.clock c.loop-number.number (omega arith) c.loop-number.invariant
+pub returns-in-None : goal.returns-in-None
+returns-in-None c = unaged c.args.self.now c.self.inside.index (index_of _ _ c.self.inside.index c.self.view_is c.self.invariant.2) c.in-None.ensures
