@@ -1,4 +1,4 @@
-//! Indices of messages by their times, and counts of those that cannot be received yet.
+//! Indices of messages by their times and numbers, and counts of those that cannot be received yet.
 
 ghost use Rattle.std.specs.Prelude.{◌≡◌, ℕ, ◌+◌, ◌≤◌, true, false, nat_eq, if◌then◌else◌, None, is_some, AllPairs, OnOk};
 ghost use Rattle.std.specs.FinMap as finite;
