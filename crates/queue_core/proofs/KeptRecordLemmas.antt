@@ -12,7 +12,8 @@ use Rattle.indexmap.specs.IndexMap.{index_map_len, spare}
 use Rattle.queue_core.specs.declared.slot.Slot.{Slot}
 use Rattle.queue_core.specs.declared.record.Record.{Record}
 use Rattle.queue_core.specs.declared.index.MessageIndex.{MessageIndex}
-use Rattle.queue_core.specs.Slots.{count_slots, CanReplace, IsReplaced, AreIndexed, HasRoomForOne}
+use Rattle.queue_core.specs.Ages.{HasPlaces}
+use Rattle.queue_core.specs.Slots.{is_left, count_slots, CanReplace, IsReplaced, AreIndexed, HasRoomForOne}
 use Rattle.queue_core.specs.Changes.{IsReserved, HasRoom}
 use Rattle.queue_core.specs.Records.{records_in, slots_in, born_in, with_parts, HasIndices, IsReady}
 use Rattle.queue_core.proofs.SlotsIndexedLemmas.{can_replace, indexed_replaced, indexed_more, indexed_same, indexed_reserved, room_more, room_for_one}
@@ -63,14 +64,15 @@ kept_below x number r has is = elim (cases_lt number (born_in x)) [
 
 pub can_begin : (x : MessageIndex) (number : ℕ) (slot : Slot) → HasIndices x → IsReady x → number ≡ born_in x → born_in x < 2 ^ 62 → CanReplace number None (Some slot) x.indices
 can_begin x number slot has ready next few =
-    can_replace (slots_in x) (born_in x) x.indices number None (Some slot) has.indices (has.indices.few number (omega arith)) (λ _. ready.indices) few
+    can_replace (slots_in x) (born_in x) x.indices number None (Some slot) has.indices (has.indices.few number (omega arith)) (λ _. ready.indices)
+    (omega (arith, next, ready.place)) few
 
 pub has_begun : (x y : MessageIndex) (number : ℕ) (kept : Record) → HasIndices x → IsReady x → number ≡ born_in x → kept.slot.sent ≡ kept.first_send_time
     → IsReplaced number None (Some kept.slot) x.indices y.indices → ((n : ℕ) → records_in y n ≡ (if nat_eq n number then Some kept else records_in x n))
     → y.receives.items ≡ x.receives.items ++ 0 ∷ [] → HasIndices y
 has_begun x y number kept has ready next sent replaced records receives =
     let none : slots_in x number ≡ None = has.indices.few number (omega arith) in
-    has_replaced x y number (born_in x + 1) (Some kept) (indexed_more (slots_in x) (born_in x) x.indices has.indices) has.sent
+    has_replaced x y number (born_in x + 1) (Some kept) (indexed_more (slots_in x) (born_in x) x.indices has.indices ready.place) has.sent
     (λ r is. let same : kept ≡ r = cc in subst (λ (k : Record). k.slot.sent ≡ k.first_send_time) same sent)
     (omega arith)
     (λ _. room_more (slots_in x) (born_in x) x.indices has.indices ready.indices)
@@ -85,7 +87,10 @@ module _ (x : MessageIndex) (number : ℕ) (has : HasIndices x) (kept : IsSome (
   slot_there none = let k = some_at (records_in x number) kept in let some : slots_in x number ≡ Some k.0.slot = ap slot_in k.1 in absurd cc
 
   pub can_change : (after : Option Slot) → born_in x < 2 ^ 62 → CanReplace number (slots_in x number) after x.indices
-  can_change after few = can_replace (slots_in x) (born_in x) x.indices number (slots_in x number) after has.indices refl (λ none. absurd (slot_there none)) few
+  can_change after few =
+      let k = some_at (records_in x number) kept in
+      can_replace (slots_in x) (born_in x) x.indices number (slots_in x number) after has.indices refl (λ none. absurd (slot_there none))
+      (omega (arith, kept_below x number k.0 has k.1, has.indices.ages.within)) few
 
   has_changed : (y : MessageIndex) (after : Option Record) → ((r : Record) → after ≡ Some r → r.slot.sent ≡ r.first_send_time)
       → IsReplaced number (slots_in x number) (slot_in after) x.indices y.indices → ((n : ℕ) → records_in y n ≡ (if nat_eq n number then after else records_in x n))
@@ -187,9 +192,19 @@ module _ (x y : MessageIndex) (has : HasIndices x) (entries : y.records.entries 
     sent = λ n r is. has.sent n r (sym (same_records n) ∙ is);
   }
 
-  pub ready_reserved : (room : ℕ) → index_map_len x.records < room → HasRoom room room room y.indices → 1 ≤ spare y.records → length y.receives.items < vec_capacity y.receives → IsReady y
-  ready_reserved room more has_room records born =
+  pub ready_reserved : (room left : ℕ) → index_map_len x.records < room → HasRoom room room room y.indices → count_slots is_left (slots_in x) (born_in x) ≡ left
+      → HasPlaces (left + 1) (born_in x + 1) y.indices.ages → 1 ≤ spare y.records → length y.receives.items < vec_capacity y.receives → IsReady y
+  ready_reserved room left more has_room counted places records born =
       let few = kept_count y (born_in y) in
       let same : index_map_len y.records ≡ index_map_len x.records = ap length entries in
       let less : count_slots is_some (slots_in y) (born_in y) < room = omega arith in
-      record { indices = room_for_one (slots_in y) (born_in y) y.indices room room room has_reserved.indices has_room less less less; records = records; receives = born }
+      let slots : slots_in x ≡ slots_in y = λ i. λ n. sym (ap slot_in (same_records n)) i in
+      let length_is : born_in y ≡ born_in x = ap length receives in
+      let left_is : count_slots is_left (slots_in y) (born_in y) ≡ left =
+      ap (λ (count : ℕ). count_slots is_left (slots_in y) count) length_is ∙ ap (λ (s : ℕ → Option Slot). count_slots is_left s (born_in x)) (sym slots) ∙ counted in
+      record {
+        indices = room_for_one (slots_in y) (born_in y) y.indices room room room has_reserved.indices has_room less less less (omega (arith, left_is, places.room));
+        records = records;
+        receives = born;
+        place = omega (arith, length_is, places.within);
+      }

@@ -28,7 +28,9 @@ mod SlotCountLemmas
 mod SlotLemmas
 mod MomentLemmas
 mod VisibleLemmas
+mod AgeLemmas
 mod SlotsIndexedLemmas
+mod AgeRoomLemmas
 mod KeptRecordLemmas
 mod DueLemmas
 mod NumberLemmas

@@ -1,5 +1,5 @@
 -- The indices of all numbers: that a number of them can get another slot, and what they are then.
-use Rattle.std.proofs.Common.{◌≡◌, ℕ, ◌+◌, ◌<◌, ◌≤◌, ◌^◌, Bool, true, false, cond, nat_eq, [], Option, Some, None, is_some, inl, inr, refl, sym, ap, subst, ◌∙◌, arith, eq-eqb, ne_eqb}
+use Rattle.std.proofs.Common.{◌≡◌, ℕ, ◌+◌, ◌<◌, ◌≤◌, ◌^◌, Bool, true, false, cond, nat_eq, [], length, Option, Some, None, is_some, inl, inr, refl, sym, ap, subst, ◌∙◌, arith, eq-eqb, ne_eqb}
 use Rattle.std.specs.FinMap.{get-empty}
 use Rattle.std.specs.FinMap as finite
 use Rattle.std.specs.List.{range_with_len}
@@ -10,6 +10,8 @@ use Rattle.queue_core.specs.declared.slot.Slot.{Slot}
 use Rattle.queue_core.specs.declared.indices.Indices.{Indices}
 use Rattle.queue_core.specs.Slots.{is_hidden, is_shown, is_left, is_here, is_delayed, is_in_flight, due_in, sent_in, shows, one_if, CanReplace, IsReplaced, count_slots, AreIndexed, HasRoomForOne}
 use Rattle.queue_core.specs.Changes.{IsReserved, HasRoom}
+use Rattle.queue_core.specs.Ages.{AreAges, IsListed}
+use Rattle.queue_core.proofs.AgeLemmas.{can_list, listed, ages_longer, ages_more}
 use Rattle.queue_core.proofs.SlotCountLemmas.{count_changed, count_more, count_has, count_upto, count_parts}
 use Rattle.queue_core.proofs.SlotLemmas.{counted}
 
@@ -51,10 +53,13 @@ record HasSlack (slots : ℕ → Option Slot) (count : ℕ) (x : Indices) (o : O
   due : count_slots is_shown slots count + count_slots is_left slots count + 1 ≤ x.due.spare + one_if (is_some o)
   visible : x.delayed + x.in_flight + count_slots is_left slots count + 1 ≤ x.visible.spare + one_if (is_some o)
   sent : count_slots is_left slots count + 1 ≤ x.sent.spare + one_if (is_some o)
+  ages : count_slots is_left slots count + 1 ≤ x.ages.list.spare + one_if (is_some o)
 
 slack : (slots : ℕ → Option Slot) (count : ℕ) (x : Indices) (o : Option Slot) → AreIndexed slots count x → (o ≡ None → HasRoomForOne slots count x) → HasSlack slots count x o
-slack slots count x None is room = let r = room refl in record { due = omega (arith, r.due); visible = omega (arith, r.visible); sent = omega (arith, r.sent) }
-slack slots count x (Some s) is room = record { due = omega (arith, is.due_room); visible = omega (arith, is.visible_room); sent = omega (arith, is.sent_room) }
+slack slots count x None is room =
+    let r = room refl in record { due = omega (arith, r.due); visible = omega (arith, r.visible); sent = omega (arith, r.sent); ages = omega (arith, r.ages) }
+slack slots count x (Some s) is room =
+    record { due = omega (arith, is.due_room); visible = omega (arith, is.visible_room); sent = omega (arith, is.sent_room); ages = omega (arith, is.ages.room) }
 
 -- a slot is counted
 record HasCounted (slots : ℕ → Option Slot) (count : ℕ) (o : Option Slot) : Type 0 where
@@ -75,8 +80,8 @@ has_counted slots count x number (Some s) is at =
     }
 
 pub can_replace : (slots : ℕ → Option Slot) (count : ℕ) (x : Indices) (number : ℕ) (before after : Option Slot) → AreIndexed slots count x → slots number ≡ before
-    → (before ≡ None → HasRoomForOne slots count x) → count < 2 ^ 62 → CanReplace number before after x
-can_replace slots count x number before after is at room few =
+    → (before ≡ None → HasRoomForOne slots count x) → number < length x.ages.places.items → count < 2 ^ 62 → CanReplace number before after x
+can_replace slots count x number before after is at room place few =
     let parts = counted before in
     let spare = slack slots count x before is room in
     let had = has_counted slots count x number before is at in
@@ -91,6 +96,9 @@ can_replace slots count x number before after is at room few =
       delayed = omega (arith, had.delayed, is.delayed);
       in_flight = omega (arith, had.in_flight, is.in_flight);
       few = omega (arith, few, is.delayed, is.in_flight, count_upto (λ n. is_delayed (slots n)) count, count_upto (λ n. is_in_flight (slots n)) count);
+      ages =
+          can_list (λ n. is_here (slots n)) count (count_slots is_left slots count) number (is_here before) x.ages is.ages (ap is_here at) place
+          (λ e. let none = ap one_if e in omega (arith, none, parts.here, spare.ages, had.left));
     }
 
 -- ---- a number has got another slot
@@ -138,6 +146,11 @@ indexed_replaced slots slots' count x y number before after is at h room r each 
       due_room = enough_due _ _ _ _ x.due.spare y.due.spare before after shown left r.due_spare spare.due;
       visible_room = enough_visible x.delayed x.in_flight _ y.delayed y.in_flight _ x.visible.spare y.visible.spare before after r.delayed r.in_flight left r.visible_spare spare.visible;
       sent_room = enough_sent _ _ x.sent.spare y.sent.spare before after left r.sent_spare spare.sent;
+      ages =
+          listed (λ n. is_here (slots n)) (λ n. is_here (slots' n)) count (count_slots is_left slots count) (count_slots is_left slots' count) number (is_here before) (is_here after) x.ages y.ages is.ages r.ages
+          (ap is_here (given_here number after slots slots' to))
+          (λ n other. ap is_here (given_other number after slots slots' to n other))
+          (enough_sent _ _ x.ages.list.spare y.ages.list.spare before after left r.ages.spare spare.ages);
     }
 
 -- ---- one number more, which has no slot yet
@@ -146,8 +159,8 @@ count_none : (test : Option Slot → Bool) (slots : ℕ → Option Slot) (count 
 count_none test slots count fails at =
     let last : one_if (test (slots count)) ≡ 0 = ap (λ o. one_if (test o)) at ∙ ap one_if fails in omega (arith, count_more (λ n. test (slots n)) count)
 
-pub indexed_more : (slots : ℕ → Option Slot) (count : ℕ) (x : Indices) → AreIndexed slots count x → AreIndexed slots (count + 1) x
-indexed_more slots count x is =
+pub indexed_more : (slots : ℕ → Option Slot) (count : ℕ) (x : Indices) → AreIndexed slots count x → count < length x.ages.places.items → AreIndexed slots (count + 1) x
+indexed_more slots count x is place =
     let at : slots count ≡ None = is.few count (omega arith) in
     let shown = count_none is_shown slots count refl at in
     let left = count_none is_left slots count refl at in
@@ -162,6 +175,7 @@ indexed_more slots count x is =
       due_room = omega (arith, is.due_room, shown, left);
       visible_room = omega (arith, is.visible_room, left);
       sent_room = omega (arith, is.sent_room, left);
+      ages = ages_more (λ n. is_here (slots n)) count (count_slots is_left slots count) (count_slots is_left slots (count + 1)) x.ages is.ages place left;
     }
 
 pub room_more : (slots : ℕ → Option Slot) (count : ℕ) (x : Indices) → AreIndexed slots count x → HasRoomForOne slots count x → HasRoomForOne slots (count + 1) x
@@ -169,7 +183,7 @@ room_more slots count x is room =
     let at : slots count ≡ None = is.few count (omega arith) in
     let shown = count_none is_shown slots count refl at in
     let left = count_none is_left slots count refl at in
-    record { due = omega (arith, room.due, shown, left); visible = omega (arith, room.visible, left); sent = omega (arith, room.sent, left) }
+    record { due = omega (arith, room.due, shown, left); visible = omega (arith, room.visible, left); sent = omega (arith, room.sent, left); ages = omega (arith, room.ages, left) }
 
 -- ---- the same slots
 
@@ -190,12 +204,14 @@ indexed_reserved slots count x y is r = record {
   due_room = omega (arith, is.due_room, r.due_spare);
   visible_room = omega (arith, is.visible_room, r.visible_spare, r.delayed, r.in_flight);
   sent_room = omega (arith, is.sent_room, r.sent_spare);
+  ages = ages_longer (λ n. is_here (slots n)) count (count_slots is_left slots count) x.ages y.ages is.ages r.ages;
 }
 
 pub room_enough : (slots : ℕ → Option Slot) (count : ℕ) (x : Indices) (due sent visible : ℕ) → HasRoom due sent visible x
     → count_slots is_shown slots count + count_slots is_left slots count < due → count_slots is_left slots count < sent
-    → x.delayed + x.in_flight + count_slots is_left slots count < visible → HasRoomForOne slots count x
-room_enough slots count x due sent visible has d s v = record { due = omega (arith, has.due, d); visible = omega (arith, has.visible, v); sent = omega (arith, has.sent, s) }
+    → x.delayed + x.in_flight + count_slots is_left slots count < visible → count_slots is_left slots count < x.ages.list.spare → HasRoomForOne slots count x
+room_enough slots count x due sent visible has d s v a =
+    record { due = omega (arith, has.due, d); visible = omega (arith, has.visible, v); sent = omega (arith, has.sent, s); ages = omega (arith, a) }
 
 -- as many numbers as have a slot, and one
 test_parts : (o : Option Slot) → one_if (is_delayed o) + one_if (is_in_flight o) + one_if (is_shown o) + one_if (is_left o) ≤ one_if (is_some o)
@@ -207,16 +223,17 @@ count_slot_parts slots count =
     count_parts (λ n. is_delayed (slots n)) (λ n. is_in_flight (slots n)) (λ n. is_shown (slots n)) (λ n. is_left (slots n)) (λ n. is_some (slots n)) (range_with_len 0 count) (λ n. test_parts (slots n))
 
 pub room_for_one : (slots : ℕ → Option Slot) (count : ℕ) (x : Indices) (due sent visible : ℕ) → AreIndexed slots count x → HasRoom due sent visible x
-    → count_slots is_some slots count < due → count_slots is_some slots count < sent → count_slots is_some slots count < visible → HasRoomForOne slots count x
-room_for_one slots count x due sent visible is has d s v =
+    → count_slots is_some slots count < due → count_slots is_some slots count < sent → count_slots is_some slots count < visible → count_slots is_left slots count < x.ages.list.spare
+    → HasRoomForOne slots count x
+room_for_one slots count x due sent visible is has d s v a =
     let all = count_slot_parts slots count in
-    room_enough slots count x due sent visible has (omega (arith, all, d)) (omega (arith, all, s)) (omega (arith, all, v, is.delayed, is.in_flight))
+    room_enough slots count x due sent visible has (omega (arith, all, d)) (omega (arith, all, s)) (omega (arith, all, v, is.delayed, is.in_flight)) a
 
 -- ---- no slots
 
 pub indexed_none : (x : Indices) → x.due ≡ record { moments = finite.empty; spare = 0 } → x.sent ≡ record { moments = finite.empty; spare = 0 } → x.visible ≡ record { pairs = []; spare = 0 }
-    → x.delayed ≡ 0 → x.in_flight ≡ 0 → AreIndexed (λ n. None) 0 x
-indexed_none x due sent visible delayed in_flight = record {
+    → x.delayed ≡ 0 → x.in_flight ≡ 0 → AreAges (λ n. false) 0 0 x.ages → AreIndexed (λ n. None) 0 x
+indexed_none x due sent visible delayed in_flight ages = record {
   due = λ n. ap (λ d. finite.get d.moments n) due ∙ get-empty nat_cmp n;
   sent = λ n. ap (λ d. finite.get d.moments n) sent ∙ get-empty nat_cmp n;
   shown = λ moment n. ap (λ v. has_pair (moment, n) v.pairs) visible;
@@ -227,4 +244,5 @@ indexed_none x due sent visible delayed in_flight = record {
   due_room = omega arith;
   visible_room = omega arith;
   sent_room = omega arith;
+  ages = ages;
 }

@@ -3,6 +3,7 @@ use Rattle.std.specs.Prelude.{◌≡◌, ℕ, ◌≤◌, ◌==◌, Bool, false, 
 use Rattle.std.specs.Option.{option_map_or}
 use Rattle.queue_core.specs.declared.slot.Slot.{Slot}
 use Rattle.queue_core.specs.declared.indices.Indices.{Indices}
+use Rattle.queue_core.specs.Ages.{IsLonger}
 use Rattle.queue_core.specs.Slots.{is_shown_stay}
 
 -- when it is due, where it is shown
@@ -23,6 +24,7 @@ pub record IsReserved (x y : Indices) : Type 0 where
   pub due_spare : x.due.spare ≤ y.due.spare
   pub sent_spare : x.sent.spare ≤ y.sent.spare
   pub visible_spare : x.visible.spare ≤ y.visible.spare
+  pub ages : IsLonger x.ages y.ages
 
 -- there is room for so many numbers more in each
 pub record HasRoom (for_due for_sent for_visible : ℕ) (x : Indices) : Type 0 where

@@ -4,6 +4,7 @@ pub mod Queue
 pub mod Ranges
 pub mod Legal
 pub mod Tally
+pub mod Ages
 pub mod Slots
 pub mod Records
 pub mod Recorded

@@ -120,6 +120,7 @@ pub record IsReady (x : MessageIndex) : Type 0 where
   pub indices : HasRoomForOne (slots_in x) (born_in x) x.indices
   pub records : 1 ≤ spare x.records
   pub receives : length x.receives.items < vec_capacity x.receives
+  pub place : length x.receives.items < length x.indices.ages.places.items
 
 -- nothing but room differs
 pub record HasSame (x y : MessageIndex) : Type 0 where

@@ -9,6 +9,7 @@ use Rattle.queue_core.specs.declared.slot.Stay.{Stay}
 use Rattle.queue_core.specs.declared.slot.Stay.TheVariants.{Hidden, Shown, Left}
 use Rattle.queue_core.specs.declared.slot.Slot.{Slot}
 use Rattle.queue_core.specs.declared.indices.Indices.{Indices}
+use Rattle.queue_core.specs.Ages.{AreAges, CanList, IsListed}
 
 -- ---- what a slot says
 
@@ -86,6 +87,7 @@ pub record CanReplace (number : ℕ) (before after : Option Slot) (x : Indices) 
   pub delayed : one_if (is_delayed before) ≤ x.delayed
   pub in_flight : one_if (is_in_flight before) ≤ x.in_flight
   pub few : x.delayed + x.in_flight < 2 ^ 63
+  pub ages : CanList number (is_here before) x.ages
 
 -- what is so of other numbers is as it was
 pub record IsReplaced (number : ℕ) (before after : Option Slot) (x y : Indices) : Type 0 where
@@ -98,6 +100,7 @@ pub record IsReplaced (number : ℕ) (before after : Option Slot) (x y : Indices
   pub due_spare : y.due.spare + one_if (is_hidden after) ≡ x.due.spare + one_if (is_hidden before)
   pub visible_spare : y.visible.spare + one_if (is_shown after) ≡ x.visible.spare + one_if (is_shown before)
   pub sent_spare : y.sent.spare + one_if (is_here after) ≡ x.sent.spare + one_if (is_here before)
+  pub ages : IsListed number (is_here before) (is_here after) x.ages y.ages
 
 -- ---- all numbers
 
@@ -117,9 +120,11 @@ pub record AreIndexed (slots : ℕ → Option Slot) (count : ℕ) (x : Indices) 
   pub due_room : count_slots is_shown slots count + count_slots is_left slots count ≤ x.due.spare
   pub visible_room : x.delayed + x.in_flight + count_slots is_left slots count ≤ x.visible.spare
   pub sent_room : count_slots is_left slots count ≤ x.sent.spare
+  pub ages : AreAges (λ n. is_here (slots n)) count (count_slots is_left slots count) x.ages
 
 -- and room for one message more
 pub record HasRoomForOne (slots : ℕ → Option Slot) (count : ℕ) (x : Indices) : Type 0 where
   pub due : count_slots is_shown slots count + count_slots is_left slots count + 1 ≤ x.due.spare
   pub visible : x.delayed + x.in_flight + count_slots is_left slots count + 1 ≤ x.visible.spare
   pub sent : count_slots is_left slots count + 1 ≤ x.sent.spare
+  pub ages : count_slots is_left slots count + 1 ≤ x.ages.list.spare

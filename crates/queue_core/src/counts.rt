@@ -1,21 +1,21 @@
 //! The counts of a queue's messages and the age of the oldest, by its index.
 
-ghost use Rattle.std.specs.Prelude.{◌≡◌, ℕ, ◌-◌, ◌<◌, ◌/◌, true, false, Some, IfSome, IfNone};
+ghost use Rattle.std.specs.Prelude.{◌≡◌, ℕ, ◌-◌, ◌/◌, true, Some};
 ghost use Rattle.queue_core.specs.States.{gauges_of, oldest_age};
 ghost use Rattle.queue_core.specs.Queue.{QueueHistory};
 ghost use Rattle.queue_core.specs.Slots.{is_here};
 ghost use Rattle.queue_core.specs.declared.record.Record.{Record};
-ghost use Rattle.queue_core.specs.Records.{records_in, slots_in, born_in};
+ghost use Rattle.queue_core.specs.Records.{records_in, slots_in, HasIndices};
 ghost use Rattle.queue_core.specs.Indexed.{IsIndexOf};
 
 use crate::index::MessageIndex;
-use crate::indices::is_here;
 use journal::Moment;
 use metric_window::Gauges;
 
 impl MessageIndex {
     /// The counts and the age at a time to which the index has come.
     pub(crate) fn gauges(&self, at: Moment) -> Gauges
+        requires { HasIndices self.now }
         ensures { (q : QueueHistory) → q.clock ≡ at → IsIndexOf q.lines q.clock self.now → result ≡ gauges_of q.lines q.clock }
     {
         Gauges {
@@ -28,26 +28,13 @@ impl MessageIndex {
 
     /// Whole seconds since the first message that is there came, 0 where none is there.
     fn oldest_age(&self, at: Moment) -> u64
+        requires { HasIndices self.now }
         ensures { (q : QueueHistory) → q.clock ≡ at → IsIndexOf q.lines q.clock self.now → result ≡ oldest_age q.lines q.clock }
     {
         match self.first_here() {
             Some(number) => self.age_of(number, at),
             None => 0,
         }
-    }
-
-    /// The number of the first message that is there.
-    fn first_here(&self) -> Option<u64>
-        ensures here { IfSome result (λ number. is_here (slots_in self.now number) ≡ true) }
-        ensures first { IfSome result (λ number. (k : ℕ) → k < number → is_here (slots_in self.now k) ≡ false) }
-        ensures none { IfNone result ((k : ℕ) → k < born_in self.now → is_here (slots_in self.now k) ≡ false) }
-    {
-        for number in 0..self.receives.len() as u64 {
-            if is_here(self.slot_of(number)) {
-                return Some(number);
-            }
-        }
-        None
     }
 
     /// Whole seconds since the message of a number, which is there, came.

@@ -6,7 +6,8 @@ ghost use Rattle.message.specs.declared.fault.Fault.TheVariants.{OutOfMemory};
 ghost use Rattle.queue_core.specs.declared.slot.Stay.TheVariants.{Shown};
 ghost use Rattle.std.specs.VecDeque.{deque_capacity};
 ghost use Rattle.queue_core.specs.Messages.{effect_of};
-ghost use Rattle.queue_core.specs.Slots.{one_if, is_hidden, is_left_for, IsReplaced};
+ghost use Rattle.queue_core.specs.Ages.{IsFirstHere};
+ghost use Rattle.queue_core.specs.Slots.{one_if, is_hidden, is_here, is_left_for, IsReplaced};
 ghost use Rattle.queue_core.specs.Records.{records_in, slots_in, born_in, with_stay, with_parts, records_settled, HasIndices, IsIndexed, IsReady, HasSame};
 ghost use Rattle.queue_core.specs.Settling.{is_due, shown_at, was_sent_by, kept_since};
 
@@ -98,10 +99,19 @@ impl MessageIndex {
             .count() as u64
     }
 
+    /// The least number of a message that is there, where there is one.
+    pub(crate) fn first_here(&self) -> Option<u64>
+        requires { HasIndices self.now }
+        ensures { IsFirstHere (λ n. is_here (slots_in self.now n)) result }
+    {
+        self.indices.ages.list.first()
+    }
+
     /// Makes room for one message more, in all that it will ever be in but the queue of those that have left,
     /// where a receive makes room. `OutOfMemory` is the only refusal.
     pub(crate) fn reserve_one(&mut self, alloc: Global) -> Result<(), Fault>
-        requires { HasIndices self.old }
+        requires indexed { IsIndexed self.old }
+        requires few { born_in self.old < 2 ^ 31 }
         ensures same { HasSame self.old self.new }
         ensures indices { HasIndices self.new }
         ensures ok { OnOk result (IsReady self.new) }
@@ -110,6 +120,10 @@ impl MessageIndex {
         // No index lacks more of the messages than there are records.
         let room = self.records.len() + 1;
         self.indices.reserve(alloc, room, room, room)?;
+        // The list of ages lacks those that have left.
+        let lacking = self.leaving.len() + 1;
+        let numbers = self.receives.len() + 1;
+        self.indices.ages.reserve(alloc, lacking, numbers)?;
         self.records.reserve(1)?;
         self.receives.reserve(1)?;
         Ok(())
@@ -267,7 +281,8 @@ impl MessageIndex {
 impl MessageIndex {
     /// Makes all growths that an event wants. `OutOfMemory` is the only refusal.
     pub(crate) fn make_room(&mut self, alloc: Global, event: &Event<Content>) -> Result<(), Fault>
-        requires { IsIndexed self.old }
+        requires indexed { IsIndexed self.old }
+        requires few { born_in self.old < 2 ^ 31 }
         ensures same { HasSame self.old self.new }
         ensures indexed { IsIndexed self.new }
         ensures ready { OnOk result (is_some (effect_of event.now).birth ≡ true → IsReady self.new) }

@@ -1,4 +1,4 @@
-//! Indices of messages by their times, and counts of those that cannot be received yet.
+//! Indices of messages by their times and numbers, and counts of those that cannot be received yet.
 
 ghost use Rattle.std.specs.Prelude.{◌≡◌, ℕ, ◌+◌, ◌≤◌, true, false, nat_eq, if◌then◌else◌, None, is_some, AllPairs, OnOk};
 ghost use Rattle.std.specs.FinMap as finite;
@@ -7,6 +7,7 @@ ghost use Rattle.visible_index.specs.Pairs.{has_pair};
 ghost use Rattle.queue_core.specs.Slots.{due_in, sent_in, is_here, is_left, is_left_for, is_delayed, is_in_flight, one_if, CanReplace, IsReplaced, AreIndexed};
 ghost use Rattle.queue_core.specs.Changes.{shown_in, is_at, IsReserved, HasRoom};
 
+use crate::ages::Ages;
 use crate::slot::{Slot, Stay};
 use deadline_heap::DeadlineHeap;
 use journal::Ticks;
@@ -14,7 +15,7 @@ use std::alloc::{AllocError, Global};
 use visible_index::VisibleIndex;
 
 /// When the hidden messages are due and when all that are there were first sent, those that may be received in
-/// their order, and how many of the hidden ones are delayed and in flight.
+/// their order, how many of the hidden ones are delayed and in flight, and those that are there by number.
 #[derive(Debug, Drop)]
 pub(crate) struct Indices {
     pub due: DeadlineHeap,
@@ -22,6 +23,7 @@ pub(crate) struct Indices {
     pub visible: VisibleIndex,
     pub delayed: u64,
     pub in_flight: u64,
+    pub ages: Ages,
 }
 
 impl Indices {
@@ -35,6 +37,7 @@ impl Indices {
             visible: VisibleIndex::new(alloc),
             delayed: 0,
             in_flight: 0,
+            ages: Ages::new(alloc),
         }
     }
 
@@ -84,6 +87,7 @@ impl Indices {
         self.delayed = self.delayed - u64::from(is_delayed(before)) + u64::from(is_delayed(after));
         self.in_flight = self.in_flight - u64::from(is_in_flight(before))
             + u64::from(is_in_flight(after));
+        self.ages.replace(number, is_here(before), is_here(after));
     }
 }
 

@@ -22,6 +22,7 @@
 #![tactic(auto)]
 
 mod accepted;
+mod ages;
 mod applying;
 mod command;
 mod counts;

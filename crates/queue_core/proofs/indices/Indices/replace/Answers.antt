@@ -7,6 +7,9 @@ use Rattle.queue_core.specs.Changes.{is_at}
 use Rattle.queue_core.proofs.SlotLemmas.{is_some-due_in, is_some-sent_in, is_some-shown_in, is_at-shown_in, same_rooms, recounted}
 use Rattle.queue_core.proofs.indices.Indices.replace.Goals as goal
 
+pub replace-requires : goal.replace-requires
+replace-requires c = rw c.is_here.ensures c.requires.ages
+
 pub returns : goal.returns
 returns c =
     let x = c.args.self.now in
@@ -24,4 +27,5 @@ returns c =
       due_spare = same_rooms c.due_in.result c.due_in-2.result (is_hidden before) (is_hidden after) x.due.spare _ (ap is_some c.due_in.ensures ∙ is_some-due_in before) (ap is_some c.due_in-2.ensures ∙ is_some-due_in after) c.replace_moment.ensures.spare;
       visible_spare = same_rooms c.shown_in.result c.shown_in-2.result (is_shown before) (is_shown after) x.visible.spare _ (ap is_some c.shown_in.ensures ∙ is_some-shown_in before) (ap is_some c.shown_in-2.ensures ∙ is_some-shown_in after) c.replace_pair.ensures.spare;
       sent_spare = same_rooms c.sent_in.result c.sent_in-2.result (is_here before) (is_here after) x.sent.spare _ (ap is_some c.sent_in.ensures ∙ is_some-sent_in before) (ap is_some c.sent_in-2.ensures ∙ is_some-sent_in after) c.replace_moment-2.ensures.spare;
+      ages = rw (c.is_here.ensures, c.is_here-2.ensures) at c.replace.ensures;
     }

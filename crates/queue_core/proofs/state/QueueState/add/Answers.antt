@@ -19,6 +19,12 @@ use Rattle.queue_core.proofs.WatchLemmas.{watch-pushed}
 use Rattle.queue_core.proofs.AcceptedLemmas.{accepted-same, accepted-noted}
 use Rattle.queue_core.proofs.state.QueueState.add.Goals as goal
 
+pub make_room-requires-clause-few : goal.make_room-requires-clause-few
+make_room-requires-clause-few c =
+    let few = few_born c.self.inside.journal.lines c.self.inside.clock c.self.inside.index c.self.invariant.2 in
+    let lines = ap (λ (q : QueueHistory). length q.lines) c.self.view_is in
+    omega (arith, few, lines, c.messages_so_far.ensures.lines)
+
 -- where no entry is added, nothing but room differs
 pub invariant_of-self : goal.invariant_of-self
 invariant_of-self c = (

@@ -3,6 +3,9 @@ use Rattle.queue_core.specs.Queue.{QueueHistory}
 use Rattle.queue_core.proofs.QuestionLemmas.{index_of, legal_of}
 use Rattle.queue_core.proofs.state.QueueState.gauges.Goals as goal
 
+pub gauges-requires : goal.gauges-requires
+gauges-requires c = c.self.invariant.2.indexed.indices
+
 pub returns-clause-counts : goal.returns-clause-counts
 returns-clause-counts c =
     c.gauges.ensures c.args.self.now (sym (ap (λ (q : QueueHistory). q.clock) c.self.view_is)) (index_of _ _ c.self.inside.index c.self.view_is c.self.invariant.2)

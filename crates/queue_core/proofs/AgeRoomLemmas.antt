@@ -1,0 +1,72 @@
+-- How many messages have left, and that the list of those that are there never has more than there were messages.
+use Rattle.std.proofs.Common.{◌≡◌, ℕ, ◌+◌, ◌<◌, ◌≤◌, ◌^◌, Bool, true, false, ◌&&◌, List, [], ◌∷◌, length, count_by, inl, inr, refl, sym, ap, ◌∙◌, arith}
+use Rattle.std.specs.FinMap as finite
+use Rattle.std.proofs.lemmas.Bool.{false≢true, cases_lt}
+use Rattle.std.proofs.lemmas.List.Sums.{sum_by-cons}
+use Rattle.queue_core.specs.declared.index.MessageIndex.{MessageIndex}
+use Rattle.queue_core.specs.declared.indices.Indices.{Indices}
+use Rattle.queue_core.specs.declared.ages.Ages.{Ages}
+use Rattle.queue_core.specs.Ages.{IsLonger}
+use Rattle.queue_core.specs.Changes.{IsReserved}
+use Rattle.queue_core.specs.Messages.{contains_number}
+use Rattle.queue_core.specs.Slots.{is_here, is_left, count_slots, one_if}
+use Rattle.queue_core.specs.Records.{slots_in, born_in, IsIndexed}
+use Rattle.queue_core.proofs.SlotCountLemmas.{count_agree, count_members, count_upto}
+use Rattle.queue_core.proofs.AgeLemmas.{few_listed}
+
+and_true : (b : Bool) → (b && true) ≡ b
+and_true true = refl
+and_true false = refl
+
+count_all : (xs : List ℕ) → count_by (λ n. true) xs ≡ length xs
+count_all [] = refl
+count_all (x ∷ xs) = omega (arith, sum_by-cons (λ (n : ℕ). one_if true) x xs, count_all xs)
+
+module _ (x : MessageIndex) (is : IsIndexed x) where
+  leaving_below : (n : ℕ) → contains_number n x.leaving.items ≡ true → n < born_in x
+  leaving_below n there = elim (cases_lt n (born_in x)) [
+    | inl below ↦ below
+    | inr past ↦ absurd (false≢true (sym (ap is_left (is.indices.indices.few n past)) ∙ sym (is.leaving n) ∙ there))
+  ]
+
+  -- as many have left as stand in the queue of those that leave
+  pub left_counted : count_slots is_left (slots_in x) (born_in x) ≡ length x.leaving.items
+  left_counted =
+      let members = count_members (λ n. true) x.leaving.items (born_in x) is.once leaving_below in
+      let same =
+      count_agree (λ n. is_left (slots_in x n)) (λ n. contains_number n x.leaving.items && true) (born_in x) (λ n. and_true (contains_number n x.leaving.items) ∙ is.leaving n) in
+      sym same ∙ members ∙ count_all x.leaving.items
+
+  -- the list has fewer slots than it may, with one for each that has left and one more
+  pub few_ages : (y : Indices) → IsReserved x.indices y → (left : ℕ) → left ≡ length x.leaving.items → born_in x < 2 ^ 31 → finite.len y.ages.list.slots + (left + 1) < 2 ^ 32
+  few_ages y reserved left same few =
+      let there =
+      few_listed (λ n. is_here (slots_in x n)) (born_in x) (count_slots is_left (slots_in x) (born_in x)) x.indices.ages is.indices.indices.ages
+      (λ n past. ap is_here (is.indices.indices.few n past)) in
+      let slots : finite.len y.ages.list.slots ≡ finite.len x.indices.ages.list.slots = ap (λ m. finite.len m) reserved.ages.slots in
+      let most = count_upto (λ n. is_left (slots_in x n)) (born_in x) in
+      omega (arith, few, same, left_counted)
+
+-- ---- room made twice
+
+longer_still : (x y z : Ages) → IsLonger x y → IsLonger y z → IsLonger x z
+longer_still x y z first second = record {
+  slots = second.slots ∙ first.slots;
+  places = λ n. second.places n ∙ first.places n;
+  len = omega (arith, first.len, second.len);
+  spare = omega (arith, first.spare, second.spare);
+}
+
+-- in the list of ages after the others
+pub reserved_ages : (x y : Indices) (ages : Ages) → IsReserved x y → IsLonger y.ages ages → IsReserved x (record y { ages = ages })
+reserved_ages x y ages first second = record {
+  due = first.due;
+  sent = first.sent;
+  visible = first.visible;
+  delayed = first.delayed;
+  in_flight = first.in_flight;
+  due_spare = first.due_spare;
+  sent_spare = first.sent_spare;
+  visible_spare = first.visible_spare;
+  ages = longer_still x.ages y.ages ages first.ages second;
+}
