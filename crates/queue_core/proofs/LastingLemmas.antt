@@ -1,20 +1,20 @@
 -- What lasts, whatever commands follow: what is removed, what has expired, and the content of a number.
 use Rattle.std.proofs.Common.{◌≡◌, ℕ, zero, suc, ◌+◌, ◌*◌, ◌≤◌, ◌<◌, max, Bool, true, false, not, cond, ◌&&◌, ◌||◌, ltb, leb, eqb, List, [], ◌∷◌, ◌++◌, length, drop, Option, Some, None, Result, Ok, refl, sym, ap, inl, inr, ◌∙◌, arith}
-use Rattle.std.specs.Prelude.{⊤, nat_lt, nat_le, unwrap_or, slice_get, option_and_then}
+use Rattle.std.specs.Prelude.{IfSome, nat_lt, unwrap_or, slice_get, option_and_then}
 use Rattle.std.specs.Option.{option_map_or}
 use Rattle.std.specs.List.{list_any, All, Contains}
 use Rattle.std.proofs.lemmas.List.{drop-append-le, drop_all}
-use Rattle.std.proofs.lemmas.List.Elements.{All-from_recursion, All-contains, All-weaker}
-use Rattle.std.proofs.lemmas.Bool.{ltb-true, leb-true, eq-eqb, false≢true}
+use Rattle.std.proofs.lemmas.List.Elements.{All-contains, All-weaker}
+use Rattle.std.proofs.lemmas.Bool.{ltb-true, leb-true, eq-eqb, or_left, or_right, false≢true}
 use Rattle.std.proofs.lemmas.Bool.Decides.{nat_tests}
 use Rattle.message.specs.declared.fault.Fault.{Fault}
-use Rattle.message.specs.declared.fault.Fault.TheVariants.{InvalidParameterValue, ReceiptHandleIsInvalid, OverLimit}
+use Rattle.message.specs.declared.fault.Fault.TheVariants.{InvalidParameterValue}
 use Rattle.message.specs.Fault.{is_out_of_memory}
 use Rattle.message.specs.Content.{ContentText, content_size}
-use Rattle.queue_config.specs.Settings.{QueueSettings, default_settings, settings_with}
+use Rattle.queue_config.specs.Settings.{QueueSettings, default_settings}
 use Rattle.journal.specs.declared.entry.Entry.{Entry}
 use Rattle.journal.specs.declared.entry.Event.{Event}
-use Rattle.journal.specs.declared.entry.Event.TheVariants.{Opened, Sent, Changed, Deleted, DeletedAgain, Purged, Set, Closed}
+use Rattle.journal.specs.declared.entry.Event.TheVariants.{Opened, Sent, Set}
 use Rattle.queue_core.specs.declared.facts.Message.{Message}
 use Rattle.queue_core.specs.declared.facts.Candidate.{Candidate}
 use Rattle.queue_core.specs.declared.facts.Course.{Course}
@@ -27,16 +27,18 @@ use Rattle.queue_core.specs.declared.command.Step.{Step}
 use Rattle.queue_core.specs.declared.reply.Reply.{Reply}
 use Rattle.queue_core.specs.declared.reply.Reply.TheVariants as replies
 use Rattle.queue_core.specs.declared.reply.Posted.{Posted}
-use Rattle.queue_core.specs.Messages.{contains_number, message_of, messages_from, messages, message_count, own_id, content_in, content_of, settings_after, settings_of, opens, RetentionPeriod, closes_period, periods_from, runs_out_in, is_expired, status_after, course_after, course_from, course_of, is_removed_status, is_removed, receive_count, due_time, is_returned, returns, is_closed, has_accepted}
+use Rattle.queue_core.specs.Messages.{contains_number, message_of, messages_from, messages, message_count, own_id, content_in, content_of, settings_after, settings_of, opens, RetentionPeriod, closes_period, periods_from, runs_out_in, is_expired, status_after, course_after, course_from, course_of, is_removed_status, is_removed, receive_count, due_time, is_returned, returns}
 use Rattle.queue_core.specs.States.{is_live, same_state, message_numbered}
-use Rattle.queue_core.specs.Queue.{QueueHistory, Outcome, at_moment, refusal, unless_refused, first_refusal, refused_or, done, send_outcome, receive_outcome, change_outcome, delete_outcome, change_refusal, is_valid_handle, holds_live, arrive_outcome, is_pending, settle_outcome, orphan_outcome, in_flight_count, offered_candidates, received_event, numbers_of, outcome_of, leaves_clock, reached, outcome_at, with_event, with_optional_event, after_answer, look_of}
+use Rattle.queue_core.specs.Queue.{QueueHistory, Outcome, at_moment, refusal, unless_refused, first_refusal, offered_candidates, received_event, numbers_of, leaves_clock, reached, outcome_at, with_event, with_optional_event, after_answer, look_of}
 use Rattle.queue_core.specs.Run.{AreExact, after_all}
 use Rattle.queue_core.specs.Turns.{IsVisibleCandidate}
 use Rattle.queue_core.specs.Lasting.{content_numbered}
 use Rattle.queue_core.proofs.Scans.{by_closing}
 use Rattle.queue_core.proofs.MarkLemmas.{in_state}
 use Rattle.queue_core.proofs.OfferLemmas.{Among, Among-from_at, offered_visible}
-use Rattle.queue_core.proofs.RefusalLemmas.{places-messages_from}
+use Rattle.queue_core.proofs.CauseLemmas.{IsAbout, about-outcome}
+use Rattle.queue_core.proofs.PushLemmas.{slice_get-prefix}
+use Rattle.queue_core.proofs.RefusalLemmas.{all-placed}
 
 -- ---- what is removed
 
@@ -99,14 +101,6 @@ false_or : (b : Bool) → b ≡ true → (b || false) ≡ true
 false_or true h = refl
 false_or false h = h
 
-or_second : (a b : Bool) → b ≡ true → (a || b) ≡ true
-or_second true b h = refl
-or_second false b h = h
-
-or_first : (a b : Bool) → a ≡ true → (a || b) ≡ true
-or_first true b h = refl
-or_first false b h = absurd cc
-
 module _ (m : Message) (clock : ℕ) where
   abbrev period : ℕ → QueueSettings → RetentionPeriod
   period place s = record { retention = s.retention_seconds; end = clock; closing = place }
@@ -149,54 +143,6 @@ module _ (m : Message) (clock : ℕ) where
       ∙ or_later (closes_period e.event && runs_out_in m here) (list_any (λ p. runs_out_in m p) old) (list_any (λ p. runs_out_in m p) new) (runs-later later (suc place) (settings_after s e.event) es l)
       (sym (by_closing (closes_period e.event) (λ p. runs_out_in m p) here old) ∙ h)
 
--- ---- no command opens a queue
-
-abbrev IsUnopened : Option (Event ContentText) → Type 0
-IsUnopened None = ⊤
-IsUnopened (Some (Opened uid settings)) = ⊥
-IsUnopened (Some event) = ⊤
-
-unopened-event : (event : Event ContentText) → IsUnopened (Some event) → opens event ≡ false
-unopened-event (Opened uid settings) h = absurd h
-unopened-event event h = refl
-
-unopened-unless_refused : (r : Option Fault) (o : Outcome) → IsUnopened o.event → IsUnopened (unless_refused r o).event
-unopened-unless_refused None o h = h
-unopened-unless_refused (Some fault) o h = tt
-
-unopened-refused_or : (r : Option Fault) (o : Outcome) → IsUnopened o.event → IsUnopened (refused_or r o).event
-unopened-refused_or None o h = h
-unopened-refused_or (Some fault) o h = tt
-
-unopened-cond : (b : Bool) (o p : Outcome) → IsUnopened o.event → IsUnopened p.event → IsUnopened (cond b o p).event
-unopened-cond true o p h k = h
-unopened-cond false o p h k = k
-
-unopened-deletion : (b : Bool) (number : ℕ) → IsUnopened (done (cond b (Deleted number) DeletedAgain)).event
-unopened-deletion true number = tt
-unopened-deletion false number = tt
-
-unopened : (q : QueueHistory) (command : Command) → IsUnopened (outcome_of q command).event
-unopened q (commands.Send content delay) =
-    unopened-unless_refused (first_refusal q) (send_outcome q content delay)
-    (unopened-cond (nat_lt (settings_of q.lines).maximum_message_size (content_size content)) (refusal InvalidParameterValue) _ tt tt)
-unopened q (commands.Receive maximum timeout) =
-    unopened-unless_refused (first_refusal q) (receive_outcome q maximum timeout) (unopened-cond (nat_le q.limits.in_flight (in_flight_count q)) (refusal OverLimit) _ tt tt)
-unopened q (commands.Change handle timeout) =
-    unopened-unless_refused (first_refusal q) (change_outcome q handle timeout) (unopened-refused_or (change_refusal q handle timeout) (done (Changed handle.number timeout)) tt)
-unopened q (commands.Delete handle) =
-    unopened-unless_refused (first_refusal q) (delete_outcome q handle)
-    (unopened-cond (is_valid_handle q handle) (done (cond (holds_live q handle) (Deleted handle.number) DeletedAgain)) (refusal ReceiptHandleIsInvalid) (unopened-deletion (holds_live q handle) handle.number) tt)
-unopened q commands.Purge = unopened-unless_refused (first_refusal q) (done Purged) tt
-unopened q (commands.Set wish target) = unopened-unless_refused (first_refusal q) (done (Set (settings_with (settings_of q.lines) wish target))) tt
-unopened q (commands.Arrive parcel) =
-    unopened-unless_refused (first_refusal q) (arrive_outcome q parcel) (unopened-cond (has_accepted q.lines parcel.origin.uid parcel.origin.number) _ _ tt tt)
-unopened q (commands.Settle number) = unopened-unless_refused (first_refusal q) (settle_outcome q number) (unopened-cond (is_pending q number) _ _ tt tt)
-unopened q (commands.Orphan target) = unopened-unless_refused (first_refusal q) (orphan_outcome q target) tt
-unopened q commands.FirstParcel = tt
-unopened q commands.Close = unopened-cond (is_closed q.lines) _ (done Closed) tt tt
-unopened q commands.Look = tt
-
 -- ---- a property of queues that lasts
 
 pub record Lasts (P : QueueHistory → Type 0) : Type 0 where
@@ -204,9 +150,9 @@ pub record Lasts (P : QueueHistory → Type 0) : Type 0 where
   pub more : (q : QueueHistory) (event : Event ContentText) → opens event ≡ false → P q → P (with_event q event)
 
 module _ (P : QueueHistory → Type 0) (lasts : Lasts P) where
-  lasts_optional : (q : QueueHistory) (event : Option (Event ContentText)) → IsUnopened event → P q → P (with_optional_event q event)
+  lasts_optional : (q : QueueHistory) (event : Option (Event ContentText)) → IfSome event (IsAbout q) → P q → P (with_optional_event q event)
   lasts_optional q None h p = p
-  lasts_optional q (Some event) h p = lasts.more q event (unopened-event event h) p
+  lasts_optional q (Some event) h p = lasts.more q event h.unopened p
 
   lasts_cond : (b : Bool) (q r : QueueHistory) → P q → P r → P (cond b q r)
   lasts_cond true q r p s = p
@@ -216,7 +162,7 @@ module _ (P : QueueHistory → Type 0) (lasts : Lasts P) where
   lasts_answer q at command answer p =
       let there : P (reached q at command) = lasts_cond (leaves_clock command) q (at_moment q at) p (lasts.later q at p) in
       lasts_cond (is_out_of_memory answer) (reached q at command) (with_optional_event (reached q at command) (outcome_at q at command).event) there
-      (lasts_optional (reached q at command) (outcome_at q at command).event (unopened (reached q at command) command) there)
+      (lasts_optional (reached q at command) (outcome_at q at command).event (about-outcome (reached q at command) command) there)
 
   pub lasts_all : (q : QueueHistory) (steps : List Step) (answers : List (Result Reply Fault)) → P q → P (after_all q steps answers)
   lasts_all q [] answers p = p
@@ -237,11 +183,6 @@ expired_stays q steps answers m h =
     }) q steps answers h
 
 -- ---- the content of a number
-
-slice_get-prefix : {X : Type 0} (xs ys : List X) (i : ℕ) (x : X) → slice_get xs i ≡ Some x → slice_get (xs ++ ys) i ≡ Some x
-slice_get-prefix [] ys i x h = absurd cc
-slice_get-prefix (z ∷ xs) ys zero x h = h
-slice_get-prefix (z ∷ xs) ys (suc i) x h = slice_get-prefix xs ys i x h
 
 slice_get-end : {X : Type 0} (xs : List X) (x : X) → slice_get (xs ++ x ∷ []) (length xs) ≡ Some x
 slice_get-end [] x = refl
@@ -362,13 +303,12 @@ offered_due q maximum =
 
 contains-number : (c : Candidate) (cs : List Candidate) → Among c cs → contains_number c.message.number (numbers_of cs) ≡ true
 contains-number c [] h = absurd h
-contains-number c (x ∷ cs) (inl is) = or_first (eqb x.message.number c.message.number) (contains_number c.message.number (numbers_of cs)) (ap (λ (y : Candidate). eqb y.message.number c.message.number) is ∙ eq-eqb c.message.number c.message.number refl)
-contains-number c (x ∷ cs) (inr h) = or_second (eqb x.message.number c.message.number) (contains_number c.message.number (numbers_of cs)) (contains-number c cs h)
+contains-number c (x ∷ cs) (inl is) = or_left (eqb x.message.number c.message.number) (contains_number c.message.number (numbers_of cs)) (ap (λ (y : Candidate). eqb y.message.number c.message.number) is ∙ eq-eqb c.message.number c.message.number refl)
+contains-number c (x ∷ cs) (inr h) = or_right (eqb x.message.number c.message.number) (contains_number c.message.number (numbers_of cs)) (contains-number c cs h)
 
 candidate-placed : (q : QueueHistory) (c : Candidate) → IsVisibleCandidate q.lines q.clock c → c.message.place < length q.lines
 candidate-placed q c h =
-    All-contains (λ m. m.place < length q.lines) (messages q.lines) c.message
-    (All-from_recursion (λ m. m.place < length q.lines) (messages q.lines) (places-messages_from (length q.lines) 0 0 q.lines (omega arith))) h.message
+    All-contains (λ m. m.place < length q.lines) (messages q.lines) c.message (all-placed q.lines) h.message
 
 returns-received : (status : Status) (q : QueueHistory) (maximum timeout : ℕ) → returns status (received_event q maximum (Some timeout)) ≡ false
 returns-received Present q maximum timeout = refl

@@ -38,7 +38,7 @@ or_assoc : (a b c : Bool) → (a || (b || c)) ≡ ((a || b) || c)
 or_assoc true b c = refl
 or_assoc false b c = refl
 
-slice_get-prefix : {X : Type 0} (xs ys : List X) (i : ℕ) (x : X) → slice_get xs i ≡ Some x → slice_get (xs ++ ys) i ≡ Some x
+pub slice_get-prefix : {X : Type 0} (xs ys : List X) (i : ℕ) (x : X) → slice_get xs i ≡ Some x → slice_get (xs ++ ys) i ≡ Some x
 slice_get-prefix [] ys i x h = absurd (none-some x h)
 slice_get-prefix (z ∷ xs) ys zero x h = h
 slice_get-prefix (z ∷ xs) ys (suc i) x h = slice_get-prefix xs ys i x h

@@ -7,7 +7,7 @@ use Rattle.queue_core.specs.Queue.{QueueHistory}
 use Rattle.queue_core.specs.Legal.{BeginsAndFollows}
 use Rattle.queue_core.proofs.PushLemmas.{Line, settings_from-push, closed-push, count-push}
 
-modified_from-push : (time : ℕ) (lines : List Line) (e : Line) → modified_from time (lines ++ e ∷ []) ≡ cond (gives_settings e.event) e.at (modified_from time lines)
+pub modified_from-push : (time : ℕ) (lines : List Line) (e : Line) → modified_from time (lines ++ e ∷ []) ≡ cond (gives_settings e.event) e.at (modified_from time lines)
 modified_from-push time [] e = refl
 modified_from-push time (x ∷ xs) e = modified_from-push (cond (gives_settings x.event) x.at time) xs e
 
