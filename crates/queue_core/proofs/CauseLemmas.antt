@@ -183,41 +183,30 @@ about-received q maximum timeout =
     (λ n is. apart-kept (λ c. is_exhausted q c) n (scanned_candidates q maximum) (scanned_apart q maximum) is)
     (offered_apart q maximum) (leaving_apart q maximum)
 
--- ---- a confirmation
-
-about-settled : (q : QueueHistory) (number : ℕ) → is_pending q number ≡ true → IsAbout q (Settled number)
-about-settled q number h = record {
-  unopened = refl;
-  offered = λ n is. absurd (false≢true is);
-  departing = λ n is. absurd (false≢true is);
-  apart = λ n is. refl;
-  departing_once = AllPairs-nil (λ a b. nat_eq a b ≡ false);
-  offered_once = λ timeout target offered leaving e. absurd cc;
-  confirmed = λ n is. subst (λ (i : ℕ). is_numbered (λ m. awaits_transfer q.lines m) q.lines i ≡ true) (eqb-true number n is) h;
-}
-
 -- ---- every other event
 
--- neither the opening of a queue nor a receive nor a confirmation
+-- neither the opening of a queue nor a receive
 abbrev IsPlain : Event ContentText → Type 0
 IsPlain (Opened uid settings) = ⊥
 IsPlain (Received timeout offered leaving target) = ⊥
-IsPlain (Settled number) = ⊥
 IsPlain event = ⊤
 
-about-plain : (q : QueueHistory) (event : Event ContentText) → IsPlain event → IsAbout q event
-about-plain q (Opened uid settings) h = absurd h
-about-plain q (Received timeout offered leaving target) h = absurd h
-about-plain q (Settled number) h = absurd h
-about-plain q event h = record {
+about-plain : (q : QueueHistory) (event : Event ContentText) → IsPlain event
+    → ((n : ℕ) → (effect_of event).confirms n ≡ true → is_numbered (λ m. awaits_transfer q.lines m) q.lines n ≡ true) → IsAbout q event
+about-plain q (Opened uid settings) h k = absurd h
+about-plain q (Received timeout offered leaving target) h k = absurd h
+about-plain q event h k = record {
   unopened = refl;
   offered = λ n is. absurd (false≢true is);
   departing = λ n is. absurd (false≢true is);
   apart = λ n is. refl;
   departing_once = AllPairs-nil (λ a b. nat_eq a b ≡ false);
   offered_once = λ timeout target offered leaving e. absurd cc;
-  confirmed = λ n is. absurd (false≢true is);
+  confirmed = k;
 }
+
+about-idle : (q : QueueHistory) (event : Event ContentText) → IsPlain event → ((n : ℕ) → (effect_of event).confirms n ≡ false) → IsAbout q event
+about-idle q event h none = about-plain q event h (λ n is. absurd (false≢true (sym (none n) ∙ is)))
 
 -- ---- every command
 
@@ -280,15 +269,16 @@ module _ (P : Event ContentText → Type 0) where
 -- what each is about
 about-each : (q : QueueHistory) (command : Command) → IsSoOfAdded q (IsAbout q) command
 about-each q (commands.Receive maximum timeout) = about-received q maximum timeout
-about-each q (commands.Delete handle) = (about-plain q (Deleted handle.number) tt, about-plain q DeletedAgain tt)
-about-each q (commands.Arrive parcel) = λ first. about-plain q (Arrived parcel.origin parcel.content) tt
-about-each q (commands.Settle number) = λ pending. about-settled q number pending
+about-each q (commands.Delete handle) = (about-idle q (Deleted handle.number) tt (λ n. refl), about-idle q DeletedAgain tt (λ n. refl))
+about-each q (commands.Arrive parcel) = λ first. about-idle q (Arrived parcel.origin parcel.content) tt (λ n. refl)
+about-each q (commands.Settle number) = λ pending.
+    about-plain q (Settled number) tt (λ n is. subst (λ (i : ℕ). is_numbered (λ m. awaits_transfer q.lines m) q.lines i ≡ true) (eqb-true number n is) pending)
 about-each q commands.FirstParcel = tt
 about-each q commands.Look = tt
-about-each q command = about-plain q _ tt
+about-each q command = about-idle q _ tt (λ n. refl)
 
 pub about-outcome : (q : QueueHistory) (command : Command) → IfSome (outcome_of q command).event (IsAbout q)
-about-outcome q command = added (IsAbout q) q (λ fault. about-plain q (Refused fault) tt) command (about-each q command)
+about-outcome q command = added (IsAbout q) q (λ fault. about-idle q (Refused fault) tt (λ n. refl)) command (about-each q command)
 
 pub about-caused : (q : QueueHistory) (event : Event ContentText) → IsCausedIn q event → IsAbout q event
 about-caused q event caused = subst (λ (o : Option (Event ContentText)). IfSome o (IsAbout q)) caused.added (about-outcome q caused.command)
