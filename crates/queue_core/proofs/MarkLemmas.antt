@@ -1,5 +1,5 @@
 -- The definitions of a queue's numbers do not look at a content: over marks they give what they give over lines.
-use Rattle.std.proofs.Common.{◌≡◌, ℕ, suc, ◌-◌, false, cond, List, [], ◌∷◌, map, drop, refl, sym, ap, ◌∙◌}
+use Rattle.std.proofs.Common.{◌≡◌, ℕ, suc, false, cond, List, [], ◌∷◌, map, drop, refl, sym, ap, ◌∙◌}
 use Rattle.std.specs.List.{list_any, AllByRecursion}
 use Rattle.std.proofs.lemmas.List.{drop-map}
 use Rattle.std.proofs.lemmas.List.Sums.{sum_by-cons}

@@ -1,7 +1,7 @@
 -- What one entry more makes of what a journal comes to.
 use Rattle.std.proofs.Common.{◌≡◌, ℕ, ◌+◌, true, cond, ◌||◌, List, [], ◌∷◌, ◌++◌, refl, sym, ap, ◌∙◌}
 use Rattle.queue_core.specs.declared.tally.Tally.{Tally}
-use Rattle.queue_core.specs.Messages.{message_count, settings_after, gives_settings, opens, created_time, modified_from, closes, is_closed}
+use Rattle.queue_core.specs.Messages.{message_count, settings_after, gives_settings, opens, created_time, modified_from, closes}
 use Rattle.queue_core.specs.Tally.{births, Tallies}
 use Rattle.queue_core.specs.Queue.{QueueHistory}
 use Rattle.queue_core.specs.Legal.{BeginsAndFollows}
