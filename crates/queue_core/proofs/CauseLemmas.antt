@@ -1,6 +1,6 @@
 -- What the event of a command is about: it opens no queue, offers and lets leave visible messages, each once, and confirms a transfer that waits.
 use Rattle.std.proofs.Common.{◌≡◌, ℕ, suc, Bool, true, false, not, cond, eqb, List, [], ◌∷◌, Option, Some, None, refl, sym, ap, subst, inl, inr, ◌∙◌, arith}
-use Rattle.std.specs.Prelude.{⊤, ◌≢◌, nat_eq, nat_lt, nat_le, unwrap_or, filter, slice_get}
+use Rattle.std.specs.Prelude.{⊤, ◌≢◌, IfSome, nat_eq, nat_lt, nat_le, unwrap_or, filter, slice_get}
 use Rattle.std.specs.Option.{option_map_or}
 use Rattle.std.specs.List.{All, AllPairs}
 use Rattle.std.proofs.lemmas.Option.{slice_get-get_or}
@@ -13,7 +13,7 @@ use Rattle.message.specs.Content.{ContentText, content_size}
 use Rattle.queue_config.specs.Settings.{settings_with}
 use Rattle.journal.specs.declared.entry.Entry.{Entry}
 use Rattle.journal.specs.declared.entry.Event.{Event}
-use Rattle.journal.specs.declared.entry.Event.TheVariants.{Opened, Received, Changed, Deleted, DeletedAgain, Purged, Set, Settled, Closed}
+use Rattle.journal.specs.declared.entry.Event.TheVariants.{Opened, Sent, Arrived, Received, Changed, Deleted, DeletedAgain, Purged, Set, Settled, Orphaned, Refused, Closed}
 use Rattle.queue_core.specs.declared.command.Command.{Command}
 use Rattle.queue_core.specs.declared.command.Command.TheVariants as commands
 use Rattle.queue_core.specs.declared.facts.Candidate.{Candidate}
@@ -183,97 +183,102 @@ about-received q maximum timeout =
     (λ n is. apart-kept (λ c. is_exhausted q c) n (scanned_candidates q maximum) (scanned_apart q maximum) is)
     (offered_apart q maximum) (leaving_apart q maximum)
 
--- ---- a confirmation
-
-about-settled : (q : QueueHistory) (number : ℕ) → is_pending q number ≡ true → IsAbout q (Settled number)
-about-settled q number h = record {
-  unopened = refl;
-  offered = λ n is. absurd (false≢true is);
-  departing = λ n is. absurd (false≢true is);
-  apart = λ n is. refl;
-  departing_once = AllPairs-nil (λ a b. nat_eq a b ≡ false);
-  offered_once = λ timeout target offered leaving e. absurd cc;
-  confirmed = λ n is. subst (λ (i : ℕ). is_numbered (λ m. awaits_transfer q.lines m) q.lines i ≡ true) (eqb-true number n is) h;
-}
-
 -- ---- every other event
 
--- neither the opening of a queue nor a receive nor a confirmation
+-- neither the opening of a queue nor a receive
 abbrev IsPlain : Event ContentText → Type 0
 IsPlain (Opened uid settings) = ⊥
 IsPlain (Received timeout offered leaving target) = ⊥
-IsPlain (Settled number) = ⊥
 IsPlain event = ⊤
 
-about-plain : (q : QueueHistory) (event : Event ContentText) → IsPlain event → IsAbout q event
-about-plain q (Opened uid settings) h = absurd h
-about-plain q (Received timeout offered leaving target) h = absurd h
-about-plain q (Settled number) h = absurd h
-about-plain q event h = record {
+about-plain : (q : QueueHistory) (event : Event ContentText) → IsPlain event
+    → ((n : ℕ) → (effect_of event).confirms n ≡ true → is_numbered (λ m. awaits_transfer q.lines m) q.lines n ≡ true) → IsAbout q event
+about-plain q (Opened uid settings) h k = absurd h
+about-plain q (Received timeout offered leaving target) h k = absurd h
+about-plain q event h k = record {
   unopened = refl;
   offered = λ n is. absurd (false≢true is);
   departing = λ n is. absurd (false≢true is);
   apart = λ n is. refl;
   departing_once = AllPairs-nil (λ a b. nat_eq a b ≡ false);
   offered_once = λ timeout target offered leaving e. absurd cc;
-  confirmed = λ n is. absurd (false≢true is);
+  confirmed = k;
 }
+
+about-idle : (q : QueueHistory) (event : Event ContentText) → IsPlain event → ((n : ℕ) → (effect_of event).confirms n ≡ false) → IsAbout q event
+about-idle q event h none = about-plain q event h (λ n is. absurd (false≢true (sym (none n) ∙ is)))
 
 -- ---- every command
 
-abbrev IsAboutAny : QueueHistory → Option (Event ContentText) → Type 0
-IsAboutAny q None = ⊤
-IsAboutAny q (Some event) = IsAbout q event
+-- what is to be shown where something is so of each event that a command adds, but for refusals
+abbrev pub IsSoOfAdded : QueueHistory → (Event ContentText → Type 0) → Command → Type 0
+IsSoOfAdded q P (commands.Send content delay) = P (Sent (unwrap_or delay (settings_of q.lines).delay_seconds) content)
+IsSoOfAdded q P (commands.Receive maximum timeout) = P (received_event q maximum timeout)
+IsSoOfAdded q P (commands.Change handle timeout) = P (Changed handle.number timeout)
+IsSoOfAdded q P (commands.Delete handle) = P (Deleted handle.number) × P DeletedAgain
+IsSoOfAdded q P commands.Purge = P Purged
+IsSoOfAdded q P (commands.Set wish target) = P (Set (settings_with (settings_of q.lines) wish target))
+IsSoOfAdded q P (commands.Arrive parcel) = has_accepted q.lines parcel.origin.uid parcel.origin.number ≡ false → P (Arrived parcel.origin parcel.content)
+IsSoOfAdded q P (commands.Settle number) = is_pending q number ≡ true → P (Settled number)
+IsSoOfAdded q P (commands.Orphan target) = P (Orphaned target)
+IsSoOfAdded q P commands.FirstParcel = ⊤
+IsSoOfAdded q P commands.Close = P Closed
+IsSoOfAdded q P commands.Look = ⊤
 
-module _ (q : QueueHistory) where
-  about-unless_refused : (r : Option Fault) (o : Outcome) → IsAboutAny q o.event → IsAboutAny q (unless_refused r o).event
-  about-unless_refused None o h = h
-  about-unless_refused (Some fault) o h = tt
+module _ (P : Event ContentText → Type 0) where
+  pub added-unless_refused : (r : Option Fault) (o : Outcome) → IfSome o.event P → IfSome (unless_refused r o).event P
+  added-unless_refused None o h = h
+  added-unless_refused (Some fault) o h = tt
 
-  about-refusal : (fault : Fault) → IsAboutAny q (refusal fault).event
-  about-refusal fault = about-plain q _ tt
+  pub added-cond : (b : Bool) (o p : Outcome) → (b ≡ true → IfSome o.event P) → (b ≡ false → IfSome p.event P) → IfSome (cond b o p).event P
+  added-cond true o p h k = h refl
+  added-cond false o p h k = k refl
 
-  about-refused_or : (r : Option Fault) (o : Outcome) → IsAboutAny q o.event → IsAboutAny q (refused_or r o).event
-  about-refused_or None o h = h
-  about-refused_or (Some fault) o h = about-refusal fault
+  added-refused_or : (r : Option Fault) (o : Outcome) → ((fault : Fault) → P (Refused fault)) → IfSome o.event P → IfSome (refused_or r o).event P
+  added-refused_or None o f h = h
+  added-refused_or (Some fault) o f h = f fault
 
-  about-cond : (b : Bool) (o p : Outcome) → IsAboutAny q o.event → IsAboutAny q p.event → IsAboutAny q (cond b o p).event
-  about-cond true o p h k = h
-  about-cond false o p h k = k
+  added-deletion : (b : Bool) (number : ℕ) → P (Deleted number) × P DeletedAgain → IfSome (done (cond b (Deleted number) DeletedAgain)).event P
+  added-deletion true number h = h.0
+  added-deletion false number h = h.1
 
-  about-cond_true : (b : Bool) (o p : Outcome) → (b ≡ true → IsAboutAny q o.event) → IsAboutAny q p.event → IsAboutAny q (cond b o p).event
-  about-cond_true true o p h k = h refl
-  about-cond_true false o p h k = k
+  module _ (q : QueueHistory) (refused : (fault : Fault) → P (Refused fault)) where
+    pub added : (command : Command) → IsSoOfAdded q P command → IfSome (outcome_of q command).event P
+    added (commands.Send content delay) h =
+        added-unless_refused (first_refusal q) (send_outcome q content delay)
+        (added-cond (nat_lt (settings_of q.lines).maximum_message_size (content_size content)) (refusal InvalidParameterValue) _ (λ large. refused InvalidParameterValue) (λ fits. h))
+    added (commands.Receive maximum timeout) h =
+        added-unless_refused (first_refusal q) (receive_outcome q maximum timeout)
+        (added-cond (nat_le q.limits.in_flight (in_flight_count q)) (refusal OverLimit) _ (λ full. refused OverLimit) (λ room. h))
+    added (commands.Change handle timeout) h =
+        added-unless_refused (first_refusal q) (change_outcome q handle timeout) (added-refused_or (change_refusal q handle timeout) (done (Changed handle.number timeout)) refused h)
+    added (commands.Delete handle) h =
+        added-unless_refused (first_refusal q) (delete_outcome q handle)
+        (added-cond (is_valid_handle q handle) (done (cond (holds_live q handle) (Deleted handle.number) DeletedAgain)) (refusal ReceiptHandleIsInvalid)
+        (λ valid. added-deletion (holds_live q handle) handle.number h) (λ invalid. refused ReceiptHandleIsInvalid))
+    added commands.Purge h = added-unless_refused (first_refusal q) (done Purged) h
+    added (commands.Set wish target) h = added-unless_refused (first_refusal q) (done (Set (settings_with (settings_of q.lines) wish target))) h
+    added (commands.Arrive parcel) h =
+        added-unless_refused (first_refusal q) (arrive_outcome q parcel) (added-cond (has_accepted q.lines parcel.origin.uid parcel.origin.number) _ _ (λ again. tt) h)
+    added (commands.Settle number) h = added-unless_refused (first_refusal q) (settle_outcome q number) (added-cond (is_pending q number) _ _ h (λ none. tt))
+    added (commands.Orphan target) h = added-unless_refused (first_refusal q) (orphan_outcome q target) h
+    added commands.FirstParcel h = tt
+    added commands.Close h = added-cond (is_closed q.lines) _ (done Closed) (λ closed. tt) (λ open_still. h)
+    added commands.Look h = tt
 
-  about-deletion : (b : Bool) (number : ℕ) → IsAboutAny q (done (cond b (Deleted number) DeletedAgain)).event
-  about-deletion true number = about-plain q (Deleted number) tt
-  about-deletion false number = about-plain q DeletedAgain tt
+-- what each is about
+about-each : (q : QueueHistory) (command : Command) → IsSoOfAdded q (IsAbout q) command
+about-each q (commands.Receive maximum timeout) = about-received q maximum timeout
+about-each q (commands.Delete handle) = (about-idle q (Deleted handle.number) tt (λ n. refl), about-idle q DeletedAgain tt (λ n. refl))
+about-each q (commands.Arrive parcel) = λ first. about-idle q (Arrived parcel.origin parcel.content) tt (λ n. refl)
+about-each q (commands.Settle number) = λ pending.
+    about-plain q (Settled number) tt (λ n is. subst (λ (i : ℕ). is_numbered (λ m. awaits_transfer q.lines m) q.lines i ≡ true) (eqb-true number n is) pending)
+about-each q commands.FirstParcel = tt
+about-each q commands.Look = tt
+about-each q command = about-idle q _ tt (λ n. refl)
 
-  about-outcome : (command : Command) → IsAboutAny q (outcome_of q command).event
-  about-outcome (commands.Send content delay) =
-      about-unless_refused (first_refusal q) (send_outcome q content delay)
-      (about-cond (nat_lt (settings_of q.lines).maximum_message_size (content_size content)) (refusal InvalidParameterValue) _ (about-refusal InvalidParameterValue) (about-plain q _ tt))
-  about-outcome (commands.Receive maximum timeout) =
-      about-unless_refused (first_refusal q) (receive_outcome q maximum timeout)
-      (about-cond (nat_le q.limits.in_flight (in_flight_count q)) (refusal OverLimit) _ (about-refusal OverLimit) (about-received q maximum timeout))
-  about-outcome (commands.Change handle timeout) =
-      about-unless_refused (first_refusal q) (change_outcome q handle timeout)
-      (about-refused_or (change_refusal q handle timeout) (done (Changed handle.number timeout)) (about-plain q (Changed handle.number timeout) tt))
-  about-outcome (commands.Delete handle) =
-      about-unless_refused (first_refusal q) (delete_outcome q handle)
-      (about-cond (is_valid_handle q handle) (done (cond (holds_live q handle) (Deleted handle.number) DeletedAgain)) (refusal ReceiptHandleIsInvalid)
-      (about-deletion (holds_live q handle) handle.number) (about-refusal ReceiptHandleIsInvalid))
-  about-outcome commands.Purge = about-unless_refused (first_refusal q) (done Purged) (about-plain q Purged tt)
-  about-outcome (commands.Set wish target) =
-      about-unless_refused (first_refusal q) (done (Set (settings_with (settings_of q.lines) wish target))) (about-plain q (Set (settings_with (settings_of q.lines) wish target)) tt)
-  about-outcome (commands.Arrive parcel) =
-      about-unless_refused (first_refusal q) (arrive_outcome q parcel) (about-cond (has_accepted q.lines parcel.origin.uid parcel.origin.number) _ _ tt (about-plain q _ tt))
-  about-outcome (commands.Settle number) =
-      about-unless_refused (first_refusal q) (settle_outcome q number) (about-cond_true (is_pending q number) _ _ (λ h. about-settled q number h) tt)
-  about-outcome (commands.Orphan target) = about-unless_refused (first_refusal q) (orphan_outcome q target) (about-plain q _ tt)
-  about-outcome commands.FirstParcel = tt
-  about-outcome commands.Close = about-cond (is_closed q.lines) _ (done Closed) tt (about-plain q Closed tt)
-  about-outcome commands.Look = tt
+pub about-outcome : (q : QueueHistory) (command : Command) → IfSome (outcome_of q command).event (IsAbout q)
+about-outcome q command = added (IsAbout q) q (λ fault. about-idle q (Refused fault) tt (λ n. refl)) command (about-each q command)
 
 pub about-caused : (q : QueueHistory) (event : Event ContentText) → IsCausedIn q event → IsAbout q event
-about-caused q event caused = subst (λ (o : Option (Event ContentText)). IsAboutAny q o) caused.added (about-outcome q caused.command)
+about-caused q event caused = subst (λ (o : Option (Event ContentText)). IfSome o (IsAbout q)) caused.added (about-outcome q caused.command)

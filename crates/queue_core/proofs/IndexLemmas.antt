@@ -37,7 +37,7 @@ use Rattle.queue_core.specs.Indexed.{IsIndexOf}
 use Rattle.queue_core.proofs.Scans.{length-messages_from}
 use Rattle.queue_core.proofs.PushLemmas.{count-push, numbered-kept}
 use Rattle.queue_core.proofs.FactLemmas.{Line, course-push, receives-push, numbered-number, numbered-place, numbered-past, unborn, about, pending-push, pending_of}
-use Rattle.queue_core.proofs.RecordLemmas.{recorded-later, recorded-settled, settled_is, recorded-event}
+use Rattle.queue_core.proofs.RecordLemmas.{left_at, recorded-later, recorded-settled, settled_is, recorded-event}
 use Rattle.queue_core.proofs.IndexedLemmas.{shown_is, left_is}
 use Rattle.queue_core.proofs.AppliedLemmas.{IsApplied}
 
@@ -109,15 +109,6 @@ pub record IsSettling (retention at : ℕ) (x y : MessageIndex) : Type 0 where
 -- what is shown was due by a time
 abbrev IsShownBy : ℕ → MessageIndex → Type 0
 IsShownBy clock x = (n : ℕ) (r : Record) → records_in x n ≡ Some r → r.slot.stay ≡ Shown → r.slot.due ≤ clock
-
-left_at : (clock : ℕ) (stay : Stay) (due : ℕ) → is_left_stay (stay_at clock stay due) ≡ is_left_stay stay
-left_at clock Hidden due = by_test (nat_le due clock)
-  where
-    by_test : (b : Bool) → is_left_stay (cond b Shown Hidden) ≡ false
-    by_test true = refl
-    by_test false = refl
-left_at clock Shown due = refl
-left_at clock (Left target ran_out) due = refl
 
 left_if : (stay : Stay) (out : Bool) (after : Record) → is_left_record after ≡ is_left_stay stay
     → is_left (option_map (λ r. r.slot) (cond (not (is_left_stay stay) && out) None (Some after))) ≡ is_left_stay stay

@@ -3,6 +3,7 @@ pub mod TallyLemmas
 pub mod LegalLemmas
 pub mod RunLemmas
 pub mod OrderLemmas
+mod AlikeLemmas
 pub mod MarkLemmas
 pub mod MetricLemmas
 pub mod OfferLemmas

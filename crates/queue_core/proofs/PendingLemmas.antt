@@ -38,7 +38,7 @@ filter_twice : {X : Type 0} (p q : X → Bool) (xs : List X) → filter q (filte
 filter_twice p q [] = refl
 filter_twice p q (x ∷ xs) = filter_twice-cond (p x) q x (filter p xs) (filter (λ y. p y && q y) xs) (filter_twice p q xs)
 
-filter_all : {X : Type 0} (xs : List X) → filter (λ x. true) xs ≡ xs
+pub filter_all : {X : Type 0} (xs : List X) → filter (λ x. true) xs ≡ xs
 filter_all [] = refl
 filter_all (x ∷ xs) = ap (λ (ys : List _). x ∷ ys) (filter_all xs)
 

@@ -38,7 +38,7 @@ or_assoc : (a b c : Bool) → (a || (b || c)) ≡ ((a || b) || c)
 or_assoc true b c = refl
 or_assoc false b c = refl
 
-slice_get-prefix : {X : Type 0} (xs ys : List X) (i : ℕ) (x : X) → slice_get xs i ≡ Some x → slice_get (xs ++ ys) i ≡ Some x
+pub slice_get-prefix : {X : Type 0} (xs ys : List X) (i : ℕ) (x : X) → slice_get xs i ≡ Some x → slice_get (xs ++ ys) i ≡ Some x
 slice_get-prefix [] ys i x h = absurd (none-some x h)
 slice_get-prefix (z ∷ xs) ys zero x h = h
 slice_get-prefix (z ∷ xs) ys (suc i) x h = slice_get-prefix xs ys i x h
@@ -84,7 +84,7 @@ course_from-push number c [] e = refl
 course_from-push number c (x ∷ xs) e = course_from-push number (course_after number c x) xs e
 
 -- as a message begins
-abbrev first_course : Message → Course
+abbrev pub first_course : Message → Course
 first_course m = record { status = Present; due = m.first_due_time; returned = false }
 
 pub course-push : (lines : List Line) (e : Line) (m : Message) → m.place < length lines → course_of (lines ++ e ∷ []) m ≡ course_after m.number (course_of lines m) e
@@ -323,6 +323,13 @@ none_ran_out place s (x ∷ xs) m h =
     by_closing (closes_period x.event) (λ p. runs_out_in m p) (period place s x.at) (closed_periods_from (suc place) (settings_after s x.event) xs)
     ∙ or_from (closes_period x.event && runs_out_in m (period place s x.at)) (list_any (λ p. runs_out_in m p) (closed_periods_from (suc place) (settings_after s x.event) xs)) here
     (none_ran_out (suc place) (settings_after s x.event) xs m (omega arith))
+
+-- what has not come has not expired
+pub unexpired-past : (lines : List Line) (clock : ℕ) (m : Message) → length lines ≤ m.place → is_expired lines clock m ≡ false
+unexpired-past lines clock m h =
+    any-periods (λ p. runs_out_in m p) 0 default_settings clock lines (length lines) (omega arith)
+    ∙ or_from (ran_out_before lines m) (runs_out_in m (period (length lines) (settings_of lines) clock)) (none_ran_out 0 default_settings lines m (omega arith))
+    (and_left (ltb m.place (length lines)) (runs_out_by (settings_of lines) clock m) (le-ltb m.place (length lines) h))
 
 pub newborn : (lines : List Line) (e : Line) (n : ℕ) (m : Message) → message_of (length lines) n e.at e.event ≡ Some m → IsNewborn lines e m
 newborn lines e n m h =

@@ -4,7 +4,7 @@ use Rattle.std.specs.Prelude.{◌⊎◌, nat_eq, nat_le, option_map, option_and_
 use Rattle.std.specs.Option.{option_map_or}
 use Rattle.std.proofs.Math.Bool.{and-false}
 use Rattle.std.proofs.Math.Nat.{add-zero}
-use Rattle.std.proofs.lemmas.Bool.{false≢true, and_parts, leb-true, le-leb, eqb-true, ne_eqb, false_from_ne_true}
+use Rattle.std.proofs.lemmas.Bool.{false≢true, and_parts, or_right, leb-true, le-leb, eqb-true, ne_eqb, false_from_ne_true}
 use Rattle.std.proofs.lemmas.List.{length-append}
 use Rattle.std.proofs.lemmas.Option.{none-some, same_Some}
 use Rattle.message.specs.Content.{ContentText}
@@ -28,7 +28,7 @@ use Rattle.queue_core.specs.Slots.{is_left_stay}
 use Rattle.queue_core.specs.Records.{with_stay, has_run_out, stay_at, is_left_record, settled_record, record_after, Records, IsSettled, born_record, records_after, records_settled}
 use Rattle.queue_core.specs.Recorded.{ran_out_before, runs_out_by, IsStanding, IsRecordOf, AreRecorded}
 use Rattle.queue_core.proofs.FactLemmas.{Line, settings_from-push, course-push, ran_out-push, expired-split, receives-push, first-push, last-push, content-push, numbered-push, numbered-number, numbered-place, numbered-past, newborn, unborn, about}
-use Rattle.queue_core.proofs.ToldLemmas.{Told, IsTold, told_after, there_unless, gone_if, told-next, told-gone, untold}
+use Rattle.queue_core.proofs.ToldLemmas.{Told, IsTold, told-with, told_after, there_unless, gone_if, told-next, told-gone, untold}
 
 -- ---- what is there behind a step
 
@@ -63,7 +63,7 @@ runs_out-later s clock later m h by =
     let end : m.first_send_time + 1000 * s.retention_seconds ≤ clock = leb-true (m.first_send_time + 1000 * s.retention_seconds) clock by in
     le-leb (m.first_send_time + 1000 * s.retention_seconds) later (omega arith)
 
-expired-later : (lines : List Line) (clock later : ℕ) (m : Message) → m.place < length lines → clock ≤ later → is_expired lines clock m ≡ true → is_expired lines later m ≡ true
+pub expired-later : (lines : List Line) (clock later : ℕ) (m : Message) → m.place < length lines → clock ≤ later → is_expired lines clock m ≡ true → is_expired lines later m ≡ true
 expired-later lines clock later m placed h expired =
     expired-split lines later m placed
     ∙ either-later (ran_out_before lines m) (runs_out_by (settings_of lines) clock m) (runs_out_by (settings_of lines) later m) (runs_out-later (settings_of lines) clock later m h)
@@ -75,6 +75,43 @@ recorded-later lines clock later records h is = record {
   none = λ n m numbered gone.
       let dead = is.none n m numbered gone in
       (dead-later (is_present lines m) (is_expired lines clock m) (is_expired lines later m) (expired-later lines clock later m (numbered-place lines n m numbered) h) dead.0, dead.1);
+}
+
+-- ---- what a journal tells
+
+-- what a journal tells of a message
+abbrev told_of : List Line → Message → Told
+told_of lines m = record {
+  content = content_of lines m;
+  first_receive = first_receive_time lines m.number;
+  last_receive = last_receive_time lines m.number;
+  fresh = eqb (receive_count lines m.number) 0 && not (is_returned lines m);
+  course = course_of lines m;
+  ran_out = ran_out_before lines m;
+}
+
+told_from : (lines : List Line) (m : Message) (r : Record) → IsRecordOf lines m r → IsTold m (told_of lines m) r
+told_from lines m r is = record {
+  content = is.content;
+  enqueue_time = is.enqueue_time;
+  first_send_time = is.first_send_time;
+  origin = is.origin;
+  first_receive = is.first_receive;
+  last_receive = is.last_receive;
+  fresh = is.fresh;
+  standing = is.standing;
+}
+
+record_from : (lines : List Line) (m : Message) (r : Record) → IsTold m (told_of lines m) r → IsRecordOf lines m r
+record_from lines m r is = record {
+  content = is.content;
+  enqueue_time = is.enqueue_time;
+  first_send_time = is.first_send_time;
+  origin = is.origin;
+  first_receive = is.first_receive;
+  last_receive = is.last_receive;
+  fresh = is.fresh;
+  standing = is.standing;
 }
 
 -- ---- records settled at a time
@@ -98,16 +135,10 @@ settled_stay clock r = with_stay (stay_at clock r.slot.stay r.slot.due) r
 
 module _ (lines : List Line) (clock : ℕ) (m : Message) (r : Record) (is : IsRecordOf lines m r) where
   IsRecordOf-settled : IsRecordOf lines m (settled_stay clock r)
-  IsRecordOf-settled = record {
-    content = is.content;
-    enqueue_time = is.enqueue_time;
-    first_send_time = is.first_send_time;
-    origin = is.origin;
-    first_receive = is.first_receive;
-    last_receive = is.last_receive;
-    fresh = is.fresh;
-    standing = standing_at clock r.slot.stay r.slot.due (course_of lines m) (ran_out_before lines m) is.standing;
-  }
+  IsRecordOf-settled =
+      record_from lines m (settled_stay clock r)
+      (told-with m (told_of lines m) r (told_from lines m r is) (told_of lines m) (settled_stay clock r) refl is.first_receive is.last_receive is.fresh
+      (standing_at clock r.slot.stay r.slot.due (course_of lines m) (ran_out_before lines m) is.standing))
 
   -- a record that is let go is of a message that is there and has expired
   gone-settled : m.place < length lines → settled_record (settings_of lines).retention_seconds clock r ≡ None → (is_live lines clock m ≡ false) × (awaits_transfer lines m ≡ false)
@@ -115,12 +146,8 @@ module _ (lines : List Line) (clock : ℕ) (m : Message) (r : Record) (is : IsRe
       let test = and_parts (not (is_left_record r)) (has_run_out (settings_of lines).retention_seconds clock r) (gone_if _ (settled_stay clock r) h) in
       let present = present-here r.slot.stay r.slot.due (course_of lines m) (ran_out_before lines m) test.0 is.standing in
       let by : runs_out_by (settings_of lines) clock m ≡ true = ap (λ sent. nat_le (sent + 1000 * (settings_of lines).retention_seconds) clock) (sym is.first_send_time) ∙ test.1 in
-      let expired : is_expired lines clock m ≡ true = expired-split lines clock m placed ∙ either-later (ran_out_before lines m) true (runs_out_by (settings_of lines) clock m) (λ _. by) (or_true (ran_out_before lines m)) in
+      let expired : is_expired lines clock m ≡ true = expired-split lines clock m placed ∙ or_right (ran_out_before lines m) (runs_out_by (settings_of lines) clock m) by in
       (rw expired (and-false (is_present lines m)), ap awaits_status present)
-    where
-      or_true : (b : Bool) → (b || true) ≡ true
-      or_true true = refl
-      or_true false = refl
 
 pub recorded-settled : (lines : List Line) (clock : ℕ) (records after : Records) → AreRecorded lines clock records
     → ((n : ℕ) → after n ≡ records_settled (settings_of lines).retention_seconds clock records n) → AreRecorded lines clock after
@@ -138,7 +165,7 @@ recorded-settled lines clock records after is same = record {
     by_cases n m numbered (inl gone) = is.none n m numbered gone
     by_cases n m numbered (inr x) = gone-settled lines clock m x.0 (record_numbered lines clock records is n m x.0 numbered x.1) (numbered-place lines n m numbered) x.2
 
-left_at : (clock : ℕ) (stay : Stay) (due : ℕ) → is_left_stay (stay_at clock stay due) ≡ is_left_stay stay
+pub left_at : (clock : ℕ) (stay : Stay) (due : ℕ) → is_left_stay (stay_at clock stay due) ≡ is_left_stay stay
 left_at clock Hidden due = by_test (nat_le due clock)
   where
     by_test : (b : Bool) → is_left_stay (cond b Shown Hidden) ≡ false
@@ -188,41 +215,6 @@ settled_is retention clock records after shown same = record {
 
 -- ---- an event
 
--- what a journal tells of a message
-abbrev told_of : List Line → Message → Told
-told_of lines m = record {
-  content = content_of lines m;
-  first_receive = first_receive_time lines m.number;
-  last_receive = last_receive_time lines m.number;
-  fresh = eqb (receive_count lines m.number) 0 && not (is_returned lines m);
-  course = course_of lines m;
-  ran_out = ran_out_before lines m;
-}
-
-told_from : (lines : List Line) (m : Message) (r : Record) → IsRecordOf lines m r → IsTold m (told_of lines m) r
-told_from lines m r is = record {
-  content = is.content;
-  enqueue_time = is.enqueue_time;
-  first_send_time = is.first_send_time;
-  origin = is.origin;
-  first_receive = is.first_receive;
-  last_receive = is.last_receive;
-  fresh = is.fresh;
-  standing = is.standing;
-}
-
-record_from : (lines : List Line) (m : Message) (r : Record) → IsTold m (told_of lines m) r → IsRecordOf lines m r
-record_from lines m r is = record {
-  content = is.content;
-  enqueue_time = is.enqueue_time;
-  first_send_time = is.first_send_time;
-  origin = is.origin;
-  first_receive = is.first_receive;
-  last_receive = is.last_receive;
-  fresh = is.fresh;
-  standing = is.standing;
-}
-
 fresh-back : (never returned back : Bool) → (never && not (back || returned)) ≡ (((never && not returned) && true) && not back)
 fresh-back false returned back = refl
 fresh-back true true true = refl
@@ -271,7 +263,7 @@ module _ (lines : List Line) (at : ℕ) (event : Event ContentText) (m : Message
       ap (λ seconds. nat_le (m.first_send_time + 1000 * seconds) at) retention ∙ (f ∙ h)
 
   -- what has expired stays so behind an event
-  expired-push : opens event ≡ false → is_expired lines at m ≡ true → is_expired (lines ++ line ∷ []) at m ≡ true
+  pub expired-push : opens event ≡ false → is_expired lines at m ≡ true → is_expired (lines ++ line ∷ []) at m ≡ true
   expired-push unopened h =
       expired-split (lines ++ line ∷ []) at m placed_more
       ∙ (ap (λ b. b || runs_out_by (settings_of (lines ++ line ∷ [])) at m) (ran_out-push lines line m placed)

@@ -1,13 +1,13 @@
 -- What one entry more makes of what a journal comes to.
 use Rattle.std.proofs.Common.{◌≡◌, ℕ, ◌+◌, true, cond, ◌||◌, List, [], ◌∷◌, ◌++◌, refl, sym, ap, ◌∙◌}
 use Rattle.queue_core.specs.declared.tally.Tally.{Tally}
-use Rattle.queue_core.specs.Messages.{message_count, settings_after, gives_settings, opens, created_time, modified_from, closes, is_closed}
+use Rattle.queue_core.specs.Messages.{message_count, settings_after, gives_settings, opens, created_time, modified_from, closes}
 use Rattle.queue_core.specs.Tally.{births, Tallies}
 use Rattle.queue_core.specs.Queue.{QueueHistory}
 use Rattle.queue_core.specs.Legal.{BeginsAndFollows}
 use Rattle.queue_core.proofs.PushLemmas.{Line, settings_from-push, closed-push, count-push}
 
-modified_from-push : (time : ℕ) (lines : List Line) (e : Line) → modified_from time (lines ++ e ∷ []) ≡ cond (gives_settings e.event) e.at (modified_from time lines)
+pub modified_from-push : (time : ℕ) (lines : List Line) (e : Line) → modified_from time (lines ++ e ∷ []) ≡ cond (gives_settings e.event) e.at (modified_from time lines)
 modified_from-push time [] e = refl
 modified_from-push time (x ∷ xs) e = modified_from-push (cond (gives_settings x.event) x.at time) xs e
 

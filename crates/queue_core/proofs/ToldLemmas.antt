@@ -17,7 +17,7 @@ use Rattle.queue_core.specs.declared.slot.Stay.{Stay}
 use Rattle.queue_core.specs.declared.slot.Stay.TheVariants.{Hidden, Shown, Left}
 use Rattle.queue_core.specs.declared.record.Record.{Record}
 use Rattle.queue_core.specs.Slots.{is_left_stay}
-use Rattle.queue_core.specs.Records.{with_stay, hidden_until, received_at, back_at, has_run_out, offered_after, rescheduled_after, here_after, left_after, record_after_stay, record_after}
+use Rattle.queue_core.specs.Records.{with_stay, with_parts, hidden_until, received_at, back_at, has_run_out, offered_after, rescheduled_after, here_after, left_after, record_after_stay, record_after}
 use Rattle.queue_core.specs.Recorded.{runs_out_by, IsStanding}
 use Rattle.queue_core.proofs.FactLemmas.{first_of_both}
 
@@ -67,55 +67,33 @@ gone_if false x h = absurd (none-some x (sym h))
 -- ---- a message that is there, by what an event does to it
 
 module _ (m : Message) (t : Told) (r : Record) (is : IsTold m t r) where
+  -- the record of the same message with other receives and in another place
+  pub told-with : (u : Told) (x : Record) → u.content ≡ t.content → x.first_receive ≡ u.first_receive → x.last_receive ≡ u.last_receive → x.slot.is_fresh ≡ u.fresh
+      → IsStanding x.slot.stay x.slot.due u.course u.ran_out → IsTold m u (with_parts x.first_receive x.last_receive x.slot r)
+  told-with u x content first_receive last_receive fresh standing = record {
+    content = content ∙ is.content;
+    enqueue_time = is.enqueue_time;
+    first_send_time = is.first_send_time;
+    origin = is.origin;
+    first_receive = first_receive;
+    last_receive = last_receive;
+    fresh = fresh;
+    standing = standing;
+  }
+
   offered-told : (at : ℕ) (b : Bool)
       → IsTold m (record t { first_receive = first_of_both t.first_receive (cond b (Some at) None); last_receive = cond b at t.last_receive; fresh = t.fresh && not b }) (cond b (received_at at r) r)
-  offered-told at true = record {
-    content = is.content;
-    enqueue_time = is.enqueue_time;
-    first_send_time = is.first_send_time;
-    origin = is.origin;
-    first_receive = ap (λ (o : Option ℕ). Some (unwrap_or o at)) is.first_receive ∙ first-some at t.first_receive;
-    last_receive = refl;
-    fresh = sym (and-false t.fresh);
-    standing = is.standing;
-  }
-  offered-told at false = record {
-    content = is.content;
-    enqueue_time = is.enqueue_time;
-    first_send_time = is.first_send_time;
-    origin = is.origin;
-    first_receive = is.first_receive ∙ sym (first-none t.first_receive);
-    last_receive = is.last_receive;
-    fresh = is.fresh ∙ sym (and-true t.fresh);
-    standing = is.standing;
-  }
+  offered-told at true = told-with _ (received_at at r) refl (ap (λ (o : Option ℕ). Some (unwrap_or o at)) is.first_receive ∙ first-some at t.first_receive) refl (sym (and-false t.fresh)) is.standing
+  offered-told at false = told-with _ r refl (is.first_receive ∙ sym (first-none t.first_receive)) is.last_receive (is.fresh ∙ sym (and-true t.fresh)) is.standing
 
   module _ (present : t.course.status ≡ Present) (kept : t.ran_out ≡ false) where
     rescheduled-told : (due : ℕ) (b : Bool) → IsTold m (record t { course = record t.course { due = cond b due t.course.due } }) (cond b (hidden_until due r) r)
-    rescheduled-told due true = record {
-      content = is.content;
-      enqueue_time = is.enqueue_time;
-      first_send_time = is.first_send_time;
-      origin = is.origin;
-      first_receive = is.first_receive;
-      last_receive = is.last_receive;
-      fresh = is.fresh;
-      standing = (present, refl, kept);
-    }
+    rescheduled-told due true = told-with _ (hidden_until due r) refl is.first_receive is.last_receive is.fresh (present, refl, kept)
     rescheduled-told due false = is
 
     departed-told : (target : ℕ) (b : Bool)
         → IsTold m (record t { course = record t.course { status = cond b (Waiting target) Present } }) (cond b (with_stay (Left target false) r) r)
-    departed-told target true = record {
-      content = is.content;
-      enqueue_time = is.enqueue_time;
-      first_send_time = is.first_send_time;
-      origin = is.origin;
-      first_receive = is.first_receive;
-      last_receive = is.last_receive;
-      fresh = is.fresh;
-      standing = (refl, kept);
-    }
+    departed-told target true = told-with _ (with_stay (Left target false) r) refl is.first_receive is.last_receive is.fresh (refl, kept)
     departed-told target false = subst (λ (s : Status). IsTold m (record t { course = record t.course { status = s } }) r) present is
 
 -- ---- one event, by the settings in force until then, at its time
@@ -205,29 +183,15 @@ module _ (s : QueueSettings) (at : ℕ) (event : Event ContentText) (m : Message
       left-last = is.last_receive ∙ rw unoffered refl
 
       back-told : t.ran_out ≡ false → loses target event ≡ true → IsTold m (told_after s at event m t) (back_at at r)
-      back-told kept lost = record {
-        content = is.content;
-        enqueue_time = is.enqueue_time;
-        first_send_time = is.first_send_time;
-        origin = is.origin;
-        first_receive = left-first;
-        last_receive = left-last;
-        fresh = rw (waiting, lost) (sym (and-false (t.fresh && not (offers_number m.number event))));
-        standing = (rw (waiting, lost) refl, rw (waiting, lost) refl, rw (kept, lost-open target event lost) refl);
-      }
+      back-told kept lost =
+          told-with m t r is (told_after s at event m t) (back_at at r) refl left-first left-last (rw (waiting, lost) (sym (and-false (t.fresh && not (offers_number m.number event)))))
+          (rw (waiting, lost) refl, rw (waiting, lost) refl, rw (kept, lost-open target event lost) refl)
 
       stays-told : (ran_out : Bool) → t.ran_out ≡ ran_out → loses target event ≡ false → (effect_of event).confirms m.number ≡ false → closes event ≡ false
           → IsTold m (told_after s at event m t) (left_record r target ran_out)
-      stays-told ran_out ran unlost unconfirmed unclosed = record {
-        content = is.content;
-        enqueue_time = is.enqueue_time;
-        first_send_time = is.first_send_time;
-        origin = is.origin;
-        first_receive = left-first;
-        last_receive = left-last;
-        fresh = is.fresh ∙ rw (waiting, unlost, unoffered) (sym (and-true (t.fresh && true) ∙ and-true t.fresh));
-        standing = (rw (waiting, unlost, unconfirmed, unclosed) refl, rw (ran, ran-same) refl);
-      }
+      stays-told ran_out ran unlost unconfirmed unclosed =
+          told-with m t r is (told_after s at event m t) (left_record r target ran_out) refl left-first left-last
+          (is.fresh ∙ rw (waiting, unlost, unoffered) (sym (and-true (t.fresh && true) ∙ and-true t.fresh))) (rw (waiting, unlost, unconfirmed, unclosed) refl, rw (ran, ran-same) refl)
 
       left-next : (ran_out : Bool) (after : Record) → t.ran_out ≡ ran_out → left_after s at event m.number target ran_out r ≡ Some after → IsTold m (told_after s at event m t) after
       left-next ran_out after ran h = by_tests (loses target event) ran_out ((effect_of event).confirms m.number) (closes event) refl ran refl refl h

@@ -1,14 +1,12 @@
 -- Which entries the commands for one queue add.
-use Rattle.std.proofs.Common.{◌≡◌, ℕ, ◌-◌, Bool, true, false, cond, ◌||◌, List, [], ◌∷◌, Option, Some, None, Result, refl, sym, ap, subst, inl, inr, ◌∙◌}
-use Rattle.std.specs.Prelude.{⊤, ◌⊎◌, nat_lt, nat_le, option_map, option_and_then, slice_get, IfSome}
+use Rattle.std.proofs.Common.{◌≡◌, ℕ, Bool, true, false, cond, List, [], ◌∷◌, Option, Some, None, Result, refl, sym, ap, subst, inl, inr, ◌∙◌}
+use Rattle.std.specs.Prelude.{⊤, ◌⊎◌, option_map, option_and_then, slice_get, IfSome}
 use Rattle.std.specs.List.{Contains}
 use Rattle.std.proofs.lemmas.List.Elements.{Contains-append_left, Contains-push}
 use Rattle.std.proofs.lemmas.Option.{none-some, same_Some}
 use Rattle.message.specs.declared.fault.Fault.{Fault}
-use Rattle.message.specs.declared.fault.Fault.TheVariants.{InvalidParameterValue, ReceiptHandleIsInvalid, OverLimit}
-use Rattle.message.specs.Content.{ContentText, content_size}
+use Rattle.message.specs.Content.{ContentText}
 use Rattle.message.specs.Fault.{is_out_of_memory}
-use Rattle.queue_config.specs.Settings.{settings_with}
 use Rattle.journal.specs.declared.entry.Event.{Event}
 use Rattle.journal.specs.declared.entry.Event.TheVariants.{Opened, Sent, Arrived, Received, Changed, Deleted, DeletedAgain, Purged, Set, Settled, Orphaned, Refused, Closed}
 use Rattle.queue_core.specs.declared.command.Command.{Command}
@@ -16,11 +14,11 @@ use Rattle.queue_core.specs.declared.command.Command.TheVariants as commands
 use Rattle.queue_core.specs.declared.facts.Message.{Message}
 use Rattle.queue_core.specs.declared.facts.Transfer.{Transfer}
 use Rattle.queue_core.specs.declared.parcel.Parcel.{Parcel}
-use Rattle.queue_core.specs.Messages.{settings_of, course_of, pending_transfers, content_of, has_accepted, message_id}
+use Rattle.queue_core.specs.Messages.{course_of, pending_transfers, content_of, has_accepted, message_id}
 use Rattle.queue_core.specs.States.{message_numbered}
-use Rattle.queue_core.specs.Queue.{QueueHistory, Outcome, at_moment, refusal, unless_refused, first_refusal, refused_or, done, send_outcome, receive_outcome, change_outcome, delete_outcome, in_flight_count, leaving_candidates, numbers_of, change_refusal, is_valid_handle, holds_live, arrive_outcome, is_pending, settle_outcome, orphan_outcome, outcome_of, leaves_clock, reached, outcome_at, with_optional_event, after_answer, parcel_of, transferred_parcel, first_parcel_of}
+use Rattle.queue_core.specs.Queue.{QueueHistory, at_moment, first_refusal, leaving_candidates, numbers_of, arrive_outcome, is_pending, settle_outcome, orphan_outcome, outcome_of, leaves_clock, reached, outcome_at, with_optional_event, after_answer, parcel_of, transferred_parcel, first_parcel_of}
 use Rattle.redrive.specs.World.{is_internal}
-use Rattle.queue_core.proofs.CauseLemmas.{about-received}
+use Rattle.queue_core.proofs.CauseLemmas.{IsSoOfAdded, added-unless_refused, added-cond, added, about-received}
 use Rattle.queue_core.proofs.PushLemmas.{numbered-number}
 use Rattle.queue_core.proofs.PendingLemmas.{present_numbered}
 use Rattle.redrive.proofs.transfers.Journals.{Line, Lines, more}
@@ -51,49 +49,20 @@ IsOwn lines (Orphaned target) = ⊥
 IsOwn lines (Refused fault) = ⊤
 IsOwn lines Closed = ⊥
 
-module _ (P : Event ContentText → Type 0) where
-  pub unless_refused-event : (r : Option Fault) (o : Outcome) → IfSome o.event P → IfSome (unless_refused r o).event P
-  unless_refused-event None o h = h
-  unless_refused-event (Some fault) o h = tt
+pub if_some-at : (P : Event ContentText → Type 0) (o : Option (Event ContentText)) (event : Event ContentText) → IfSome o P → o ≡ Some event → P event
+if_some-at P o event h e = subst (λ (o : Option (Event ContentText)). IfSome o P) e h
 
-  pub refused_or-event : (r : Option Fault) (o : Outcome) → ((fault : Fault) → P (Refused fault)) → IfSome o.event P → IfSome (refused_or r o).event P
-  refused_or-event None o f h = h
-  refused_or-event (Some fault) o f h = f fault
-
-  pub cond-event : (b : Bool) (o p : Outcome) → IfSome o.event P → IfSome p.event P → IfSome (cond b o p).event P
-  cond-event true o p h k = h
-  cond-event false o p h k = k
-
-  pub if_some-at : (o : Option (Event ContentText)) (event : Event ContentText) → IfSome o P → o ≡ Some event → P event
-  if_some-at None event h e = absurd (none-some event e)
-  if_some-at (Some other) event h e = subst P (same_Some other event e) h
-
-deletion-own : (lines : Lines) (b : Bool) (number : ℕ) → IfSome (done (cond b (Deleted number) DeletedAgain)).event (IsOwn lines)
-deletion-own lines true number = tt
-deletion-own lines false number = tt
+own-each : (q : QueueHistory) (command : Command) → is_internal command ≡ false → IsSoOfAdded q (IsOwn q.lines) command
+own-each q (commands.Receive maximum timeout) h = leaving-present q maximum timeout
+own-each q (commands.Delete handle) h = (tt, tt)
+own-each q (commands.Arrive parcel) h = absurd cc
+own-each q (commands.Settle number) h = absurd cc
+own-each q (commands.Orphan target) h = absurd cc
+own-each q commands.Close h = absurd cc
+own-each q command h = tt
 
 own : (q : QueueHistory) (command : Command) → is_internal command ≡ false → IfSome (outcome_of q command).event (IsOwn q.lines)
-own q (commands.Send content delay) h =
-    unless_refused-event (IsOwn q.lines) (first_refusal q) (send_outcome q content delay)
-    (cond-event (IsOwn q.lines) (nat_lt (settings_of q.lines).maximum_message_size (content_size content)) (refusal InvalidParameterValue) _ tt tt)
-own q (commands.Receive maximum timeout) h =
-    unless_refused-event (IsOwn q.lines) (first_refusal q) (receive_outcome q maximum timeout)
-    (cond-event (IsOwn q.lines) (nat_le q.limits.in_flight (in_flight_count q)) (refusal OverLimit) _ tt (leaving-present q maximum timeout))
-own q (commands.Change handle timeout) h =
-    unless_refused-event (IsOwn q.lines) (first_refusal q) (change_outcome q handle timeout)
-    (refused_or-event (IsOwn q.lines) (change_refusal q handle timeout) (done (Changed handle.number timeout)) (λ fault. tt) tt)
-own q (commands.Delete handle) h =
-    unless_refused-event (IsOwn q.lines) (first_refusal q) (delete_outcome q handle)
-    (cond-event (IsOwn q.lines) (is_valid_handle q handle) (done (cond (holds_live q handle) (Deleted handle.number) DeletedAgain)) (refusal ReceiptHandleIsInvalid)
-    (deletion-own q.lines (holds_live q handle) handle.number) tt)
-own q commands.Purge h = unless_refused-event (IsOwn q.lines) (first_refusal q) (done Purged) tt
-own q (commands.Set wish target) h = unless_refused-event (IsOwn q.lines) (first_refusal q) (done (Set (settings_with (settings_of q.lines) wish target))) tt
-own q (commands.Arrive parcel) h = absurd cc
-own q (commands.Settle number) h = absurd cc
-own q (commands.Orphan target) h = absurd cc
-own q commands.FirstParcel h = tt
-own q commands.Close h = absurd cc
-own q commands.Look h = tt
+own q command h = added (IsOwn q.lines) q (λ fault. tt) command (own-each q command h)
 
 -- a parcel that is accepted was not before
 pub record IsAcceptance (lines : Lines) (p : Parcel) (event : Event ContentText) : Type 0 where
@@ -101,19 +70,17 @@ pub record IsAcceptance (lines : Lines) (p : Parcel) (event : Event ContentText)
   pub is : event ≡ Arrived p.origin p.content
 
 arrived : (q : QueueHistory) (p : Parcel) → IfSome (outcome_of q (commands.Arrive p)).event (IsAcceptance q.lines p)
-arrived q p = unless_refused-event (IsAcceptance q.lines p) (first_refusal q) (arrive_outcome q p) (here (has_accepted q.lines p.origin.uid p.origin.number) refl)
-  where
-    here : (b : Bool) → has_accepted q.lines p.origin.uid p.origin.number ≡ b → IfSome (arrive_outcome q p).event (IsAcceptance q.lines p)
-    here true e = rw e tt
-    here false e = rw e (record { first = e; is = refl })
+arrived q p =
+    added-unless_refused (IsAcceptance q.lines p) (first_refusal q) (arrive_outcome q p)
+    (added-cond (IsAcceptance q.lines p) (has_accepted q.lines p.origin.uid p.origin.number) _ _ (λ again. tt) (λ first. record { first = first; is = refl }))
 
 settled : (q : QueueHistory) (number : ℕ) → IfSome (outcome_of q (commands.Settle number)).event (λ event. event ≡ Settled number)
 settled q number =
-    unless_refused-event (λ event. event ≡ Settled number) (first_refusal q) (settle_outcome q number)
-    (cond-event (λ event. event ≡ Settled number) (is_pending q number) _ _ refl tt)
+    added-unless_refused (λ event. event ≡ Settled number) (first_refusal q) (settle_outcome q number)
+    (added-cond (λ event. event ≡ Settled number) (is_pending q number) _ _ (λ pending. refl) (λ none. tt))
 
 orphaned : (q : QueueHistory) (target : ℕ) → IfSome (outcome_of q (commands.Orphan target)).event (λ event. event ≡ Orphaned target)
-orphaned q target = unless_refused-event (λ event. event ≡ Orphaned target) (first_refusal q) (orphan_outcome q target) refl
+orphaned q target = added-unless_refused (λ event. event ≡ Orphaned target) (first_refusal q) (orphan_outcome q target) refl
 
 -- ---- what a command leaves of its queue
 

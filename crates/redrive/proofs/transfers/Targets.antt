@@ -1,6 +1,6 @@
 -- No queue is its own dead-letter queue.
 use Rattle.std.proofs.Common.{◌≡◌, ℕ, ◌+◌, ◌<◌, arith, Bool, true, false, not, ◌&&◌, cond, List, [], ◌∷◌, ◌++◌, length, get_or, append_assoc, Option, Some, None, unwrap_or, Result, Ok, refl, sym, ap, subst, inl, inr, ◌∙◌, eqb-true}
-use Rattle.std.specs.Prelude.{nat_eq, nat_lt, nat_le, is_some, option_map, IfSome, filter, fold}
+use Rattle.std.specs.Prelude.{nat_eq, is_some, option_map, IfSome, filter, fold}
 use Rattle.std.specs.List.{find, position, All}
 use Rattle.std.specs.Option.{option_map_or, ForSome}
 use Rattle.std.specs.Str.{bytes_eq}
@@ -10,30 +10,31 @@ use Rattle.std.proofs.lemmas.List.Elements.{All-nil, All-head, All-tail, All-con
 use Rattle.std.proofs.lemmas.List.Quantifiers.{position-Some}
 use Rattle.std.proofs.lemmas.Option.{none-some, same_Some}
 use Rattle.message.specs.declared.fault.Fault.{Fault}
-use Rattle.message.specs.declared.fault.Fault.TheVariants.{QueueDoesNotExist, InvalidParameterValue, ReceiptHandleIsInvalid, OverLimit, UnsupportedOperation, InvalidAttributeValue}
-use Rattle.message.specs.Content.{ContentText, content_size}
+use Rattle.message.specs.declared.fault.Fault.TheVariants.{QueueDoesNotExist, UnsupportedOperation, InvalidAttributeValue}
+use Rattle.message.specs.Content.{ContentText}
 use Rattle.message.specs.Fault.{is_out_of_memory}
 use Rattle.queue_config.specs.Config.{Configuration, names_of, HasTarget, AreConfigured, rules_of}
-use Rattle.queue_config.specs.Settings.{QueueSettings, RequestedAttributes, default_settings, policy_without, policy_with, settings_with}
+use Rattle.queue_config.specs.Settings.{QueueSettings, RequestedAttributes, default_settings, policy_without, policy_with}
 use Rattle.queue_config.specs.declared.config.ConfiguredAlarm.{ConfiguredAlarm}
 use Rattle.queue_config.specs.declared.config.ConfiguredQueue.{ConfiguredQueue}
 use Rattle.queue_config.specs.declared.policy.RedrivePolicy.{RedrivePolicy}
 use Rattle.queue_config.specs.declared.policy.RequestedPolicy.{RequestedPolicy}
 use Rattle.journal.specs.declared.entry.Event.{Event}
-use Rattle.journal.specs.declared.entry.Event.TheVariants.{Changed, Deleted, DeletedAgain, Purged, Set}
+use Rattle.journal.specs.declared.entry.Event.TheVariants.{Set}
 use Rattle.queue_core.specs.declared.command.Command.{Command}
 use Rattle.queue_core.specs.declared.command.Command.TheVariants as commands
 use Rattle.queue_core.specs.declared.parcel.Parcel.{Parcel}
-use Rattle.queue_core.specs.Messages.{settings_after, settings_of, has_accepted, is_closed}
-use Rattle.queue_core.specs.Queue.{QueueHistory, at_moment, refusal, uncounted_refusal, done, first_refusal, send_outcome, receive_outcome, change_outcome, delete_outcome, in_flight_count, change_refusal, is_valid_handle, holds_live, arrive_outcome, is_pending, settle_outcome, orphan_outcome, outcome_of, reached, outcome_at, after_answer}
+use Rattle.queue_core.specs.Messages.{settings_after, settings_of}
+use Rattle.queue_core.specs.Queue.{QueueHistory, at_moment, outcome_of, reached, outcome_at, after_answer}
 use Rattle.redrive.specs.declared.steps.HouseReply.TheVariants as replies
 use Rattle.redrive.specs.declared.steps.HouseStep.{HouseStep}
 use Rattle.redrive.specs.declared.steps.HouseStep.TheVariants as steps
 use Rattle.redrive.specs.World.{World, empty_world, with_queue, next_queue, new_world, queue_named, found_uid, has_queue, new_queue, may_name_target, may_set, opens_queue, is_internal, step_refusal, has_target, with_queue_changed, world_after_command, without_queue, first_parcel_in, Delivery, delivery_of, accepted_number}
 use Rattle.redrive.specs.WorldRun.{Answer, world_after, world_after_all}
+use Rattle.queue_core.proofs.CauseLemmas.{IsSoOfAdded, added}
 use Rattle.queue_core.proofs.PushLemmas.{settings_from-push}
 use Rattle.redrive.proofs.transfers.Journals.{Lines}
-use Rattle.redrive.proofs.transfers.Commands.{unless_refused-event, refused_or-event, cond-event, if_some-at, reached-lines, after_answer-uid, after_answer-lines}
+use Rattle.redrive.proofs.transfers.Commands.{if_some-at, reached-lines, after_answer-uid, after_answer-lines}
 
 -- whether the policy names the queue of a uid
 abbrev names_uid : ℕ → Option RedrivePolicy → Bool
@@ -64,34 +65,18 @@ module _ (q : QueueHistory) (u : ℕ) (h : names_uid u (settings_of q.lines).red
   abbrev Aims : Event ContentText → Type 0
   Aims event = names_uid u (settings_after (settings_of q.lines) event).redrive_policy ≡ false
 
-  deletion-aims : (b : Bool) (number : ℕ) → IfSome (done (cond b (Deleted number) DeletedAgain)).event Aims
-  deletion-aims true number = h
-  deletion-aims false number = h
+  aims-each : (command : Command) → Sets u command → IsSoOfAdded q Aims command
+  aims-each (commands.Delete handle) sets = (h, h)
+  aims-each (commands.Set wish target) sets = sets (settings_of q.lines).redrive_policy wish target refl h
+  aims-each (commands.Arrive parcel) sets = λ first. h
+  aims-each (commands.Settle number) sets = λ pending. h
+  aims-each (commands.Orphan target) sets = without-policy u target (settings_of q.lines).redrive_policy h
+  aims-each commands.FirstParcel sets = tt
+  aims-each commands.Look sets = tt
+  aims-each command sets = h
 
   aims : (command : Command) → Sets u command → IfSome (outcome_of q command).event Aims
-  aims (commands.Send content delay) sets =
-      unless_refused-event Aims (first_refusal q) (send_outcome q content delay)
-      (cond-event Aims (nat_lt (settings_of q.lines).maximum_message_size (content_size content)) (refusal InvalidParameterValue) _ h h)
-  aims (commands.Receive maximum timeout) sets =
-      unless_refused-event Aims (first_refusal q) (receive_outcome q maximum timeout) (cond-event Aims (nat_le q.limits.in_flight (in_flight_count q)) (refusal OverLimit) _ h h)
-  aims (commands.Change handle timeout) sets =
-      unless_refused-event Aims (first_refusal q) (change_outcome q handle timeout)
-      (refused_or-event Aims (change_refusal q handle timeout) (done (Changed handle.number timeout)) (λ fault. h) h)
-  aims (commands.Delete handle) sets =
-      unless_refused-event Aims (first_refusal q) (delete_outcome q handle)
-      (cond-event Aims (is_valid_handle q handle) (done (cond (holds_live q handle) (Deleted handle.number) DeletedAgain)) (refusal ReceiptHandleIsInvalid)
-      (deletion-aims (holds_live q handle) handle.number) h)
-  aims commands.Purge sets = unless_refused-event Aims (first_refusal q) (done Purged) h
-  aims (commands.Set wish target) sets =
-      unless_refused-event Aims (first_refusal q) (done (Set (settings_with (settings_of q.lines) wish target))) (sets (settings_of q.lines).redrive_policy wish target refl h)
-  aims (commands.Arrive parcel) sets =
-      unless_refused-event Aims (first_refusal q) (arrive_outcome q parcel) (cond-event Aims (has_accepted q.lines parcel.origin.uid parcel.origin.number) _ _ tt h)
-  aims (commands.Settle number) sets = unless_refused-event Aims (first_refusal q) (settle_outcome q number) (cond-event Aims (is_pending q number) _ _ h tt)
-  aims (commands.Orphan target) sets =
-      unless_refused-event Aims (first_refusal q) (orphan_outcome q target) (without-policy u target (settings_of q.lines).redrive_policy h)
-  aims commands.FirstParcel sets = tt
-  aims commands.Close sets = cond-event Aims (is_closed q.lines) (uncounted_refusal QueueDoesNotExist) _ tt h
-  aims commands.Look sets = tt
+  aims command sets = added Aims q (λ fault. h) command (aims-each command sets)
 
 aims-at : (q : QueueHistory) (u : ℕ) → names_uid u (settings_of q.lines).redrive_policy ≡ false → (at : ℕ) (command : Command) → Sets u command
     → IfSome (outcome_at q at command).event (λ event. names_uid u (settings_after (settings_of q.lines) event).redrive_policy ≡ false)
