@@ -20,7 +20,6 @@ use Rattle.queue_config.specs.declared.config.ConfiguredQueue.{ConfiguredQueue}
 use Rattle.queue_config.specs.declared.policy.RedrivePolicy.{RedrivePolicy}
 use Rattle.queue_config.specs.declared.policy.RequestedPolicy.{RequestedPolicy}
 use Rattle.journal.specs.declared.entry.Event.{Event}
-use Rattle.journal.specs.declared.entry.Event.TheVariants.{Set}
 use Rattle.queue_core.specs.declared.command.Command.{Command}
 use Rattle.queue_core.specs.declared.command.Command.TheVariants as commands
 use Rattle.queue_core.specs.declared.parcel.Parcel.{Parcel}
