@@ -3,7 +3,7 @@ use Rattle.std.proofs.Common.{◌≡◌, ℕ, ◌≤◌, Bool, true, false, cond
 use Rattle.std.specs.Prelude.{⊤, ◌⊎◌, MatchBool, nat_eq, is_some, option_and_then}
 use Rattle.std.specs.List.{find, Contains}
 use Rattle.std.specs.Option.{option_map, option_map_or, option_or}
-use Rattle.std.proofs.lemmas.Bool.{cases_eq, ne_eqb, false≢true, eq-eqb}
+use Rattle.std.proofs.lemmas.Bool.{ne_eqb, false≢true, eq-eqb}
 use Rattle.std.proofs.lemmas.List.Folds.{find-append}
 use Rattle.std.proofs.lemmas.Option.{none-some}
 use Rattle.message.specs.declared.fault.Fault.{Fault}
@@ -31,7 +31,7 @@ use Rattle.redrive.specs.World.{World, queue_of_uid, has_queue, with_queue, with
 use Rattle.redrive.specs.History.{AllQueues}
 use Rattle.redrive.specs.WorldRun.{Answer, as_house_reply, answer_of_step, if_there, with_deleted, all_after, MeetsAnswer}
 use Rattle.redrive.proofs.transfers.Journals.{Line, Lines, more}
-use Rattle.redrive.proofs.transfers.Views.{View, view_of, IsStep, Grows, IsOpened, Change, Stays, Steps, Opens, Closes}
+use Rattle.redrive.proofs.transfers.Views.{View, view_of, IsStep, Grows, IsOpened, Change, Stays, Steps, Opens, Closes, by_uid}
 use Rattle.redrive.proofs.KeyedLemmas.{find-map, find-passes, find-without, find-without_other}
 use Rattle.redrive.proofs.RegistryLemmas.{after_answer-uid}
 use Rattle.redrive.proofs.StepLemmas.{or-none}
@@ -82,10 +82,8 @@ module _ (all : AllQueues) (uid : ℕ) (change : QueueHistory → QueueHistory) 
 
   found-absent : queue_of_uid all.world uid ≡ None → (u : ℕ) → queue_of_uid changed.world u ≡ queue_of_uid all.world u
   found-absent h u =
-      elim (cases_eq u uid) [
-        | inl e ↦ subst (λ (w : ℕ). queue_of_uid changed.world w ≡ queue_of_uid all.world w) (sym e) (found-changed uid ∙ (ap (option_map at_uid) h ∙ sym h))
-        | inr differs ↦ found-changed u ∙ other-found u differs (queue_of_uid all.world u) refl
-      ]
+      by_uid u uid (λ w. queue_of_uid changed.world w ≡ queue_of_uid all.world w) (found-changed uid ∙ (ap (option_map at_uid) h ∙ sym h))
+      (λ differs. found-changed u ∙ other-found u differs (queue_of_uid all.world u) refl)
 
 pub lines_there : (all : AllQueues) (u : ℕ) (q : QueueHistory) → queue_of_uid all.world u ≡ Some q → (view_of all).lines u ≡ q.lines
 lines_there all u q h = ap (λ (o : Option QueueHistory). journal_found o (find (λ q. nat_eq q.uid u) all.deleted)) h
@@ -133,10 +131,8 @@ module _ (all : AllQueues) (uid : ℕ) (change : QueueHistory → QueueHistory) 
 
   led-same : {ending : ℕ → Type 0} → (q : QueueHistory) → queue_of_uid all.world uid ≡ Some q → (change q).lines ≡ q.lines → LeadsTo ending all (changed all uid change keeps)
   led-same q h same = record {
-    change = Stays (λ u. elim (cases_eq u uid) [
-      | inl e ↦ subst (λ (w : ℕ). (view_of (changed all uid change keeps)).lines w ≡ (view_of all).lines w) (sym e) (lines-changed q h ∙ (same ∙ sym (lines_there all uid q h)))
-      | inr differs ↦ lines-other all uid change keeps u differs
-    ]) (open-changed all uid change keeps);
+    change = Stays (λ u. by_uid u uid (λ w. (view_of (changed all uid change keeps)).lines w ≡ (view_of all).lines w) (lines-changed q h ∙ (same ∙ sym (lines_there all uid q h)))
+        (λ differs. lines-other all uid change keeps u differs)) (open-changed all uid change keeps);
     fresh = fresh-changed;
   }
 
@@ -329,17 +325,11 @@ module _ (all : AllQueues) (uid at : ℕ) (fresh : IsFresh all) where
 
   none-left : (u : ℕ) → queue_of_uid all.world u ≡ None → queue_of_uid (without_queue all.world uid) u ≡ None
   none-left u h =
-      elim (cases_eq u uid) [
-        | inl e ↦ subst (λ (w : ℕ). queue_of_uid (without_queue all.world uid) w ≡ None) (sym e) found-out
-        | inr differs ↦ found-left u differs ∙ h
-      ]
+      by_uid u uid (λ w. queue_of_uid (without_queue all.world uid) w ≡ None) found-out (λ differs. found-left u differs ∙ h)
 
   absent-led : {ending : ℕ → Type 0} → queue_of_uid all.world uid ≡ None → LeadsTo ending all (record { world = without_queue all.world uid; deleted = all.deleted })
   absent-led h = record {
-    change = stays-found all (without_queue all.world uid) (λ u. elim (cases_eq u uid) [
-      | inl e ↦ subst (λ (w : ℕ). queue_of_uid (without_queue all.world uid) w ≡ queue_of_uid all.world w) (sym e) (found-out ∙ sym h)
-      | inr differs ↦ found-left u differs
-    ]);
+    change = stays-found all (without_queue all.world uid) (λ u. by_uid u uid (λ w. queue_of_uid (without_queue all.world uid) w ≡ queue_of_uid all.world w) (found-out ∙ sym h) (λ differs. found-left u differs));
     fresh = record { none_there = λ u l. none-left u (fresh.none_there u l); none_deleted = fresh.none_deleted };
   }
 
