@@ -5,7 +5,7 @@ use Rattle.std.specs.List.{list_any, find}
 use Rattle.queue_config.specs.Settings.{QueueSettings}
 use Rattle.journal.specs.declared.entry.Entry.{Entry}
 use Rattle.queue_core.specs.Messages.{settings_after, settings_from, created_time, opens, modified_from, gives_settings, offers_number, last_receive_from}
-use Rattle.queue_core.proofs.Scans.{drop_entry}
+use Rattle.plain_queue.proofs.ScanLemmas.{drop_entry}
 
 module _ {C : Type 0} (lines : List (Entry C)) (place : ℕ) (e : Entry C) (at : slice_get lines place ≡ Some e) where
   pub settings_from-entry : (s : QueueSettings) → settings_from s (drop place lines) ≡ settings_from (settings_after s e.event) (drop (place + 1) lines)
