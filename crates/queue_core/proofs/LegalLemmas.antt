@@ -120,6 +120,12 @@ IsKept-with_event q limit event h k place = record {
 }
 
 -- after a push that may have been refused
+-- and so what comes of a command has a place in the journal
+pub place-left : (q : QueueHistory) (limit : ℕ) (event : Event ContentText) → IsKept q limit → IsCausedIn q event → length q.lines < limit
+place-left q limit event h k =
+    let below = h.place_left (HasPlace-caused q k.command event k.added).unclosed in
+    omega (arith, below, h.room)
+
 pub IsKept-pushed : {X : Type 0} (q : QueueHistory) (old new : Lines) (event : Event ContentText) (r : Result X Fault) → q.lines ≡ old.lines
     → OnOk r (new ≡ with_line old (record { at = q.clock; event = event })) → OnErr r (new ≡ old) → IsKept q old.limit → IsCausedIn q event
     → IsKept (record q { lines = new.lines }) new.limit

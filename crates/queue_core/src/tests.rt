@@ -2,6 +2,7 @@
 //! leaves. What a client can ask and see stands in the stored runs of `sqs_replay`.
 
 mod answers;
+mod many;
 
 use super::*;
 use journal::{Moment, Origin, Ticks};
@@ -226,8 +227,21 @@ fn tell_answer(text: &mut String, answer: &Result<Reply, Fault>) -> Result<(), F
     }
 }
 
+/// How many of these rows are of minutes in which nothing happened and nothing was there.
+fn quiet_rows(rows: &[Row]) -> usize {
+    let nothing = Gauges {
+        visible: 0,
+        delayed: 0,
+        in_flight: 0,
+        age: 0,
+    };
+    rows.iter()
+        .filter(|row| row.flows == Flows::none() && row.gauges == nothing)
+        .count()
+}
+
 /// Tells of a `queue` its uid, its name and whether it has the default settings; how many `messages` it ever
-/// had; the `span` of its minutes and how many rows; the row of a `minute`; its counts `now` and what happened
+/// had; the `span` of its minutes and how many rows; the row of a `minute`; how many rows are of `zeros`; its counts `now` and what happened
 /// in its minute; the `name` and the `state` of the alarm at a place, and all states; the dead letter that is
 /// `waiting` first; the `line` at a place, and the `marks` from there on with the operations counted; of a
 /// dead letter that `arrives` whether it was known. It may `advance` the clock or `open` another queue. Tells
@@ -249,6 +263,7 @@ fn tell_reading(
         "messages" => tell(text, &queue.message_count()),
         "span" => tell(text, &(queue.span(), queue.rows(alloc)?.len())),
         "minute" => tell(text, &queue.row(at)),
+        "zeros" => tell(text, &quiet_rows(queue.rows(alloc)?.as_slice())),
         "now" => tell(text, &(queue.gauges(), queue.current())),
         "name" => match queue.alarm_name(at as usize) {
             Some(name) => tell(text, &name.as_text()),

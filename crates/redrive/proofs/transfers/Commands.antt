@@ -114,15 +114,15 @@ added-optional : (q : QueueHistory) (event : Option (Event ContentText)) → ((w
 added-optional q None = inl refl
 added-optional q (Some event) = inr (record { line = record { at = q.clock; event = event }; added = refl; is = refl })
 
-added-cond : (b : Bool) (q : QueueHistory) (event : Option (Event ContentText)) → let r : QueueHistory = cond b q (with_optional_event q event) in (r.lines ≡ q.lines) ⊎ IsAdded event q.lines r.lines
-added-cond true q event = inl refl
-added-cond false q event = added-optional q event
+added-where : (b : Bool) (q : QueueHistory) (event : Option (Event ContentText)) → let r : QueueHistory = cond b q (with_optional_event q event) in (r.lines ≡ q.lines) ⊎ IsAdded event q.lines r.lines
+added-where true q event = inl refl
+added-where false q event = added-optional q event
 
 pub after_answer-lines : {T : Type 0} (q : QueueHistory) (at : ℕ) (command : Command) (answer : Result T Fault)
     → ((after_answer q at command answer).lines ≡ q.lines) ⊎ IsAdded (outcome_at q at command).event q.lines (after_answer q at command answer).lines
 after_answer-lines q at command answer =
     subst (λ (ls : Lines). ((after_answer q at command answer).lines ≡ ls) ⊎ IsAdded (outcome_at q at command).event ls (after_answer q at command answer).lines) (reached-lines q at command)
-    (added-cond (is_out_of_memory answer) (reached q at command) (outcome_at q at command).event)
+    (added-where (is_out_of_memory answer) (reached q at command) (outcome_at q at command).event)
 
 module _ (q : QueueHistory) (at : ℕ) (event : Event ContentText) where
   pub own-at : (command : Command) → is_internal command ≡ false → (outcome_at q at command).event ≡ Some event → IsOwn q.lines event

@@ -12,7 +12,7 @@ use Rattle.queue_core.specs.Indexed.{IsIndexOf}
 use Rattle.queue_core.specs.Accepted.{AreAccepted}
 use Rattle.metric_window.specs.Flows.{minute_of}
 use Rattle.queue_core.specs.Watched.{IsWatchOf}
-use Rattle.queue_core.proofs.LegalLemmas.{IsKept-pushed}
+use Rattle.queue_core.proofs.LegalLemmas.{place-left, IsKept-pushed}
 use Rattle.queue_core.proofs.TallyLemmas.{tallies-push, GoesOn}
 use Rattle.queue_core.proofs.IndexLemmas.{same-index, few_born, few-more, can_apply, event-index}
 use Rattle.queue_core.proofs.WatchLemmas.{watch-pushed}
@@ -111,3 +111,12 @@ invariant_of-self-2 c =
       subst (λ lines. IsWatchOf lines (minute_of q.clock) q.rules watch) (sym lines)
           (watch-pushed q c.args.event c.self.invariant.0.legal q.rules c.self.inside.watch watch c.self.invariant.4 c.count.ensures refl),
     )
+
+pub push_reserved-requires-clause-place : goal.push_reserved-requires-clause-place
+push_reserved-requires-clause-place c =
+    let q : QueueHistory = record { uid = c.self.inside.uid; name = c.self.inside.name; limits = c.self.inside.limits; rules = c.self.inside.rules.items; clock = c.self.inside.clock; lines = c.self.inside.journal.lines } in
+    let caused = subst (λ (q : QueueHistory). IsCausedIn q c.args.event) (sym c.self.view_is) c.requires in
+    let place = place-left q c.self.inside.journal.limit c.args.event c.self.invariant.0 caused in
+    let lines = ap (λ (j : Lines). length j.lines) c.reserve.ensures.lines in
+    let limit = ap (λ (j : Lines). j.limit) c.reserve.ensures.lines in
+    omega (arith, place, lines, limit)
