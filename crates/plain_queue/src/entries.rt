@@ -1,6 +1,6 @@
 //! The lines that rows, gauges and all else are found by: all of a journal's, or those before a time.
 
-ghost use Rattle.std.specs.Prelude.{◌≡◌, ℕ, ◌<◌, ◌≤◌, nat_lt, filter, length, take, slice_get, Some, IfOk, IfErr};
+ghost use Rattle.std.specs.Prelude.{◌≡◌, ℕ, ◌<◌, ◌≤◌, nat_lt, filter, length, map, take, slice_get, Some, IfOk, IfErr};
 ghost use Rattle.std.specs.Option.{option_copied};
 ghost use Rattle.message.specs.declared.fault.Fault.TheVariants.{OutOfMemory};
 ghost use Rattle.queue_core.specs.Legal.{IsOrdered};
@@ -47,8 +47,10 @@ impl<'a> Collected<'a> {
     pub fn entries(&self) -> Entries<'_>
         ensures { result ≡ self.now }
     {
+        let lines = self.lines.as_slice();
         Entries {
-            lines: self.lines.as_slice(),
+            lines,
+            count: count_of(lines),
         }
     }
 }
@@ -68,16 +70,19 @@ fn read_line<'a>(journal: &'a Journal, place: usize, ticks: &mut Ticks) -> &'a L
 #[derive(Drop)]
 pub struct Entries<'a> {
     lines: &'a [&'a Line],
+    count: usize,
 }
 
 impl<'a> Model for Entries<'a> {
-    ghost use Rattle.std.specs.Prelude.{List, map};
+    ghost use Rattle.std.specs.Prelude.{◌≤◌, List, map, take, length};
     ghost use Rattle.message.specs.Content.{ContentText};
     ghost use Rattle.journal.specs.declared.entry.Entry.{Entry};
 
     ghost Value = { List (Entry ContentText) };
 
-    ghost view = { λ e. map (λ line. line.now) e.lines.now };
+    ghost view = { λ e. take e.count (map (λ line. line.now) e.lines.now) };
+
+    ghost invariant = { λ e. e.count ≤ length (map (λ line. line.now) e.lines.now) };
 }
 
 impl<'a> Entries<'a> {
@@ -87,7 +92,8 @@ impl<'a> Entries<'a> {
             → result ≡ filter (λ e. nat_lt e.at end) self.now }
     {
         Entries {
-            lines: &self.lines[..count_before(self, end)],
+            lines: self.lines,
+            count: count_before(self, end),
         }
     }
 
@@ -95,17 +101,35 @@ impl<'a> Entries<'a> {
     pub fn len(&self) -> usize
         ensures { result ≡ length self.now }
     {
-        self.lines.len()
+        self.count
     }
 
     /// The entry at a place, counted from 0.
     pub fn get(&self, place: usize) -> Option<&'a Line>
         ensures { option_copied result ≡ slice_get self.now place }
     {
-        match self.lines.get(place) {
-            Some(line) => Some(*line),
-            None => None,
+        if place < self.count {
+            nth(self.lines, place)
+        } else {
+            None
         }
+    }
+}
+
+/// How many lines a list has.
+fn count_of(lines: &[&Line]) -> usize
+    ensures { result ≡ length (map (λ line. line.now) lines.now) }
+{
+    lines.len()
+}
+
+/// The line at a place of a list.
+fn nth<'a>(lines: &[&'a Line], place: usize) -> Option<&'a Line>
+    ensures { option_copied result ≡ slice_get (map (λ line. line.now) lines.now) place }
+{
+    match lines.get(place) {
+        Some(line) => Some(*line),
+        None => None,
     }
 }
 
