@@ -105,13 +105,6 @@ impl Journal {
         ensures cost { ticks.new ≡ after_ticks 1 ticks.old }
     {
         ticks.add(1);
-        self.peek(place)
-    }
-
-    /// The line at a place, counted from 0, at no cost.
-    pub fn peek(&self, place: usize) -> Option<&Line>
-        ensures { option_copied result ≡ slice_get self.now.lines place }
-    {
         self.lines.get(place)
     }
 

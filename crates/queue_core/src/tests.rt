@@ -277,7 +277,7 @@ fn tell_reading(
             Some((from, to)) => tell_parcel(text, &from, to, ""),
             None => tell(text, &"none"),
         },
-        "line" => tell(text, &queue.journal().peek(at as usize)),
+        "line" => tell(text, &queue.journal().line(at as usize, ticks)),
         "marks" => {
             let marks = queue.journal().marks(alloc, at as usize, ticks)?;
             tell(text, &(marks.as_slice(), ticks.count()))
@@ -395,7 +395,7 @@ now => (Gauges { visible: 1, delayed: 0, in_flight: 0, age: 0 }, Flows { sent: 1
 name 0 => "deep"
 state 0 => (Some(InsufficientData), [InsufficientData])
 line 1 => Some(Entry { at: Moment { milliseconds: 240000 }, event: Sent { delay: 0, content: Content { parts: Parts { body: "text", attributes: [], size: 4 } } } })
-marks 1 => ([Entry { at: Moment { milliseconds: 240000 }, event: Sent { delay: 0, content: 4 } }], 1)
+marks 1 => ([Entry { at: Moment { milliseconds: 240000 }, event: Sent { delay: 0, content: 4 } }], 2)
 advance 360000
 now => (Gauges { visible: 1, delayed: 0, in_flight: 0, age: 120 }, Flows { sent: 0, sent_size: 0, received: 0, empty_receives: 0, deleted: 0, refused: 0, dead_letters_arrived: 0 })
 state 0 => (Some(Alarm), [Alarm])
