@@ -28,7 +28,7 @@ fn numbers(alloc: Global, text: &str, refused: &mut u32) -> Result<Numbers, Faul
     let mut numbers = Numbers::new(alloc);
     for part in text.split(',').filter(|part| *part != "-") {
         if numbers.push(alloc, number(part)?).is_err() {
-            *refused += 1;
+            *refused = refused.saturating_add(1);
             numbers.push(alloc, number(part)?)?;
         }
     }
@@ -172,7 +172,7 @@ fn refused_memory(rt: HostRuntime) -> Result<(), Fail> {
             for call in calls.split(" | ") {
                 let told = match told(alloc, &mut talk, call) {
                     Err(Fault::OutOfMemory) => {
-                        talk.2 += 1;
+                        talk.2 = talk.2.saturating_add(1);
                         told(alloc, &mut talk, call)
                     }
                     told => told,
