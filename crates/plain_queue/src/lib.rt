@@ -1,7 +1,7 @@
 //! What a queue's journal says, found by going through all of it. A queue keeps an index of its messages, and
 //! answers by that; here each number is asked of the entries anew, as the definitions of `queue_core` say it.
 //! No program uses this crate: its test runs commands on a queue, and after each compares what the queue tells
-//! with what its journal says.
+//! with what its journal says, its rows and alarms where a minute has ended.
 //!
 //! - [`Collected`], [`Entries`]: all lines of a journal, each read once, and the first of them.
 //! - [`settings_of`], [`created_time`], [`modified_time`], [`is_closed`]: the settings in force, when the queue

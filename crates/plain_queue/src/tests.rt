@@ -1,5 +1,6 @@
-//! Commands from scripts, performed on a queue: before each its answer is foreseen from the journal's
-//! entries, and after it what the queue tells is compared with what they say. No answer is written down.
+//! Commands from scripts, performed on a queue: before a receive, a change, a settling, an orphaning and an
+//! arrival its answer is foreseen from the journal's entries, and after each command what the queue tells is
+//! compared with what they say, its rows and alarms where a minute has ended. No answer is written down.
 
 mod commands;
 mod said;

@@ -13,9 +13,9 @@
 //! - `Queue`: the outcome of each command;
 //! - `Ranges`, `Legal`: what commands carry, and which journals a queue can have.
 //!
-//! Want of memory of a command moves the clock and nothing else, and a command that adds no entry never
-//! wants memory. `FirstParcel` alone leaves the clock as it is, and may want memory without an entry,
-//! for the parcel that it hands over. [`QueueState::run`] performs a list of commands: its answers are those of the
+//! Want of memory of a command moves the clock and nothing else, and a command that adds no entry, but
+//! `FirstParcel`, never wants memory. That alone leaves the clock as it is, and may want memory without an
+//! entry, for the parcel that it hands over. [`QueueState::run`] performs a list of commands: its answers are those of the
 //! definitions one after another. What follows from the definitions, as that no message is offered
 //! before its due time, stands in the laws, which are functions without a body.
 #![tactic(auto)]
