@@ -1,5 +1,7 @@
 -- A desk may be shared by threads or go to another, and so may a pass. Each type by the types of its fields, so that no search goes through all of them.
-use denote.Param.Send.{IsSend, IsSync, sendable}
+use denote.Param.Send.{IsSend, IsSync, AllSend, struct_send, recorded_send, view_send, sendable}
+use denote.Struct.Declared.{fields, shape}
+use denote.Struct.Struct.{Struct}
 use denote.Struct.Field.{unit-field}
 use Rattle.std.proofs.Crossing.{crosses}
 use Rattle.std.proofs.MapsCrossing as maps
@@ -17,12 +19,16 @@ use Rattle.journal.specs.contracts.entry.Event as event
 use Rattle.journal.specs.contracts.entry.Entry as entry
 use Rattle.journal.specs.contracts.journal.Journal as journal
 use Rattle.journal.specs.contracts.ticks.Ticks as ticks
+use Rattle.metric_window.proofs.Sending.{window_send}
+use Rattle.alarm.proofs.Sending.{alarm_send}
 use Rattle.queue_core.specs.contracts.tally.Tally as tally
 use Rattle.queue_core.specs.contracts.record.Record as kept
 use Rattle.queue_core.specs.contracts.indices.Indices as indices
 use Rattle.queue_core.specs.contracts.index.MessageIndex as index
 use Rattle.queue_core.specs.contracts.accepted.Accepted as accepted
+use Rattle.queue_core.specs.contracts.watch.Watch as watch
 use Rattle.queue_core.specs.contracts.state.QueueState as queue
+use Rattle.queue_core.specs.contracts.state.QueueState.TheInside as inside
 use Rattle.desk.specs.contracts.made.Made as made
 use Rattle.desk.specs.contracts.held.Held as held
 use Rattle.desk.specs.contracts.desk.Desk as desk
@@ -66,23 +72,34 @@ rule_send = search (name_send, sendable, crosses) depth 40 fits 100000
 moment_send : IsSend moment.the_row
 moment_send = search (sendable, crosses) depth 40 fits 100000
 
-tally_send : IsSend tally.the_row
+tally_send : IsSend (tally.the_field).row
 tally_send = search (settings_send, sendable, crosses) depth 40 fits 100000
 
-indices_send : IsSend indices.the_row
+indices_send : IsSend (indices.the_field).row
 indices_send = search (sendable, crosses) depth 40 fits 100000
 
 kept_send : IsSend kept.the_row
 kept_send = search (content_send, sendable, crosses) depth 40 fits 100000
 
-index_send : IsSend index.the_row
+index_send : IsSend (index.the_field).row
 index_send = search (kept_send, indices_send, sendable, crosses) depth 40 fits 100000
 
-accepted_send : IsSend accepted.the_row
+accepted_send : IsSend (accepted.the_field).row
 accepted_send = search (sendable, crosses) depth 40 fits 100000
 
+watch_send : IsSend (watch.the_field).row
+watch_send = search (window_send, alarm_send, sendable, crosses) depth 40 fits 100000
+
+-- part by part, in the order of the queue's fields
+inside_send : IsSend inside.the_row
+inside_send =
+    let all : AllSend (fields inside.the_type) =
+    (search sendable, (name_send, (limits_send, (search (rule_send, sendable, crosses) depth 40 fits 100000, (moment_send, (journal_send, (tally_send, (index_send, (accepted_send, (watch_send, tt)))))))))) in
+    let T = inside.the_type in
+    recorded_send (Struct (shape T)) T.D T.to T.to_one (struct_send (shape T) all)
+
 queue_send : IsSend queue.the_row
-queue_send = search (name_send, limits_send, rule_send, moment_send, journal_send, tally_send, index_send, accepted_send, sendable, crosses) depth 60 fits 1000000
+queue_send = view_send _ _ _ _ _ inside_send
 
 held_send : IsSend (held.the_row nopress.the_row (unit-field).row impl.ghosts)
 held_send = search (queue_send, ticks_send, made_send, sendable, crosses) depth 40 fits 100000

@@ -1,6 +1,6 @@
 //! The list of lines.
 
-ghost use Rattle.std.specs.Prelude.{◌≡◌, ◌<◌, ◌≤◌, ◌↔◌, ◌⊎◌, [], ◌∷◌, ◌++◌, length, drop, map, slice_get, IfOk, IfErr, OnOk, OnErr, IsErrOf};
+ghost use Rattle.std.specs.Prelude.{◌≡◌, ◌<◌, ◌≤◌, ◌↔◌, ◌⊎◌, [], ◌∷◌, ◌++◌, length, drop, map, slice_get, Ok, IfOk, IfErr, OnOk, OnErr, IsErrOf};
 ghost use Rattle.std.specs.Option.{option_copied};
 ghost use Rattle.message.specs.Content.{content_size};
 ghost use Rattle.message.specs.declared.fault.Fault.TheVariants.{JournalFull, OutOfMemory};
@@ -38,10 +38,9 @@ impl Model for Journal {
 impl Journal {
     ghost use Rattle.journal.specs.Journal.{no_lines, with_line};
 
-    /// A journal without lines that may have `limit` of them. `OutOfMemory` is the only refusal.
+    /// A journal without lines that may have `limit` of them. It takes no memory.
     pub fn new(alloc: Global, limit: usize) -> Result<Journal, Fault>
-        ensures ok { IfOk result (λ journal. journal ≡ no_lines limit) }
-        ensures errors { IfErr result (λ fault. fault ≡ OutOfMemory) }
+        ensures { result ≡ Ok (no_lines limit) }
     {
         Ok(Journal {
             lines: Vec::new(alloc),
@@ -105,23 +104,18 @@ impl Journal {
         ensures cost { ticks.new ≡ after_ticks 1 ticks.old }
     {
         ticks.add(1);
-        self.peek(place)
-    }
-
-    /// The line at a place, counted from 0, at no cost.
-    pub fn peek(&self, place: usize) -> Option<&Line>
-        ensures { option_copied result ≡ slice_get self.now.lines place }
-    {
         self.lines.get(place)
     }
 
     /// The marks of the lines from a place on, in order: none where there is no line from there on.
-    /// Each of these lines costs one operation. `OutOfMemory` is the only refusal, and costs nothing.
+    /// Each of these lines costs one operation. `OutOfMemory` is the only refusal, and costs nothing; where there is
+    /// no such line, no memory is wanted.
     #[tactic(auto, using(std::proofs::lemmas::List::drop_min))]
     pub fn marks(&self, alloc: Global, from: usize, ticks: &mut Ticks) -> Result<Marks, Fault>
         ensures marks { IfOk result (λ marks. marks ≡ map (mark_of content_size) (drop from self.now.lines)) }
         ensures cost { OnOk result (ticks.new ≡ after_ticks (length (drop from self.now.lines)) ticks.old) }
         ensures errors { IfErr result (λ fault. fault ≡ OutOfMemory) }
+        ensures wants { OnErr result (from < length self.now.lines) }
         ensures err { OnErr result (ticks.new ≡ ticks.old) }
     {
         let lines = &self.lines[from.min(self.lines.len())..];

@@ -1,6 +1,6 @@
 //! Lists of marks.
 
-ghost use Rattle.std.specs.Prelude.{◌≡◌, [], length, map, IfOk, IfErr};
+ghost use Rattle.std.specs.Prelude.{◌≡◌, ◌<◌, [], length, map, IfOk, IfErr, OnErr};
 ghost use Rattle.message.specs.Content.{content_size};
 ghost use Rattle.message.specs.declared.fault.Fault.TheVariants.{OutOfMemory};
 ghost use Rattle.journal.specs.Mark.{mark_of};
@@ -35,11 +35,12 @@ impl Marks {
         }
     }
 
-    /// The marks of lines, in order. `OutOfMemory` is the only refusal.
+    /// The marks of lines, in order. `OutOfMemory` is the only refusal, where there is a line.
     #[tactic(auto, using(std::proofs::lemmas::List::map_more))]
     pub(crate) fn of(alloc: Global, lines: &[Line]) -> Result<Marks, Fault>
         ensures ok { IfOk result (λ marks. marks ≡ map (mark_of content_size) lines.now) }
         ensures errors { IfErr result (λ fault. fault ≡ OutOfMemory) }
+        ensures wants { OnErr result (0 < length lines.now) }
     {
         let mut marks = Vec::with_capacity(alloc, lines.len())?;
         for line in lines {

@@ -7,8 +7,8 @@ ghost use Rattle.journal.specs.Ticks.{after_ticks};
 use std::marker::Model;
 
 /// Counts operations: each call of [`Journal::line`](crate::Journal::line) is one, and so is each line
-/// that [`Journal::marks`](crate::Journal::marks) goes over, and each comparison of two pairs by
-/// [`Ticks::before`]. The count stops at 2^64 - 1. Only [`Ticks::new`] makes a counter, and it takes the
+/// that [`Journal::marks`](crate::Journal::marks) goes over, but where it finds no memory none, and each
+/// comparison of two pairs by [`Ticks::before`]. The count stops at 2^64 - 1. Only [`Ticks::new`] makes a counter, and it takes the
 /// program's runtime, which `main` and each test are handed and nothing makes: code that is handed a
 /// counter and no runtime can count on that counter alone.
 #[derive(Debug, Drop)]

@@ -2,3 +2,4 @@ pub mod FlowLemmas
 pub mod KeptLemmas
 pub mod MinuteLemmas
 pub mod WindowLemmas
+pub mod Sending

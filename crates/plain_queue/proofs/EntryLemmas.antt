@@ -1,11 +1,13 @@
 -- One step of going through a journal: what is left at a place is the entry there and what is left after it.
-use Rattle.std.proofs.Common.{◌≡◌, ℕ, ◌+◌, Bool, true, false, cond, List, drop, Some, refl}
+use Rattle.std.proofs.Common.{◌≡◌, ℕ, ◌+◌, ◌<◌, Bool, true, false, cond, List, [], ◌∷◌, ◌++◌, map, length, take, drop, Some, refl, sym, ◌∙◌}
 use Rattle.std.specs.Prelude.{slice_get, option_map}
 use Rattle.std.specs.List.{list_any, find}
+use Rattle.std.proofs.lemmas.List.{map-append, take_more}
+use Rattle.std.proofs.lemmas.Option.{get_or_from_slice_get}
 use Rattle.queue_config.specs.Settings.{QueueSettings}
 use Rattle.journal.specs.declared.entry.Entry.{Entry}
 use Rattle.queue_core.specs.Messages.{settings_after, settings_from, created_time, opens, modified_from, gives_settings, offers_number, last_receive_from}
-use Rattle.queue_core.proofs.Scans.{drop_entry}
+use Rattle.plain_queue.proofs.ScanLemmas.{drop_entry}
 
 module _ {C : Type 0} (lines : List (Entry C)) (place : ℕ) (e : Entry C) (at : slice_get lines place ≡ Some e) where
   pub settings_from-entry : (s : QueueSettings) → settings_from s (drop place lines) ≡ settings_from (settings_after s e.event) (drop (place + 1) lines)
@@ -34,3 +36,11 @@ module _ {C : Type 0} (lines : List (Entry C)) (place : ℕ) (e : Entry C) (at :
 
   pub any-later : (p : Entry C → Bool) → p e ≡ false → list_any p (drop place lines) ≡ list_any p (drop (place + 1) lines)
   any-later p h = rw (drop_entry lines place e at, h) refl
+
+-- one line more that was read
+pub read_more : {X Y : Type 0} (f : X → Y) (xs : List X) (ys : List Y) (place : ℕ) (x : X) → place < length ys → slice_get ys place ≡ Some (f x) → map f xs ≡ take place ys
+    → map f (xs ++ x ∷ []) ≡ take (place + 1) ys
+read_more f xs ys place x inside at same =
+    map-append f xs (x ∷ [])
+    ∙ rw same refl
+    ∙ sym (take_more ys place (f x) inside ∙ rw (get_or_from_slice_get ys place (f x) (f x) at) refl)

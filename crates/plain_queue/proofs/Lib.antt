@@ -1,2 +1,5 @@
+mod ScanLemmas
 mod EntryLemmas
 mod TransferLemmas
+mod BeforeLemmas
+mod BreachLemmas

@@ -6,7 +6,7 @@ use Rattle.std.specs.List.{list_any, find}
 use Rattle.journal.specs.declared.entry.Entry.{Entry}
 use Rattle.queue_core.specs.declared.facts.Transfer.{Transfer}
 use Rattle.queue_core.specs.Messages.{departures, ends_transfer, pending_transfers}
-use Rattle.queue_core.proofs.Scans.{drop_entry}
+use Rattle.plain_queue.proofs.ScanLemmas.{drop_entry}
 
 first-append : {X : Type 0} (xs ys : List X) → slice_get (xs ++ ys) 0 ≡ option_or (slice_get xs 0) (slice_get ys 0)
 first-append [] ys = refl

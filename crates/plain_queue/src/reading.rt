@@ -1,4 +1,4 @@
-//! What is found by going through a journal. A function that computes a definition of `queue_core` has
+//! What a journal says of a queue and of its messages. A function that computes a definition of `queue_core` has
 //! its name.
 
 ghost use Rattle.std.specs.Prelude.{◌≡◌, if◌then◌else◌};
@@ -7,13 +7,14 @@ ghost use Rattle.queue_core.specs.Messages.{messages, content_of, message_count,
 ghost use Rattle.queue_core.specs.declared.facts.Status.TheVariants.{Waiting};
 ghost use Rattle.queue_core.specs.States.{message_numbered};
 
+use crate::entries::{Entries, line_at};
+use crate::numbering::Messages;
+use crate::states::{course_of, offers_number};
 use journal::{Event, Line, Moment};
 use message::Content;
 use queue_config::Settings;
-use queue_core::plain::{
-    Entries, Message, Messages, Status, closes, course_of, gives_settings, line_at, offers_number,
-    settings_after,
-};
+use queue_core::facts::{Message, Status};
+use queue_core::{closes, gives_settings, settings_after};
 
 /// How many messages there are.
 pub fn message_count(lines: &Entries<'_>) -> u64

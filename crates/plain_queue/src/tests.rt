@@ -1,31 +1,49 @@
-//! Commands from scripts, performed on a queue: before each its answer is foreseen from the journal's
-//! entries, and after it what the queue tells is compared with what they say. No answer is written down.
+//! Commands from scripts, performed on a queue: before a receive, a change, a settling, an orphaning and an
+//! arrival its answer is foreseen from the journal's entries, and after each command what the queue tells is
+//! compared with what they say, its rows and alarms where a minute has ended. No answer is written down.
 
 mod commands;
 mod said;
 mod scripts;
 
 use super::*;
-use commands::{open, origin, step};
+use commands::{open, origin, rule, step};
 use journal::{Moment, Ticks};
 use message::Fault;
 use metric_window::minute_of;
-use queue_core::plain::{Entries, minute_flows};
-use queue_core::{Look, QueueState, Reply, Step};
-use said::{alarm_of, first_waiting_of, foreseen, look_of, rows_of, tell_received};
+use queue_core::{Command, Look, QueueState, Reply, Step};
+use said::{first_waiting_of, foreseen, look_of, rows_of, tell_received};
 use std::alloc::Global;
 use std::process::Abort;
 use std::test::Fail;
 
 /// Tells an answer as it is foreseen.
-fn told(alloc: Global, queue: &QueueState, answer: &Result<Reply, Fault>) -> Result<String, Fault> {
+fn told(
+    alloc: Global,
+    queue: &QueueState,
+    answer: &Result<Reply, Fault>,
+    ticks: &mut Ticks,
+) -> Result<String, Fault> {
     match answer {
         Ok(Reply::Received(offers)) => {
-            tell_received(alloc, &Entries::of(queue.journal()), offers.as_slice())
+            let read = Collected::of(alloc, queue.journal(), ticks)?;
+            tell_received(alloc, &read.entries(), offers.as_slice())
         }
         Ok(reply) => Ok(format!(in alloc; "{reply:?}")?),
         Err(fault) => Ok(format!(in alloc; "{fault:?}")?),
     }
+}
+
+/// The text of the answer to a command at a time, where it is foreseen.
+fn wanted(
+    alloc: Global,
+    queue: &QueueState,
+    clock: Moment,
+    command: &Command,
+    ticks: &mut Ticks,
+) -> Result<Option<String>, Fault> {
+    let read = Collected::of(alloc, queue.journal(), ticks)?;
+    foreseen(alloc, &read.entries(), clock, command)
 }
 
 /// Asserts that the metrics of each minute and the state of the alarm are those of the entries.
@@ -35,21 +53,31 @@ fn compare_rows(
     queue: &QueueState,
     clock: Moment,
     call: &str,
+    ticks: &mut Ticks,
 ) -> Result<(), Fail> {
-    let lines = &Entries::of(queue.journal());
+    let read = Collected::of(alloc, queue.journal(), ticks)?;
+    let lines = &read.entries();
     let rows = rows_of(alloc, lines, clock)?;
     assert_eq!(rt; queue.rows(alloc)?.as_slice(), rows.as_slice(), "{call}");
     for row in rows.as_slice() {
         assert_eq!(rt; queue.row(row.minute), Some(*row), "{call}");
     }
-    let state = alarm_of(lines, clock, rows.as_slice())?;
+    let state = alarm_state_in(lines, clock, &rule()?);
     assert_eq!(rt; queue.alarm_state(0), Some(state), "{call}");
     Ok(())
 }
 
 /// Asserts that what the queue tells is what its entries say.
-fn compare(rt: &impl Abort, queue: &QueueState, look: Look, call: &str) -> Result<(), Fail> {
-    let lines = &Entries::of(queue.journal());
+fn compare(
+    rt: &impl Abort,
+    alloc: Global,
+    queue: &QueueState,
+    look: Look,
+    call: &str,
+    ticks: &mut Ticks,
+) -> Result<(), Fail> {
+    let read = Collected::of(alloc, queue.journal(), ticks)?;
+    let lines = &read.entries();
     assert_eq!(rt; look, look_of(lines, look.clock), "{call}");
     assert_eq!(rt; queue.message_count(), message_count(lines), "{call}");
     assert_eq!(rt; queue.first_waiting(), first_waiting_of(lines)?, "{call}");
@@ -58,7 +86,7 @@ fn compare(rt: &impl Abort, queue: &QueueState, look: Look, call: &str) -> Resul
         let known = has_accepted(lines, from.uid, from.number);
         assert_eq!(rt; queue.has_accepted(&from), known, "{call}");
     }
-    let flows = minute_flows(lines, minute_of(look.clock));
+    let flows = current_flows(lines, look.clock);
     assert_eq!(rt; queue.current(), flows, "{call}");
     Ok(())
 }
@@ -74,18 +102,17 @@ fn perform(
     ticks: &mut Ticks,
 ) -> Result<Moment, Fail> {
     let Step { at, command } = step(alloc, call)?;
-    let lines = Entries::of(queue.journal());
-    let wanted = foreseen(alloc, &lines, clock.later(at), &command)?;
+    let wanted = wanted(alloc, queue, clock.later(at), &command, ticks)?;
     let answer = queue.perform(alloc, at, &command, ticks);
     if let Some(wanted) = wanted {
-        let told = told(alloc, queue, &answer)?;
+        let told = told(alloc, queue, &answer, ticks)?;
         assert_eq!(rt; told.as_str(), wanted.as_str(), "{call}");
     }
     let look = queue.look(Moment::zero(), ticks);
     let now = look.clock;
-    compare(rt, queue, look, call)?;
+    compare(rt, alloc, queue, look, call, ticks)?;
     if minute_of(clock) != minute_of(now) {
-        compare_rows(rt, alloc, queue, now, call)?;
+        compare_rows(rt, alloc, queue, now, call, ticks)?;
     }
     Ok(now)
 }
@@ -99,7 +126,7 @@ fn run(rt: &impl Abort, host: &HostRuntime, script: &str) -> Result<(), Fail> {
     for call in calls.lines() {
         clock = perform(rt, host.alloc(), &mut queue, clock, call, ticks)?;
     }
-    compare_rows(rt, host.alloc(), &queue, clock, script)
+    compare_rows(rt, host.alloc(), &queue, clock, script, ticks)
 }
 
 #[test]

@@ -4,10 +4,12 @@ ghost use Rattle.std.specs.Prelude.{◌≡◌, not, map, drop, slice_get, count_
 ghost use Rattle.std.specs.List.{list_any, find};
 ghost use Rattle.queue_core.specs.Messages.{messages, waits_for, departures, ends_transfer, pending_transfers, accepts, has_accepted};
 
+use crate::entries::{Entries, line_at};
+use crate::numbering::Messages;
 use crate::reading::waits_for;
 use journal::Event;
 use message::Content;
-use queue_core::plain::{Entries, Messages, Transfer, line_at};
+use queue_core::facts::Transfer;
 
 /// Whether an event ends a transfer.
 fn ends_transfer(transfer: Transfer, event: &Event<Content>) -> bool

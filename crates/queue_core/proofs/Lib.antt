@@ -19,7 +19,6 @@ mod PairLemmas
 mod IndexedLemmas
 mod StateLemmas
 mod RefusalLemmas
-mod BeforeLemmas
 pub mod LastingLemmas
 mod CountedLemmas
 mod WindowLemmas

@@ -6,7 +6,6 @@ use Rattle.std.proofs.lemmas.List.{append-nil}
 use Rattle.std.proofs.lemmas.List.Elements.{filter-append, All-nil, All-cons}
 use Rattle.std.proofs.lemmas.List.FromFn.{map-range_with_len_more}
 use Rattle.std.proofs.lemmas.Bool.Decides.{nat_tests}
-use Rattle.std.proofs.lemmas.List.Sums.{sum_by-cons}
 use Rattle.queue_config.specs.AlarmRules.{Rule}
 use Rattle.message.specs.declared.fault.Fault.{Fault}
 use Rattle.message.specs.Content.{ContentText, content_size}
@@ -19,7 +18,7 @@ use Rattle.metric_window.specs.Flows.{added, total, capped, minute_of, entries_i
 use Rattle.metric_window.specs.Window.{longest_window, window_start, window_end}
 use Rattle.metric_window.proofs.FlowLemmas.{added-none, added-assoc, added-comm, capped-added, total-append}
 use Rattle.metric_window.proofs.MinuteLemmas.{minute_flows-push, minute_flows-marks, minutes-total}
-use Rattle.alarm.specs.AlarmState.{satisfies, breaches_in, alarm_state_of}
+use Rattle.alarm.specs.AlarmState.{alarm_state_of}
 use Rattle.queue_core.specs.declared.command.Step.{Step}
 use Rattle.queue_core.specs.declared.reply.Reply.{Reply}
 use Rattle.queue_core.specs.Messages.{created_time}
@@ -28,7 +27,6 @@ use Rattle.queue_core.specs.Metrics.{minute_end, entries_until, minute_gauges, m
 use Rattle.queue_core.specs.Queue.{QueueHistory}
 use Rattle.queue_core.specs.Legal.{IsOrdered, IsOpening, IsLegal, BeginsAndFollows}
 use Rattle.queue_core.specs.Run.{after_all}
-use Rattle.queue_core.proofs.BeforeLemmas.{not_before}
 use Rattle.queue_core.proofs.LastingLemmas.{lasts_all}
 use Rattle.queue_core.proofs.MarkLemmas.{map_agree, created_time-marks, gauges_of-marks}
 
@@ -37,6 +35,9 @@ pub row-parts : (minute : ℕ) (f g : Flows) (a b : Gauges) → f ≡ g → a �
 row-parts minute f g a b p q = rw (p, q) refl
 
 -- ---- what comes after a minute
+
+pub not_before : (at end : ℕ) → end ≤ at → nat_lt at end ≡ false
+not_before at end h = grind (arith, nat_tests)
 
 later_minute : (at minute : ℕ) → minute_end minute ≤ at → eqb (minute_of at) minute ≡ false
 later_minute at minute h =
@@ -182,32 +183,3 @@ flows-sum q (e ∷ es) ordered begins kept =
 pub flows_add : (q : QueueHistory) → IsLegal q → window_end q.clock ≤ minute_of (created_time q.lines) + longest_window
     → capped (added (total (map (λ r. r.flows) (window_rows content_size q.lines q.clock))) (current_flows content_size q.lines q.clock)) ≡ capped (flows_total content_size q.lines)
 flows_add q legal kept = flows-sum q q.lines legal.ordered legal.caused kept
-
--- ---- alarms
-
--- the minutes from one on are that one and those after it
-pub breaches-from : (rule : Rule) (lines : List (Entry ContentText)) (minute end : ℕ) → minute < end
-    → breaches_in rule (map (λ m. metric_row content_size lines m) (range_with_len minute (end - minute)))
-    ≡ cond (satisfies rule (metric_row content_size lines minute)) 1 0 + breaches_in rule (map (λ m. metric_row content_size lines m) (range_with_len (minute + 1) (end - (minute + 1))))
-breaches-from rule lines minute end before =
-    let count : end - minute ≡ suc (end - (minute + 1)) = omega arith in
-    ap (λ (n : ℕ). breaches_in rule (map (λ m. metric_row content_size lines m) (range_with_len minute n))) count
-    ∙ sum_by-cons (λ row. cond (satisfies rule row) 1 0) (metric_row content_size lines minute) (map (λ m. metric_row content_size lines m) (range_with_len (minute + 1) (end - (minute + 1))))
-
-pub breaches-counted : (rule : Rule) (lines : List (Entry ContentText)) (minute end breaches all : ℕ) → minute < end → satisfies rule (metric_row content_size lines minute) ≡ true
-    → breaches + breaches_in rule (map (λ m. metric_row content_size lines m) (range_with_len minute (end - minute))) ≡ all
-    → breaches + 1 + breaches_in rule (map (λ m. metric_row content_size lines m) (range_with_len (minute + 1) (end - (minute + 1)))) ≡ all
-breaches-counted rule lines minute end breaches all before is h =
-    let rest : ℕ = breaches_in rule (map (λ m. metric_row content_size lines m) (range_with_len (minute + 1) (end - (minute + 1)))) in
-    let here : breaches_in rule (map (λ m. metric_row content_size lines m) (range_with_len minute (end - minute))) ≡ 1 + rest =
-    breaches-from rule lines minute end before ∙ ap (λ (b : Bool). cond b 1 0 + rest) is in
-    omega (arith, here, h)
-
-pub breaches-passed : (rule : Rule) (lines : List (Entry ContentText)) (minute end breaches all : ℕ) → minute < end → satisfies rule (metric_row content_size lines minute) ≡ false
-    → breaches + breaches_in rule (map (λ m. metric_row content_size lines m) (range_with_len minute (end - minute))) ≡ all
-    → breaches + breaches_in rule (map (λ m. metric_row content_size lines m) (range_with_len (minute + 1) (end - (minute + 1)))) ≡ all
-breaches-passed rule lines minute end breaches all before is h =
-    let rest : ℕ = breaches_in rule (map (λ m. metric_row content_size lines m) (range_with_len (minute + 1) (end - (minute + 1)))) in
-    let here : breaches_in rule (map (λ m. metric_row content_size lines m) (range_with_len minute (end - minute))) ≡ 0 + rest =
-    breaches-from rule lines minute end before ∙ ap (λ (b : Bool). cond b 1 0 + rest) is in
-    omega (arith, here, h)

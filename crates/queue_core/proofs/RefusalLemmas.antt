@@ -1,9 +1,9 @@
 -- An entry that records a refusal changes nothing, and a refused call adds no other.
-use Rattle.std.proofs.Common.{◌≡◌, ℕ, suc, ◌<◌, Bool, true, false, cond, ◌&&◌, ◌||◌, eqb, zero, List, [], ◌∷◌, ◌++◌, length, get_or, Option, Result, Err, refl, sym, ap, subst, ◌∙◌, arith}
+use Rattle.std.proofs.Common.{◌≡◌, ℕ, suc, ◌<◌, Bool, true, false, cond, ◌&&◌, ◌||◌, eqb, zero, List, [], ◌∷◌, ◌++◌, length, drop, get_or, Option, Some, None, Result, Err, refl, sym, ap, subst, ◌∙◌, arith}
 use Rattle.std.specs.Prelude.{filter, slice_get}
 use Rattle.std.specs.Option.{option_map_or}
 use Rattle.std.specs.List.{All, AllByRecursion}
-use Rattle.std.proofs.lemmas.List.{append-nil, length-append}
+use Rattle.std.proofs.lemmas.List.{append-nil, drop_all, length-append}
 use Rattle.std.proofs.lemmas.List.Elements.{All-weaker, recursion_from_All}
 use Rattle.std.proofs.lemmas.Option.{slice_get-get_or}
 use Rattle.message.specs.declared.fault.Fault.{Fault}
@@ -16,17 +16,18 @@ use Rattle.journal.specs.declared.entry.Entry.{Entry}
 use Rattle.journal.specs.declared.entry.Event.{Event}
 use Rattle.journal.specs.declared.entry.Event.TheVariants.{Refused}
 use Rattle.queue_core.specs.declared.facts.Message.{Message}
+use Rattle.queue_core.specs.declared.facts.Course.{Course}
 use Rattle.queue_core.specs.declared.facts.Status.{Status}
 use Rattle.queue_core.specs.declared.facts.Status.TheVariants.{Present, Removed, Waiting, Transferred}
 use Rattle.queue_core.specs.declared.facts.MessageState.TheVariants.{InFlight}
 use Rattle.queue_core.specs.declared.command.Command.{Command}
 use Rattle.queue_core.specs.declared.reply.Reply.{Reply}
-use Rattle.queue_core.specs.Messages.{messages, settings_of, is_expired, receive_count, course_after, course_of, is_closed, opens, created_time, pending_transfers, has_accepted}
+use Rattle.queue_core.specs.Messages.{messages, settings_of, is_expired, receive_count, first_receive_time, last_receive_time, course_after, course_from, course_of, is_closed, opens, created_time, pending_transfers, has_accepted}
 use Rattle.queue_core.specs.States.{is_live, is_in_state, is_numbered}
 use Rattle.queue_core.specs.Queue.{QueueHistory, reached, outcome_at, with_event, with_optional_event, after_answer, is_valid_handle}
 use Rattle.queue_core.specs.Lasting.{StandsAs, refusal_event}
 use Rattle.queue_core.specs.Recorded.{ran_out_before, runs_out_by}
-use Rattle.queue_core.proofs.PushLemmas.{or_false, settings_from-push, closed-push, accepted-push, course-push, ran_out-push, expired-split, receives-push, messages-push, numbered-place}
+use Rattle.queue_core.proofs.PushLemmas.{first_course, first_of_both, first-push, last-push, or_false, settings_from-push, closed-push, accepted-push, course-push, ran_out-push, expired-split, receives-push, messages-push, numbered-place}
 use Rattle.queue_core.proofs.PendingLemmas.{filter_all, pending_transfers-push}
 use Rattle.queue_core.proofs.TallyLemmas.{modified_from-push}
 use Rattle.queue_core.proofs.CountedLemmas.{recorded}
@@ -46,6 +47,16 @@ module _ (at : ℕ) (fault : Fault) where
   receive_count-refused : (number : ℕ) (lines : List (Entry ContentText)) → receive_count (lines ++ refused ∷ []) number ≡ receive_count lines number
   receive_count-refused number lines = receives-push lines refused number ∙ omega arith
 
+  first-alone : (a : Option ℕ) → first_of_both a None ≡ a
+  first-alone None = refl
+  first-alone (Some time) = refl
+
+  first_receive-refused : (number : ℕ) (lines : List (Entry ContentText)) → first_receive_time (lines ++ refused ∷ []) number ≡ first_receive_time lines number
+  first_receive-refused number lines = first-push lines refused number ∙ first-alone (first_receive_time lines number)
+
+  last_receive-refused : (number : ℕ) (lines : List (Entry ContentText)) → last_receive_time (lines ++ refused ∷ []) number ≡ last_receive_time lines number
+  last_receive-refused number lines = last-push lines refused number
+
   created_time-refused : (lines : List (Entry ContentText)) → created_time (lines ++ refused ∷ []) ≡ created_time lines
   created_time-refused [] = refl
   created_time-refused (e ∷ es) = ap (λ (n : ℕ). cond (opens e.event) e.at n) (created_time-refused es)
@@ -59,6 +70,13 @@ module _ (at : ℕ) (fault : Fault) where
   course_after-refused number Removed due returned = refl
   course_after-refused number (Waiting target) due returned = refl
   course_after-refused number Transferred due returned = refl
+
+  -- the course of a message, wherever it begins
+  course_from-refused : (number : ℕ) (c : Course) (place : ℕ) (lines : List (Entry ContentText)) → course_from number c (drop place (lines ++ refused ∷ [])) ≡ course_from number c (drop place lines)
+  course_from-refused number c zero [] = course_after-refused number c.status c.due c.returned
+  course_from-refused number c (suc place) [] = ap (λ (es : List (Entry ContentText)). course_from number c es) (drop_all place [] (omega arith))
+  course_from-refused number c zero (e ∷ es) = course_from-refused number (course_after number c e) zero es
+  course_from-refused number c (suc place) (e ∷ es) = course_from-refused number c place es
 
   module _ (lines : List (Entry ContentText)) where
     abbrev more : List (Entry ContentText)
@@ -114,6 +132,10 @@ module _ (q : QueueHistory) (fault : Fault) where
     counts = gauges-alike after q.lines q.clock messages-refused alike;
     order = order-alike after q.lines q.clock messages-refused alike;
     messages = messages-refused;
+    courses = λ m. course_from-refused q.clock fault m.number (first_course m) m.place q.lines;
+    receives = λ number. receive_count-refused q.clock fault number q.lines;
+    first_receives = λ number. first_receive-refused q.clock fault number q.lines;
+    last_receives = λ number. last_receive-refused q.clock fault number q.lines;
     created = created_time-refused q.clock fault q.lines;
     modified = modified_from-push 0 q.lines (refused q.clock fault);
     closed = closed-push q.lines (refused q.clock fault) ∙ or_false (is_closed q.lines);
@@ -134,7 +156,7 @@ module _ (q : QueueHistory) (fault : Fault) where
 -- ---- a refused call
 
 StandsAs-itself : (q : QueueHistory) → StandsAs q q
-StandsAs-itself q = record { counts = refl; order = refl; messages = refl; created = refl; modified = refl; closed = refl; settings = refl; waiting = refl; accepted = λ uid number. refl; given = λ h. refl; in_flight = λ h. refl; live = λ h. refl }
+StandsAs-itself q = record { counts = refl; order = refl; messages = refl; courses = λ m. refl; receives = λ number. refl; first_receives = λ number. refl; last_receives = λ number. refl; created = refl; modified = refl; closed = refl; settings = refl; waiting = refl; accepted = λ uid number. refl; given = λ h. refl; in_flight = λ h. refl; live = λ h. refl }
 
 StandsAs-recorded : (q : QueueHistory) (fault : Fault) → StandsAs (with_optional_event q (refusal_event fault)) q
 StandsAs-recorded q QueueDoesNotExist = StandsAs-itself q

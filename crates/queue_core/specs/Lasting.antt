@@ -7,15 +7,20 @@ use Rattle.receipt_handle.specs.declared.handle.Handle.{Handle}
 use Rattle.journal.specs.declared.entry.Entry.{Entry}
 use Rattle.journal.specs.declared.entry.Event.{Event}
 use Rattle.journal.specs.declared.entry.Event.TheVariants.{Refused}
-use Rattle.queue_core.specs.Messages.{messages, content_of, settings_of, created_time, modified_time, is_closed, pending_transfers, has_accepted}
+use Rattle.queue_core.specs.declared.facts.Message.{Message}
+use Rattle.queue_core.specs.Messages.{messages, content_of, settings_of, created_time, modified_time, receive_count, first_receive_time, last_receive_time, course_of, is_closed, pending_transfers, has_accepted}
 use Rattle.queue_core.specs.States.{gauges_of, receive_order, message_numbered}
 use Rattle.queue_core.specs.Queue.{QueueHistory, is_valid_handle, holds_in_flight, holds_live}
 
--- the counts and the age, the order, the messages, the settings and times, the transfers that wait, those that were accepted, and what each handle may do are those of another queue
+-- the counts and the age, the order, the messages, where each stands, when it is due and when and how often it was received, the settings and times, the transfers that wait, those that were accepted, and what each handle may do are those of another queue
 pub record StandsAs (q other : QueueHistory) : Type 0 where
   pub counts : gauges_of q.lines q.clock ≡ gauges_of other.lines other.clock
   pub order : receive_order q.lines q.clock ≡ receive_order other.lines other.clock
   pub messages : messages q.lines ≡ messages other.lines
+  pub courses : (m : Message) → course_of q.lines m ≡ course_of other.lines m
+  pub receives : (number : ℕ) → receive_count q.lines number ≡ receive_count other.lines number
+  pub first_receives : (number : ℕ) → first_receive_time q.lines number ≡ first_receive_time other.lines number
+  pub last_receives : (number : ℕ) → last_receive_time q.lines number ≡ last_receive_time other.lines number
   pub created : created_time q.lines ≡ created_time other.lines
   pub modified : modified_time q.lines ≡ modified_time other.lines
   pub closed : is_closed q.lines ≡ is_closed other.lines

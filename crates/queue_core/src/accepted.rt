@@ -1,6 +1,6 @@
 //! The transfers that a queue has accepted, kept for good.
 
-ghost use Rattle.std.specs.Prelude.{◌≡◌, ℕ, ◌≤◌, ◌==◌, ◌&&◌, ◌||◌, true, false, OnOk, IfErr};
+ghost use Rattle.std.specs.Prelude.{◌≡◌, ℕ, ◌≤◌, ◌==◌, ◌&&◌, ◌||◌, true, false, Ok, OnOk, IfErr};
 ghost use Rattle.indexmap.specs.IndexSet.{spare};
 ghost use Rattle.message.specs.declared.fault.Fault.TheVariants.{OutOfMemory};
 ghost use Rattle.queue_core.specs.Messages.{accepts};
@@ -41,10 +41,11 @@ impl Accepted {
         self.keys.contains(&TransferKey { uid, number })
     }
 
-    /// Makes room for the transfer by which an event begins a message, where it does. `OutOfMemory` is the only
-    /// refusal.
+    /// Makes room for the transfer by which an event begins a message, where it does; no other event wants memory.
+    /// `OutOfMemory` is the only refusal.
     pub(crate) fn make_place(&mut self, event: &Event<Content>) -> Result<(), Fault>
         ensures same { (uid number : ℕ) → holds self.new uid number ≡ holds self.old uid number }
+        ensures calm { brings event.now ≡ false → result ≡ Ok tt }
         ensures ok { OnOk result (brings event.now ≡ true → 1 ≤ spare self.new.keys) }
         ensures errors { IfErr result (λ fault. fault ≡ OutOfMemory) }
     {

@@ -1,6 +1,6 @@
 //! The messages of a queue by number.
 
-ghost use Rattle.std.specs.Prelude.{◌≡◌, ℕ, ◌+◌, ◌<◌, ◌≤◌, ◌^◌, nat_eq, true, false, None, Some, [], ◌∷◌, ◌++◌, length, if◌then◌else◌, is_some, IsSome, IfSome, IfNone, OnOk, IfErr, option_map, option_and_then, count_by};
+ghost use Rattle.std.specs.Prelude.{◌≡◌, ℕ, ◌+◌, ◌<◌, ◌≤◌, ◌^◌, nat_eq, true, false, None, Some, Ok, [], ◌∷◌, ◌++◌, length, if◌then◌else◌, is_some, IsSome, IfSome, IfNone, OnOk, IfErr, option_map, option_and_then, count_by};
 ghost use Rattle.indexmap.specs.IndexMap.{index_map_len, spare, get};
 ghost use Rattle.message.specs.declared.fault.Fault.TheVariants.{OutOfMemory};
 ghost use Rattle.queue_core.specs.declared.slot.Stay.TheVariants.{Shown};
@@ -279,12 +279,14 @@ impl MessageIndex {
 }
 
 impl MessageIndex {
-    /// Makes all growths that an event wants. `OutOfMemory` is the only refusal.
+    /// Makes all growths that an event wants: that of a message that it begins, or of the queue of those that leave.
+    /// No other event wants memory. `OutOfMemory` is the only refusal.
     pub(crate) fn make_room(&mut self, alloc: Global, event: &Event<Content>) -> Result<(), Fault>
         requires indexed { IsIndexed self.old }
         requires few { born_in self.old < 2 ^ 31 }
         ensures same { HasSame self.old self.new }
         ensures indexed { IsIndexed self.new }
+        ensures calm { (effect_of event.now).birth ≡ None → (effect_of event.now).departures ≡ [] → result ≡ Ok tt }
         ensures ready { OnOk result (is_some (effect_of event.now).birth ≡ true → IsReady self.new) }
         ensures room { OnOk result (length self.new.leaving.items + length (effect_of event.now).departures ≤ deque_capacity self.new.leaving) }
         ensures errors { IfErr result (λ fault. fault ≡ OutOfMemory) }

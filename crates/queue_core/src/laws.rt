@@ -108,9 +108,10 @@ pub fn each_live_message_is_in_one_state()
         ≡ count_by (λ m. is_live lines clock m) (messages lines) }
 {}
 
-/// A call that is refused, or finds no memory, leaves the messages, the counts, the age, the order, the
-/// settings, the times, the transfers that wait, those that were accepted, and what each handle may do
-/// as they are at its moment without it.
+/// A call that is refused, or finds no memory, leaves the messages, the counts, the age, the order, where
+/// each message stands and when it is due, how often it was received and when first and last, the settings,
+/// the times, the transfers that wait, those that were accepted, and what each handle may do as they are at
+/// its moment without it.
 pub fn refused_calls_change_nothing()
     ensures stands { (q : QueueHistory) (at : ℕ) (command : Command) (fault : Fault)
         → Meets {T = Reply} (Err fault) (outcome_at q at command).reply

@@ -1,11 +1,10 @@
 //! One queue: its journal, its clock, and the commands that it answers.
 //!
-//! [`QueueState`] keeps the journal, which [`QueueState::journal`] shows, and a clock, and answers from an
-//! index of its messages that it keeps beside them: a record of each message that is there or has left
-//! and is not confirmed, their times in order, and counts. No contract names the index. Rows, the flows of
-//! the current minute and the states of alarms still go through the journal ([`plain`]). Each command's
-//! contract says where the clock is, which never falls, which entry is added and what is answered, by the
-//! definitions in `specs/`, which ask the journal alone:
+//! [`QueueState`] keeps the journal, which [`QueueState::journal`] shows, and a clock, and answers from what it
+//! keeps beside them: an index of its messages, with a record of each that is there or has left and is not
+//! confirmed, their times in order, and counts; the rows of the last minutes; and the state of each alarm. No
+//! contract names these. Each command's contract says where the clock is, which never falls, which entry is
+//! added and what is answered, by the definitions in `specs/`, which ask the journal alone:
 //!
 //! - `Messages`: what each event does (`effect_of`), the messages of a journal, their times, retention
 //!   and expiry;
@@ -14,9 +13,9 @@
 //! - `Queue`: the outcome of each command;
 //! - `Ranges`, `Legal`: what commands carry, and which journals a queue can have.
 //!
-//! Want of memory of a command moves the clock and nothing else, and a command that adds no entry never
-//! wants memory. `FirstParcel` alone leaves the clock as it is, and may want memory without an entry,
-//! for the parcel that it hands over. [`QueueState::run`] performs a list of commands: its answers are those of the
+//! Want of memory of a command moves the clock and nothing else, and a command that adds no entry, but
+//! `FirstParcel`, never wants memory. That alone leaves the clock as it is, and may want memory without an
+//! entry, for the parcel that it hands over. [`QueueState::run`] performs a list of commands: its answers are those of the
 //! definitions one after another. What follows from the definitions, as that no message is offered
 //! before its due time, stands in the laws, which are functions without a body.
 #![tactic(auto)]
@@ -26,19 +25,15 @@ mod ages;
 mod applying;
 mod command;
 mod counts;
-mod entries;
 pub mod examples;
-mod facts;
+pub mod facts;
 mod index;
 mod indices;
 mod laws;
 mod metric_laws;
-mod metrics;
-mod numbering;
 mod offers;
 mod parcel;
 mod passing;
-pub mod plain;
 mod reading;
 mod record;
 mod reply;
@@ -66,5 +61,6 @@ pub use metric_laws::{
 pub use metric_window::{Flows, Gauges, Row};
 pub use offers::{Offer, Offers};
 pub use parcel::{Arrival, Parcel};
+pub use reading::{closes, gives_settings, settings_after};
 pub use reply::{Look, Posted, Reply};
 pub use state::QueueState;

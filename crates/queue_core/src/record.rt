@@ -1,6 +1,6 @@
 //! What is kept of one message.
 
-ghost use Rattle.std.specs.Prelude.{◌≡◌, true, None, IfOk, IfErr};
+ghost use Rattle.std.specs.Prelude.{◌≡◌, true, None, Ok, IfOk, IfErr};
 ghost use Rattle.message.specs.declared.fault.Fault.TheVariants.{OutOfMemory};
 ghost use Rattle.queue_core.specs.declared.slot.Stay.TheVariants.{Hidden};
 ghost use Rattle.queue_core.specs.Records.{born_record};
@@ -26,8 +26,10 @@ pub(crate) struct Record {
     pub slot: Slot,
 }
 
-/// The record of the message that an event begins at a time, with a share of its content.
+/// The record of the message that an event begins at a time, with a share of its content. Where it begins none, no
+/// memory is wanted.
 pub(crate) fn record_born(at: Moment, event: &Event<Content>) -> Result<Option<Record>, Fault>
+    ensures calm { born_record at event.now ≡ None → result ≡ Ok None }
     ensures ok { IfOk result (λ born. born ≡ born_record at event.now) }
     ensures errors { IfErr result (λ fault. fault ≡ OutOfMemory) }
 {

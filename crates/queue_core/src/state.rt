@@ -847,7 +847,7 @@ impl QueueState {
     }
 
     /// Performs commands one after another, and gives their answers in order. Where the list of
-    /// answers finds no memory, nothing is performed.
+    /// answers finds no memory, nothing is performed; that of no commands wants none.
     pub fn run(
         &mut self,
         alloc: Global,
@@ -859,6 +859,7 @@ impl QueueState {
         ensures state { IfOk result (λ answers. self.new ≡ after_all self.old steps.now answers.items) }
         ensures err { OnErr result (self.new ≡ self.old) }
         ensures errors { IfErr result (λ fault. fault ≡ OutOfMemory) }
+        ensures wants { OnErr result (0 < length steps.now) }
     {
         let mut answers = Vec::with_capacity(alloc, steps.len())?;
         for step in steps {

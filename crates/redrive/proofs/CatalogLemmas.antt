@@ -1,10 +1,10 @@
 -- What is true of every name directory stays true as queues are added, changed and taken out.
-use Rattle.std.proofs.Common.{◌≡◌, ℕ, zero, suc, ◌+◌, ◌<◌, ◌≤◌, Bool, true, false, not, cond, List, [], ◌∷◌, ◌++◌, length, get_or, set, take, map, Option, Some, None, refl, sym, ap, subst, ◌∙◌, arith}
+use Rattle.std.proofs.Common.{◌≡◌, ℕ, ◌+◌, ◌<◌, ◌≤◌, Bool, true, false, not, cond, List, [], ◌∷◌, ◌++◌, length, get_or, set, take, map, Option, Some, None, refl, sym, ap, subst, ◌∙◌, arith}
 use Rattle.std.specs.Prelude.{nat_eq, filter, fold, remove, is_some}
 use Rattle.std.specs.List.{find, position, IsDistinct}
 use Rattle.std.specs.Option.{option_map}
 use Rattle.std.specs.Str.{bytes_eq}
-use Rattle.std.proofs.lemmas.List.{length-append, length-map, take_more}
+use Rattle.std.proofs.lemmas.List.{length-append, length-map, set-get_or, take_more}
 use Rattle.std.proofs.lemmas.List.Filters.{length-filter_both}
 use Rattle.std.proofs.lemmas.List.Elements.{All-nil, All-filter, All-push, All-map, All-weaker}
 use Rattle.std.proofs.lemmas.List.Quantifiers.{position-Some}
@@ -57,17 +57,12 @@ has-absent d uid h = ap is_some (find-no_position uid_of uid d.queues h)
 pub without-absent : (d : Directory) (uid : ℕ) → position (λ q. nat_eq q.uid uid) d.queues ≡ None → without_uid d uid ≡ d
 without-absent d uid h = ap (λ (queues : List Registered). record d { queues = queues }) (filter-absent uid_of uid d.queues (find-no_position uid_of uid d.queues h))
 
-set-same : (qs : List Registered) (place : ℕ) (d : Registered) → place < length qs → set qs place (get_or qs place d) ≡ qs
-set-same [] place d l = absurd (omega arith)
-set-same (q ∷ qs) zero d l = refl
-set-same (q ∷ qs) (suc place) d l = ap (λ (rest : List Registered). q ∷ rest) (set-same qs place d (omega arith))
-
 pub without-present : (d : Directory) (uid place : ℕ) (queues : List Registered) → IsDirectory d → position (λ q. nat_eq q.uid uid) d.queues ≡ Some place → queues ≡ remove d.queues place
     → record d { queues = queues } ≡ without_uid d uid
 without-present d uid place queues r h is =
     let p = position-Some (λ (q : Registered). nat_eq q.uid uid) d.queues place some_queue h in
     ap (λ (queues : List Registered). record d { queues = queues })
-    (is ∙ ap (λ (all : List Registered). remove all place) (sym (set-same d.queues place some_queue p.0))
+    (is ∙ ap (λ (all : List Registered). remove all place) (sym (set-get_or d.queues place some_queue))
     ∙ remove-present uid_of uid d.queues place some_queue (get_or d.queues place some_queue) r.uids p.0 p.1)
 
 pub IsDirectory-without : (d : Directory) (uid : ℕ) → IsDirectory d → IsDirectory (without_uid d uid)
@@ -116,10 +111,6 @@ IsDirectory-with_target d uid target h =
 
 -- ---- sources, one after another
 
-fold-if : (b : Bool) (order : List (List ℕ)) (q : Registered) → fold put_name order (map name_of (cond b (q ∷ []) [])) ≡ cond b (put_name order q.name) order
-fold-if true order q = refl
-fold-if false order q = refl
-
 fold-or : (b : Bool) (order : List (List ℕ)) (q : Registered) (qs : List Registered) → fold put_name order (map name_of (cond b (q ∷ qs) qs)) ≡ fold put_name (cond b (put_name order q.name) order) (map name_of qs)
 fold-or true order q qs = refl
 fold-or false order q qs = refl
@@ -127,7 +118,7 @@ fold-or false order q qs = refl
 module _ (p : Registered → Bool) where
   names-push : (order : List (List ℕ)) (qs : List Registered) (q : Registered)
       → fold put_name order (map name_of (filter p (qs ++ q ∷ []))) ≡ cond (p q) (put_name (fold put_name order (map name_of (filter p qs))) q.name) (fold put_name order (map name_of (filter p qs)))
-  names-push order [] q = fold-if (p q) order q
+  names-push order [] q = fold-or (p q) order q []
   names-push order (x ∷ qs) q =
       fold-or (p x) order x (filter p (qs ++ q ∷ []))
       ∙ names-push (cond (p x) (put_name order x.name) order) qs q

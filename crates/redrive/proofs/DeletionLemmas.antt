@@ -1,30 +1,21 @@
 -- A queue that is closed and taken out.
-use Rattle.std.proofs.Common.{◌≡◌, ◌≢◌, ℕ, Bool, true, false, ◌||◌, List, [], ◌∷◌, ◌++◌, Option, Some, None, Result, Ok, Err, refl, sym, ◌∙◌, eqb-true}
+use Rattle.std.proofs.Common.{◌≡◌, ◌≢◌, ℕ, true, List, ◌∷◌, Option, Some, None, Result, Ok, Err, refl, sym, ◌∙◌, eqb-true}
 use Rattle.std.specs.Prelude.{nat_eq, OnOk, IfOk}
 use Rattle.std.specs.List.{position}
 use Rattle.std.specs.Option.{option_map, option_map_or}
-use Rattle.std.proofs.lemmas.Bool.{ne_eqb}
+use Rattle.std.proofs.lemmas.Bool.{or_right, ne_eqb}
 use Rattle.message.specs.declared.fault.Fault.{Fault}
 use Rattle.message.specs.declared.fault.Fault.TheVariants.{QueueDoesNotExist}
 use Rattle.message.specs.Fault.{Meets}
-use Rattle.message.specs.Content.{ContentText}
-use Rattle.journal.specs.declared.entry.Entry.{Entry}
-use Rattle.queue_core.specs.Messages.{closes, is_closed}
+use Rattle.queue_core.specs.Messages.{is_closed}
 use Rattle.queue_core.specs.Queue.{QueueHistory}
+use Rattle.queue_core.proofs.PushLemmas.{closed-push}
 use Rattle.redrive.specs.World.{World, queue_of_uid, closed_queue, take_answer, without_queue}
 use Rattle.redrive.specs.History.{journal_of, closed_journal}
 use Rattle.redrive.proofs.KeyedLemmas.{find-passes, find-without, find-without_other, find-no_position}
 
-or_last : (b c : Bool) → c ≡ true → (b || c) ≡ true
-or_last true c h = refl
-or_last false c h = h
-
-closed-push : (lines : List (Entry ContentText)) (e : Entry ContentText) → closes e.event ≡ true → is_closed (lines ++ e ∷ []) ≡ true
-closed-push [] e h = rw h refl
-closed-push (x ∷ xs) e h = or_last (closes x.event) (is_closed (xs ++ e ∷ [])) (closed-push xs e h)
-
 pub closed_queue-closed : (q : QueueHistory) (at : ℕ) → is_closed (closed_queue q at).lines ≡ true
-closed_queue-closed q at = closed-push q.lines _ refl
+closed_queue-closed q at = closed-push q.lines _ ∙ or_right (is_closed q.lines) true refl
 
 pub take-absent_answer : (w : World) (uid at : ℕ) → position (λ q. nat_eq q.uid uid) w.queues ≡ None → take_answer w uid at ≡ Err QueueDoesNotExist
 take-absent_answer w uid at h = rw (find-no_position (λ (q : QueueHistory). q.uid) uid w.queues h) refl

@@ -1,12 +1,11 @@
 -- What a step leaves of the whole history: no uid is used twice, and every deleted queue is closed.
 use Rattle.std.proofs.Common.{◌≡◌, ℕ, ◌+◌, ◌<◌, Bool, true, false, not, cond, List, [], ◌∷◌, ◌++◌, map, Option, Some, None, Result, Ok, Err, refl, sym, ap, subst, ◌∙◌, arith, append_assoc, eqb-true}
 use Rattle.std.specs.Prelude.{nat_eq, filter}
-use Rattle.std.specs.List.{find, All, AllByRecursion, IsDistinct}
+use Rattle.std.specs.List.{find, AllByRecursion, IsDistinct}
 use Rattle.std.specs.Option.{option_map_or}
 use Rattle.std.proofs.lemmas.Cmp.{nat_eq_equiv}
 use Rattle.std.proofs.lemmas.List.{map-append}
-use Rattle.std.proofs.lemmas.Option.{same_Some}
-use Rattle.std.proofs.lemmas.List.Elements.{All-nil, All-cons, All-head, All-tail, All-append, All-weaker}
+use Rattle.std.proofs.lemmas.List.Elements.{All-nil, All-cons, All-append, All-weaker}
 use Rattle.message.specs.declared.fault.Fault.{Fault}
 use Rattle.message.specs.declared.fault.Fault.TheVariants.{QueueDoesNotExist}
 use Rattle.message.specs.Fault.{Meets, is_out_of_memory}
@@ -25,7 +24,7 @@ use Rattle.redrive.specs.declared.moved.Moved.{Moved}
 use Rattle.redrive.specs.World.{World, queue_of_uid, has_queue, opens_queue, create_answer, with_queue, new_queue, closed_queue, take_answer, without_queue, step_refusal, with_queue_changed, world_after_command, step_answer, first_parcel_in, delivery_of, hand_over_answer, accepted_number, confirm_answer, IsRegistry}
 use Rattle.redrive.specs.History.{AllQueues, IsWholeHistory}
 use Rattle.redrive.specs.WorldRun.{Answer, as_house_reply, answer_of_step, MeetsAnswer, world_after, with_deleted, all_after}
-use Rattle.redrive.proofs.KeyedLemmas.{IsDistinct-push, IsDistinct-filter, map-key, find-unused, find-passes}
+use Rattle.redrive.proofs.KeyedLemmas.{differ-filter, IsDistinct-push, IsDistinct-filter, map-key, find-unused, find-passes, find-holds}
 use Rattle.redrive.proofs.RegistryLemmas.{after_answer-uid, at_uid-keeps}
 use Rattle.redrive.proofs.DeletionLemmas.{closed_queue-closed}
 use Rattle.redrive.proofs.StepLemmas.{meets_created, meets_deleted, meets_performed, meets_confirmed, meets_advanced}
@@ -65,15 +64,9 @@ own-differs own [] xs q h is = differs-without own xs
 own-differs own (d ∷ earlier) xs q h is = (nat_eq_equiv.symm own d.uid ∙ differs-found d.uid own earlier xs q h.0 is, own-differs own earlier xs q h.1 is)
 
 module _ (p : QueueHistory → Bool) where
-  fewer-head : (k : ℕ) (b : Bool) (x : QueueHistory) (xs : List QueueHistory) → nat_eq k x.uid ≡ false → AllByRecursion (λ y. nat_eq k y ≡ false) (map uid_of xs)
-      → AllByRecursion (λ y. nat_eq k y ≡ false) (map uid_of (cond b (x ∷ xs) xs))
-  fewer-head k true x xs h rest = (h, rest)
-  fewer-head k false x xs h rest = rest
-
   fewer-differ : (k : ℕ) (earlier xs : List QueueHistory) → AllByRecursion (λ y. nat_eq k y ≡ false) (map uid_of (earlier ++ xs))
       → AllByRecursion (λ y. nat_eq k y ≡ false) (map uid_of (earlier ++ filter p xs))
-  fewer-differ k [] [] h = tt
-  fewer-differ k [] (x ∷ xs) h = fewer-head k (p x) x (filter p xs) h.0 (fewer-differ k [] xs h.1)
+  fewer-differ k [] xs h = differ-filter nat_eq uid_of k p xs h
   fewer-differ k (d ∷ earlier) xs h = (h.0, fewer-differ k earlier xs h.1)
 
   fewer-distinct : (earlier xs : List QueueHistory) → IsDistinct nat_eq (map uid_of (earlier ++ xs)) → IsDistinct nat_eq (map uid_of (earlier ++ filter p xs))
@@ -113,15 +106,6 @@ fewer-history all own h = record {
   closed = h.closed;
 }
 
-found-head : (P : QueueHistory → Type 0) (p : QueueHistory → Bool) (b : Bool) (x : QueueHistory) (xs : List QueueHistory) (q : QueueHistory) → All P (x ∷ xs)
-    → (find p xs ≡ Some q → P q) → cond b (Some x) (find p xs) ≡ Some q → P q
-found-head P p true x xs q h rest is = subst P (same_Some x q is) (All-head P x xs h)
-found-head P p false x xs q h rest is = rest is
-
-found-All : (P : QueueHistory → Type 0) (p : QueueHistory → Bool) (xs : List QueueHistory) (q : QueueHistory) → All P xs → find p xs ≡ Some q → P q
-found-All P p [] q h is = absurd cc
-found-All P p (x ∷ xs) q h is = found-head P p (p x) x xs q h (λ rest. found-All P p xs q (All-tail P x xs h) rest) is
-
 deleted-history : (all : AllQueues) (own at : ℕ) (q : QueueHistory) → queue_of_uid all.world own ≡ Some q → IsRegistry all.world → IsWholeHistory all
     → IsWholeHistory (record { world = without_queue all.world own; deleted = closed_queue q at ∷ all.deleted })
 unfolding IsDistinct
@@ -133,7 +117,7 @@ deleted-history all own at q here registry h =
             (own-differs own all.deleted all.world.queues q h.uids here),
         fewer-distinct (λ q. not (nat_eq q.uid own)) all.deleted all.world.queues h.uids,
       );
-      used = All-cons (λ q. q.uid < all.world.next_uid) (closed_queue q at) all.deleted (found-All (λ q. q.uid < all.world.next_uid) (λ q. nat_eq q.uid own) all.world.queues q registry.used here) h.used;
+      used = All-cons (λ q. q.uid < all.world.next_uid) (closed_queue q at) all.deleted (find-holds (λ q. nat_eq q.uid own) (λ q. q.uid < all.world.next_uid) all.world.queues q registry.used here) h.used;
       closed = All-cons (λ q. is_closed q.lines ≡ true) (closed_queue q at) all.deleted (closed_queue-closed q at) h.closed;
     }
 

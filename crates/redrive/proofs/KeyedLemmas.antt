@@ -42,7 +42,7 @@ module _ {X K : Type 0} (e : K → K → Bool) (key : X → K) where
   differ-if k true x xs h rest = (h, rest)
   differ-if k false x xs h rest = rest
 
-  differ-filter : (k : K) (p : X → Bool) (xs : List X) → AllByRecursion (λ y. e k y ≡ false) (map key xs) → AllByRecursion (λ y. e k y ≡ false) (map key (filter p xs))
+  pub differ-filter : (k : K) (p : X → Bool) (xs : List X) → AllByRecursion (λ y. e k y ≡ false) (map key xs) → AllByRecursion (λ y. e k y ≡ false) (map key (filter p xs))
   differ-filter k p [] h = tt
   differ-filter k p (x ∷ xs) h = differ-if k (p x) x (filter p xs) h.0 (differ-filter k p xs h.1)
 
@@ -72,13 +72,18 @@ module _ {X : Type 0} (p : X → Bool) where
   find-map g h [] = refl
   find-map g h (x ∷ xs) = rw (h x, find-map g h xs) (option_map-cond g (p x) x (find p xs))
 
-  cond-passes : (b : Bool) (x y : X) (o : Option X) → p x ≡ b → (o ≡ Some y → p y ≡ true) → cond b (Some x) o ≡ Some y → p y ≡ true
-  cond-passes true x y o e h is = subst (λ (z : X). p z ≡ true) (same_Some x y is) e
-  cond-passes false x y o e h is = h is
+  cond-holds : (P : X → Type 0) (b : Bool) (x y : X) (o : Option X) → (b ≡ true → P x) → (o ≡ Some y → P y) → cond b (Some x) o ≡ Some y → P y
+  cond-holds P true x y o h k is = subst P (same_Some x y is) (h refl)
+  cond-holds P false x y o h k is = k is
 
   pub find-passes : (xs : List X) (y : X) → find p xs ≡ Some y → p y ≡ true
   find-passes [] y is = absurd (none-some y is)
-  find-passes (x ∷ xs) y is = cond-passes (p x) x y (find p xs) refl (find-passes xs y) is
+  find-passes (x ∷ xs) y is = cond-holds (λ z. p z ≡ true) (p x) x y (find p xs) (λ e. e) (find-passes xs y) is
+
+  -- what is so of all is so of the one that is found
+  pub find-holds : (P : X → Type 0) (xs : List X) (y : X) → All P xs → find p xs ≡ Some y → P y
+  find-holds P [] y h is = absurd (none-some y is)
+  find-holds P (x ∷ xs) y h is = cond-holds P (p x) x y (find p xs) (λ e. All-head P x xs h) (find-holds P xs y (All-tail P x xs h)) is
 
   cond-other : (q : X → Bool) (b c : Bool) (x y : X) (o o' : Option X) → q x ≡ c → cond b (Some x) o ≡ Some y → q y ≡ true
       → (o ≡ Some y → (z : X) × (o' ≡ Some z)) → (z : X) × (cond c (Some x) o' ≡ Some z)

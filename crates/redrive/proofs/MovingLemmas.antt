@@ -1,17 +1,14 @@
 -- A parcel that was handed over and accepted still waits first at its source, so that it can be confirmed.
-use Rattle.std.proofs.Common.{◌≡◌, ℕ, zero, suc, Bool, true, false, not, ◌||◌, cond, List, [], ◌∷◌, ◌++◌, Option, Some, None, Result, Ok, Err, refl, sym, ap, subst, inl, inr, ◌∙◌}
-use Rattle.std.specs.Prelude.{nat_eq, slice_get, is_some, option_map, option_and_then}
-use Rattle.std.specs.List.{list_any}
+use Rattle.std.proofs.Common.{◌≡◌, ℕ, Bool, true, false, cond, List, [], ◌∷◌, ◌++◌, Option, Some, None, Result, Ok, Err, refl, sym, ap, subst, inl, inr, ◌∙◌}
+use Rattle.std.specs.Prelude.{nat_eq, filter, is_some, option_map, option_and_then}
 use Rattle.std.specs.Option.{option_map_or}
-use Rattle.std.proofs.lemmas.Bool.{eq-eqb, false≢true}
-use Rattle.std.proofs.lemmas.List.Elements.{filter_agree}
-use Rattle.std.proofs.lemmas.List.Folds.{list_any-append}
+use Rattle.std.proofs.lemmas.Bool.{eq-eqb, or_right, false≢true}
+use Rattle.std.proofs.lemmas.List.{append-nil}
 use Rattle.std.proofs.lemmas.Option.{none-some, option_and_then_some}
 use Rattle.message.specs.declared.fault.Fault.{Fault}
 use Rattle.message.specs.declared.fault.Fault.TheVariants.{QueueDoesNotExist}
 use Rattle.message.specs.Fault.{Meets}
 use Rattle.message.specs.Content.{ContentText}
-use Rattle.journal.specs.declared.entry.Entry.{Entry}
 use Rattle.journal.specs.declared.entry.Event.TheVariants.{Arrived}
 use Rattle.queue_core.specs.declared.command.Command.TheVariants.{Arrive, Orphan}
 use Rattle.queue_core.specs.declared.facts.Message.{Message}
@@ -20,91 +17,45 @@ use Rattle.queue_core.specs.declared.parcel.Parcel.{Parcel}
 use Rattle.queue_core.specs.declared.parcel.Arrival.TheVariants as arrivals
 use Rattle.queue_core.specs.declared.reply.Reply.{Reply}
 use Rattle.queue_core.specs.declared.reply.Reply.TheVariants as replies
-use Rattle.queue_core.specs.Messages.{message_of, messages_from, content_of, departures, ends_transfer, pending_transfers, accepts, has_accepted}
+use Rattle.queue_core.specs.Messages.{content_of, pending_transfers, accepts, has_accepted}
 use Rattle.queue_core.specs.States.{message_numbered}
 use Rattle.queue_core.specs.Queue.{QueueHistory, Outcome, at_moment, first_refusal, unless_refused, orphan_outcome, outcome_at, with_optional_event, after_answer, parcel_of, transferred_parcel, first_transfer, first_parcel_of}
 use Rattle.redrive.specs.declared.moved.Moved.{Moved}
 use Rattle.redrive.specs.declared.moved.Moved.TheVariants as moved
 use Rattle.redrive.specs.World.{World, queue_of_uid, has_queue, first_parcel_in, Delivery, delivery_of, as_moved, delivered_answer, arrive_answer, world_after_command, world_after_hand_over, needs_confirmation, is_accepted, accepted_number, confirm_answer, confirm_takes_memory, world_after_confirm, answer_of_halves, IsHandedOver, IsMoved}
+use Rattle.queue_core.proofs.PushLemmas.{Line, accepted-push, content-push, numbered-kept}
+use Rattle.queue_core.proofs.PendingLemmas.{filter_all, pending_transfers-push}
 use Rattle.redrive.proofs.RegistryLemmas.{after_answer-uid, changed-queue}
 
--- ---- a journal with more entries
-
-slice_get-more : {X : Type 0} (xs ys : List X) (i : ℕ) (x : X) → slice_get xs i ≡ Some x → slice_get (xs ++ ys) i ≡ Some x
-slice_get-more [] ys i x h = absurd (none-some x h)
-slice_get-more (z ∷ xs) ys zero x h = h
-slice_get-more (z ∷ xs) ys (suc i) x h = slice_get-more xs ys i x h
-
-begun-more : (o : Option Message) (next next' after after' : List Message) (i : ℕ) (m : Message)
-    → ((k : ℕ) → slice_get next k ≡ Some m → slice_get next' k ≡ Some m) → ((k : ℕ) → slice_get after k ≡ Some m → slice_get after' k ≡ Some m)
-    → slice_get (option_map_or (λ m. m ∷ next) o after) i ≡ Some m → slice_get (option_map_or (λ m. m ∷ next') o after') i ≡ Some m
-begun-more None next next' after after' i m f g h = g i h
-begun-more (Some first) next next' after after' zero m f g h = h
-begun-more (Some first) next next' after after' (suc i) m f g h = f i h
-
--- the messages that are there keep their numbers
-messages_from-more : (place number : ℕ) (xs ys : List (Entry ContentText)) (i : ℕ) (m : Message)
-    → slice_get (messages_from place number xs) i ≡ Some m → slice_get (messages_from place number (xs ++ ys)) i ≡ Some m
-messages_from-more place number [] ys i m h = absurd (none-some m h)
-messages_from-more place number (x ∷ xs) ys i m h =
-    begun-more (message_of place number x.at x.event) (messages_from (suc place) (suc number) xs) (messages_from (suc place) (suc number) (xs ++ ys))
-    (messages_from (suc place) number xs) (messages_from (suc place) number (xs ++ ys)) i m
-    (λ k. messages_from-more (suc place) (suc number) xs ys k m) (λ k. messages_from-more (suc place) number xs ys k m) h
-
--- and their contents
-content_of-more : (lines more : List (Entry ContentText)) (m : Message) (content : ContentText) → content_of lines m ≡ Some content → content_of (lines ++ more) m ≡ Some content
-content_of-more lines more m content h =
-    option_and_then_some _ (slice_get lines m.place) content h (λ e at is. rw (slice_get-more lines more m.place e at) is)
-
--- ---- an entry that begins and ends no transfer
-
-or_neither : (b : Bool) → (b || false) ≡ b
-or_neither true = refl
-or_neither false = refl
-
-module _ (e : Entry ContentText) (begins : departures e.event ≡ []) (ends : (t : Transfer) → ends_transfer t e.event ≡ false) where
-  ended-push : (t : Transfer) (es : List (Entry ContentText)) → list_any (λ later. ends_transfer t later.event) (es ++ e ∷ []) ≡ list_any (λ later. ends_transfer t later.event) es
-  ended-push t es =
-      list_any-append (λ later. ends_transfer t later.event) es (e ∷ [])
-      ∙ ap (λ (b : Bool). list_any (λ later. ends_transfer t later.event) es || (b || false)) (ends t)
-      ∙ or_neither (list_any (λ later. ends_transfer t later.event) es)
-
-  pending-push : (es : List (Entry ContentText)) → pending_transfers (es ++ e ∷ []) ≡ pending_transfers es
-  pending-push [] = rw begins refl
-  pending-push (x ∷ es) =
-      rw (pending-push es)
-      (ap (λ (begun : List Transfer). begun ++ pending_transfers es)
-      (filter_agree (λ t. not (list_any (λ later. ends_transfer t later.event) (es ++ e ∷ []))) (λ t. not (list_any (λ later. ends_transfer t later.event) es))
-      (λ t. ap not (ended-push t es)) (departures x.event)))
-
-  transferred-push : (q : QueueHistory) (t : Transfer) (p : Parcel) → transferred_parcel q t ≡ Some p → transferred_parcel (record q { lines = q.lines ++ e ∷ [] }) t ≡ Some p
-  transferred-push q t p h =
-      option_and_then_some _ (message_numbered q.lines t.number) p h
-      (λ m at is. rw (messages_from-more 0 0 q.lines (e ∷ []) t.number m at) (with_content m (content_of q.lines m) refl is))
-    where
-      with_content : (m : Message) (o : Option ContentText) → content_of q.lines m ≡ o → option_map (λ content. parcel_of q t m content) o ≡ Some p
-          → option_map (λ content. parcel_of q t m content) (content_of (q.lines ++ e ∷ []) m) ≡ Some p
-      with_content m None here is = absurd (none-some p is)
-      with_content m (Some content) here is = rw (content_of-more q.lines (e ∷ []) m content here) is
-
-  first-push : (q : QueueHistory) (p : Parcel) → first_parcel_of q ≡ Some p → first_parcel_of (record q { lines = q.lines ++ e ∷ [] }) ≡ Some p
-  first-push q p h =
-      option_and_then_some _ (first_transfer q) p h
-      (λ t first is. rw (pending-push q.lines, first) (transferred-push q t p is))
-
 -- ---- what an arrival leaves
-
-or_last : (b c : Bool) → c ≡ true → (b || c) ≡ true
-or_last true c h = refl
-or_last false c h = h
 
 arrived-accepts : (p : Parcel) → accepts p.origin.uid p.origin.number (Arrived p.origin p.content) ≡ true
 arrived-accepts p = rw (eq-eqb p.origin.uid p.origin.uid refl, eq-eqb p.origin.number p.origin.number refl) refl
 
-accepted-push : (lines : List (Entry ContentText)) (at : ℕ) (p : Parcel) → has_accepted (lines ++ record { at = at; event = Arrived p.origin p.content } ∷ []) p.origin.uid p.origin.number ≡ true
-accepted-push lines at p =
-    list_any-append (λ e. accepts p.origin.uid p.origin.number e.event) lines (record { at = at; event = Arrived p.origin p.content } ∷ [])
-    ∙ or_last (has_accepted lines p.origin.uid p.origin.number) _ (rw (arrived-accepts p) refl)
+module _ (at : ℕ) (arrived : Parcel) where
+  abbrev arrival : Line
+  arrival = record { at = at; event = Arrived arrived.origin arrived.content }
+
+  arrival-accepts : (lines : List Line) → has_accepted (lines ++ arrival ∷ []) arrived.origin.uid arrived.origin.number ≡ true
+  arrival-accepts lines =
+      accepted-push lines arrival arrived.origin.uid arrived.origin.number
+      ∙ or_right (has_accepted lines arrived.origin.uid arrived.origin.number) (accepts arrived.origin.uid arrived.origin.number arrival.event) (arrived-accepts arrived)
+
+  -- it begins and ends no transfer
+  pending-arrival : (lines : List Line) → pending_transfers (lines ++ arrival ∷ []) ≡ pending_transfers lines
+  pending-arrival lines = pending_transfers-push lines arrival ∙ append-nil (filter (λ t. true) (pending_transfers lines)) ∙ filter_all (pending_transfers lines)
+
+  transferred-arrival : (q : QueueHistory) (t : Transfer) (p : Parcel) → transferred_parcel q t ≡ Some p → transferred_parcel (record q { lines = q.lines ++ arrival ∷ [] }) t ≡ Some p
+  transferred-arrival q t p h =
+      option_and_then_some _ (message_numbered q.lines t.number) p h (λ m is there. rw (numbered-kept q.lines arrival t.number m is) (with_content m (content_of q.lines m) refl there))
+    where
+      with_content : (m : Message) (o : Option ContentText) → content_of q.lines m ≡ o → option_map (λ content. parcel_of q t m content) o ≡ Some p
+          → option_map (λ content. parcel_of q t m content) (content_of (q.lines ++ arrival ∷ []) m) ≡ Some p
+      with_content m None here is = absurd (none-some p is)
+      with_content m (Some content) here is = rw (content-push q.lines arrival m content here) is
+
+  first-arrival : (q : QueueHistory) (p : Parcel) → first_parcel_of q ≡ Some p → first_parcel_of (record q { lines = q.lines ++ arrival ∷ [] }) ≡ Some p
+  first-arrival q p h = option_and_then_some _ (first_transfer q) p h (λ t first is. rw (pending-arrival q.lines, first) (transferred-arrival q t p is))
 
 abbrev again : QueueHistory → Outcome
 again q = record { event = None; reply = Ok (replies.Arrived arrivals.Again) }
@@ -118,14 +69,14 @@ arrival-accepted : (q : QueueHistory) (p : Parcel) (m : Moved) (refused : Option
     → has_accepted (with_optional_event q (unless_refused refused (cond accepted (again q) (new q p))).event).lines p.origin.uid p.origin.number ≡ true
 arrival-accepted q p m (Some fault) accepted e h = absurd cc
 arrival-accepted q p m None true e h = e
-arrival-accepted q p m None false e h = accepted-push q.lines q.clock p
+arrival-accepted q p m None false e h = arrival-accepts q.clock p q.lines
 
 -- and no arrival ends a transfer
 arrival-first : (q : QueueHistory) (p first : Parcel) (refused : Option Fault) (accepted : Bool) → first_parcel_of q ≡ Some first
     → first_parcel_of (with_optional_event q (unless_refused refused (cond accepted (again q) (new q p))).event) ≡ Some first
 arrival-first q p first (Some fault) accepted h = h
 arrival-first q p first None true h = h
-arrival-first q p first None false h = first-push (record { at = q.clock; event = Arrived p.origin p.content }) refl (λ t. refl) q first h
+arrival-first q p first None false h = first-arrival q.clock p q first h
 
 -- ---- the world between the halves
 

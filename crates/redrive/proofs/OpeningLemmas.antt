@@ -31,10 +31,6 @@ module _ {X K : Type 0} (e : K → K → Bool) (key : X → K) where
   find-apart [] k h = refl
   find-apart (x ∷ xs) k h = rw (h.0) (find-apart xs k h.1)
 
-map-both : {X K : Type 0} (key : X → K) (xs : List X) (x : X) (ys : List X) → map key (xs ++ x ∷ ys) ≡ map key xs ++ key x ∷ map key ys
-map-both key [] x ys = refl
-map-both key (y ∷ xs) x ys = ap (λ (ks : List _). key y ∷ ks) (map-both key xs x ys)
-
 -- ---- the rules of one queue
 
 rules_of-more : (alarms : List ConfiguredAlarm) (uid i : ℕ) (alarm : ConfiguredAlarm) → i < length alarms → alarm ≡ get_or alarms i alarm
@@ -100,7 +96,7 @@ unfolding opened
 next_name-new house limits alarms at qs i q is l here h =
     let split : qs ≡ take i qs ++ q ∷ drop (i + 1) qs = sym (take-append-drop i qs) ∙ ap (λ (rest : List ConfiguredQueue). take i qs ++ rest) (drop_more qs i q l ∙ ap (λ x. x ∷ drop (i + 1) qs) (sym here)) in
     let names : map (λ (q : ConfiguredQueue). q.name) qs ≡ map (λ (q : ConfiguredQueue). q.name) (take i qs) ++ q.name ∷ map (λ (q : ConfiguredQueue). q.name) (drop (i + 1) qs) =
-    ap (map (λ (q : ConfiguredQueue). q.name)) split ∙ map-both (λ (q : ConfiguredQueue). q.name) (take i qs) q (drop (i + 1) qs) in
+    ap (map (λ (q : ConfiguredQueue). q.name)) split ∙ map-append (λ (q : ConfiguredQueue). q.name) (take i qs) (q ∷ drop (i + 1) qs) in
     let differ : AllByRecursion (λ y. bytes_eq y q.name ≡ false) (map (λ (q : ConfiguredQueue). q.name) (take i qs)) =
     apart bytes_eq (λ (q : ConfiguredQueue). q.name) (map (λ (q : ConfiguredQueue). q.name) (take i qs)) q.name (map (λ (q : ConfiguredQueue). q.name) (drop (i + 1) qs)) (subst (λ (ns : List (List ℕ)). IsDistinct bytes_eq ns) names h.names) in
     let there : map (λ (q : QueueHistory). q.name) house.queues ≡ map (λ (q : ConfiguredQueue). q.name) (take i qs) =

@@ -1,5 +1,5 @@
 -- The queue of a uid at its place in the list: what is done there is done to the queue of the uid.
-use Rattle.std.proofs.Common.{◌≡◌, ℕ, ◌<◌, true, false, List, length, get_or, Some, Result, Ok, Err, sym, ap, ◌∙◌}
+use Rattle.std.proofs.Common.{◌≡◌, ℕ, ◌<◌, true, false, List, length, get_or, Option, Some, Result, Ok, Err, sym, ap, ◌∙◌}
 use Rattle.std.specs.Prelude.{nat_eq, remove, slice_get, IfSome, OnOk, OnErr, IfErr}
 use Rattle.std.specs.List.{position}
 use Rattle.std.proofs.lemmas.List.{set-get_or}
@@ -20,6 +20,10 @@ use Rattle.redrive.proofs.RegistryLemmas.{some_queue, IsRegistry-after_step, IsR
 
 abbrev uid_of : QueueHistory → ℕ
 uid_of q = q.uid
+
+-- its place in the list that is shown is its place in the list that is kept
+pub place-shown : {w x : World} {o : Option ℕ} {place : ℕ} (uid : ℕ) → w ≡ x → o ≡ position (λ q. nat_eq q.uid uid) x.queues → o ≡ Some place → position (λ q. nat_eq q.uid uid) w.queues ≡ Some place
+place-shown uid same found is = ap (λ (w : World). position (λ q. nat_eq q.uid uid) w.queues) same ∙ sym found ∙ is
 
 module _ (w : World) (uid place : ℕ) (here : position (λ q. nat_eq q.uid uid) w.queues ≡ Some place) where
   -- the queue that stands there

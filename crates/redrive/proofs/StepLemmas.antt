@@ -69,7 +69,7 @@ known-uid w uid given name q first true e is known =
     let there = find-other (λ x. bytes_eq x.name name) (λ x. nat_eq x.uid uid) w.queues q known own in
     rw (there.1) refl
 
-or-none : {X : Type 0} (o : Option X) → option_or o None ≡ o
+pub or-none : {X : Type 0} (o : Option X) → option_or o None ≡ o
 or-none None = refl
 or-none (Some x) = refl
 

@@ -1,18 +1,16 @@
 //! What the entries of a journal say of a queue, and of the answer to a command.
 
-use super::commands::{MOST_IN_FLIGHT, MOST_LINES, UID, rule};
+use super::commands::{MOST_IN_FLIGHT, MOST_LINES, UID};
 use crate::{
-    awaits_transfer, content_of, created_time, first_receive_time, first_transfer, has_accepted,
-    is_closed, last_receive_time, message_count, message_numbered, modified_time, numbers_of,
-    receive_order, settings_of, waiting_count,
+    Entries, awaits_transfer, content_of, created_time, first_receive_time, first_transfer,
+    gauges_of, has_accepted, is_closed, is_in_state, last_receive_time, message_count,
+    message_numbered, modified_time, numbers_of, receive_count, receive_order, row_of, settings_of,
+    waiting_count,
 };
-use alarm::{AlarmState, alarm_state_of};
 use journal::{Event, Moment, Numbers, Origin};
 use message::{Fault, MessageId, QueueName};
-use metric_window::{Row, minute_of, window_end, window_of};
-use queue_core::plain::{
-    Candidate, Entries, Message, MessageState, gauges_of, is_in_state, minute_flows, receive_count,
-};
+use metric_window::{Row, window_of};
+use queue_core::facts::{Candidate, Message, MessageState};
 use queue_core::{Arrival, Command, Look, Offer, Reply};
 use receipt_handle::Handle;
 use std::alloc::Global;
@@ -59,17 +57,6 @@ pub(super) fn first_waiting_of(lines: &Entries<'_>) -> Result<Option<(Origin, u6
     }))
 }
 
-/// The metrics of a minute.
-fn row_of(lines: &Entries<'_>, minute: u64) -> Option<Row> {
-    let end = minute.saturating_add(1).saturating_mul(60_000);
-    let last = Moment::new(end.saturating_sub(1))?;
-    Some(Row {
-        minute,
-        flows: minute_flows(lines, minute),
-        gauges: gauges_of(&lines.before(end), last),
-    })
-}
-
 /// The metrics of each minute that has a row.
 pub(super) fn rows_of(
     alloc: Global,
@@ -79,22 +66,9 @@ pub(super) fn rows_of(
     let (first, end) = window_of(created_time(lines), clock);
     let mut rows = Vec::new(alloc);
     for minute in first..end {
-        rows.extend(row_of(lines, minute))?;
+        rows.extend(row_of(lines, clock, minute))?;
     }
     Ok(rows)
-}
-
-/// The state of the queue's alarm, by the rows of the last minutes.
-pub(super) fn alarm_of(
-    lines: &Entries<'_>,
-    clock: Moment,
-    rows: &[Row],
-) -> Result<AlarmState, Fault> {
-    let rule = rule()?;
-    let complete = window_end(clock).saturating_sub(minute_of(created_time(lines)));
-    let first = rows.len().saturating_sub(rule.minutes as usize);
-    let last = rows.get(first..).unwrap_or(rows);
-    Ok(alarm_state_of(&rule, complete, last))
 }
 
 /// What a receive does: the messages that it offers and those that leave, each in order.

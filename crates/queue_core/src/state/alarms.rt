@@ -1,6 +1,6 @@
 //! The alarms of a queue: its own rules, judged by the rows of its last minutes.
 
-ghost use Rattle.std.specs.Prelude.{◌≡◌, map, slice_get, option_map, IfOk, IfErr};
+ghost use Rattle.std.specs.Prelude.{◌≡◌, ◌<◌, length, map, slice_get, option_map, IfOk, IfErr, OnErr};
 ghost use Rattle.message.specs.declared.fault.Fault.TheVariants.{OutOfMemory};
 ghost use Rattle.message.specs.Content.{content_size};
 ghost use Rattle.alarm.specs.KeptAlarm.{kept_state};
@@ -24,11 +24,13 @@ impl QueueState {
         }
     }
 
-    /// The states of all alarms of the queue, in their order. `OutOfMemory` is the only refusal.
+    /// The states of all alarms of the queue, in their order. `OutOfMemory` is the only refusal, where there is an
+    /// alarm.
     pub fn alarm_states(&self, alloc: Global) -> Result<Vec<AlarmState>, Fault>
         ensures states { IfOk result (λ states. states.items
             ≡ map (λ rule. alarm_state_in content_size self.now.lines self.now.clock rule) self.now.rules) }
         ensures fault { IfErr result (λ fault. fault ≡ OutOfMemory) }
+        ensures wants { OnErr result (0 < length self.now.rules) }
     {
         states_of(alloc, self.watch.alarms.as_slice())
     }
@@ -42,11 +44,12 @@ impl QueueState {
     }
 }
 
-/// The states of alarms, in their order. `OutOfMemory` is the only refusal.
+/// The states of alarms, in their order. `OutOfMemory` is the only refusal, where there is an alarm.
 #[tactic(auto, using(std::proofs::lemmas::List::map_more))]
 fn states_of(alloc: Global, alarms: &[Alarm]) -> Result<Vec<AlarmState>, Fault>
     ensures states { IfOk result (λ states. states.items ≡ map (λ alarm. kept_state alarm) alarms.now) }
     ensures fault { IfErr result (λ fault. fault ≡ OutOfMemory) }
+    ensures wants { OnErr result (0 < length alarms.now) }
 {
     let mut states = Vec::new(alloc);
     for alarm in alarms {

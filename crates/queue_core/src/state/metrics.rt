@@ -1,6 +1,6 @@
 //! Metric rows: what happened in each minute, and what stood in the queue at its end.
 
-ghost use Rattle.std.specs.Prelude.{◌≡◌, IfOk, IfErr};
+ghost use Rattle.std.specs.Prelude.{◌≡◌, ◌<◌, IfOk, IfErr, OnErr};
 ghost use Rattle.message.specs.declared.fault.Fault.TheVariants.{OutOfMemory};
 ghost use Rattle.message.specs.Content.{content_size};
 ghost use Rattle.metric_window.specs.Window.{window_start, window_end};
@@ -40,10 +40,11 @@ impl QueueState {
         self.watch.window.row(minute)
     }
 
-    /// The rows of all minutes that have one, oldest first. `OutOfMemory` is the only refusal.
+    /// The rows of all minutes that have one, oldest first. `OutOfMemory` is the only refusal, where there is a row.
     pub fn rows(&self, alloc: Global) -> Result<Vec<Row>, Fault>
         ensures rows { IfOk result (λ rows. rows.items ≡ window_rows content_size self.now.lines self.now.clock) }
         ensures fault { IfErr result (λ fault. fault ≡ OutOfMemory) }
+        ensures wants { OnErr result (window_start (created_time self.now.lines) self.now.clock < window_end self.now.clock) }
     {
         let (first, end) = self.span();
         let mut rows = Vec::new(alloc);

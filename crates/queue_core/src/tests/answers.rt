@@ -105,5 +105,7 @@ limits => (900, 43200, 10)
 
 #[test]
 fn answers(rt: HostRuntime) -> Result<(), Fail> {
-    ask(&rt, &rt, &mut first(rt.alloc())?, LINES)
+    let refused = ask(&rt, &rt, &mut first(rt.alloc())?, LINES)?;
+    assert!(rt; refused <= 1);
+    Ok(())
 }

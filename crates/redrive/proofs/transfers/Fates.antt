@@ -1,5 +1,5 @@
 -- Each departure from an open queue has its fate, and what is among the pending transfers waits.
-use Rattle.std.proofs.Common.{◌≡◌, ℕ, zero, suc, ◌<◌, Bool, true, false, not, ◌||◌, cond, [], ◌∷◌, ◌++◌, length, drop, Option, Some, None, refl, sym, ap, subst, inl, inr, ◌∙◌, arith, eqb-true}
+use Rattle.std.proofs.Common.{◌≡◌, ℕ, zero, suc, ◌<◌, Bool, true, false, not, ◌||◌, cond, [], ◌∷◌, length, drop, Option, Some, None, refl, sym, ap, subst, inl, inr, ◌∙◌, arith, eqb-true}
 use Rattle.std.specs.Prelude.{◌⊎◌, nat_eq, slice_get, filter}
 use Rattle.std.specs.Option.{option_map_or, option_or}
 use Rattle.std.specs.List.{list_any, Contains}
@@ -22,8 +22,7 @@ use Rattle.redrive.specs.Places.{status_numbered, end_of, IsDeparture, StillWait
 use Rattle.queue_core.proofs.PushLemmas.{slice_get-push, numbered-kept, course-kept}
 use Rattle.queue_core.proofs.PendingLemmas.{Contains-from_filter, Contains-nil, departed, status-leaving, status-kept}
 use Rattle.redrive.proofs.transfers.Journals.{Line, Lines, more, stands_from, stands_gives, stands_once, stands_kept, accepted_kept}
-use Rattle.redrive.proofs.transfers.Views.{View, IsSettling, IsStep, Grows, IsOpened, Change, Stays, Steps, Opens, Closes}
-use Rattle.redrive.proofs.transfers.Worlds.{same_or_not}
+use Rattle.redrive.proofs.transfers.Views.{View, IsSettling, IsStep, Grows, IsOpened, Change, Stays, Steps, Opens, Closes, by_uid, by_growth}
 
 -- ---- fates in one journal
 
@@ -249,12 +248,7 @@ pub keeps-same : (v v' : View) → ((w : ℕ) → v'.lines w ≡ v.lines w) → 
 keeps-same v v' same u target n h = ap (λ (ls : Lines). has_accepted ls u n) (same target) ∙ h
 
 pub keeps-grown : (v v' : View) (own : ℕ) (e : Line) → Grows v v' own e → Keeps v v'
-keeps-grown v v' own e g u target n h =
-    elim (same_or_not target own) [
-      | inl same ↦ subst (λ (i : ℕ). has_accepted (v'.lines i) u n ≡ true) (sym same)
-          (ap (λ (ls : Lines). has_accepted ls u n) g.here ∙ accepted_kept (v.lines own) e u n (subst (λ (i : ℕ). has_accepted (v.lines i) u n ≡ true) same h))
-      | inr differs ↦ ap (λ (ls : Lines). has_accepted ls u n) (g.others target differs) ∙ h
-    ]
+keeps-grown v v' own e g u target n = by_growth v v' own e g (λ one other. has_accepted one u n ≡ true → has_accepted other u n ≡ true) (accepted_kept (v.lines own) e u n) (λ ls h. h) target
 
 fates-same : (v v' : View) (u : ℕ) → Keeps v v' → v'.lines u ≡ v.lines u → AreFates (accepted_from v u) (v.lines u) → AreFates (accepted_from v' u) (v'.lines u)
 fates-same v v' u keeps same h =
@@ -271,25 +265,19 @@ fates-first accepted e none (suc place) t d = absurd (none-some d.entry d.stands
 module _ (v v' : View) where
   pub fates-opened : (u : ℕ) (e : Line) → Grows v v' u e → IsOpened v v' u e → HasFates v → HasFates v'
   fates-opened u e g o fates w there =
-      elim (same_or_not w u) [
-        | inl same ↦ subst (λ (i : ℕ). AreFates (accepted_from v' i) (v'.lines i)) (sym same)
-            (subst (AreFates (accepted_from v' u)) (sym (g.here ∙ ap (λ (ls : Lines). more ls e) o.unused))
-            (fates-first (accepted_from v' u) e (λ n. no-departures e.event (Opened u o.settings) n o.opening refl)))
-        | inr differs ↦ fates-same v v' w (keeps-grown v v' u e g) (g.others w differs) (fates w (sym (o.others w differs) ∙ there))
-      ]
+      by_uid w u (λ i. AreFates (accepted_from v' i) (v'.lines i))
+      (subst (AreFates (accepted_from v' u)) (sym (g.here ∙ ap (λ (ls : Lines). more ls e) o.unused))
+      (fates-first (accepted_from v' u) e (λ n. no-departures e.event (Opened u o.settings) n o.opening refl)))
+      (λ differs. fates-same v v' w (keeps-grown v v' u e g) (g.others w differs) (fates w (sym (o.others w differs) ∙ there)))
 
   pub fates-after : {ending : ℕ → Type 0} → Change ending v v' → HasFates v → HasFates v'
   fates-after (Stays lines gates) fates = λ w there. fates-same v v' w (keeps-same v v' lines) (lines w) (fates w (sym (gates w) ∙ there))
   fates-after (Steps u e g gates here step) fates = λ w there.
-      elim (same_or_not w u) [
-        | inl same ↦ subst (λ (i : ℕ). AreFates (accepted_from v' i) (v'.lines i)) (sym same)
-            (subst (AreFates (accepted_from v' u)) (sym g.here)
-            (fates-weaker (accepted_from v u) (accepted_from v' u) (λ target n k. keeps-grown v v' u e g u target n k) (more (v.lines u) e) (fates-more v u e step (fates u here))))
-        | inr differs ↦ fates-same v v' w (keeps-grown v v' u e g) (g.others w differs) (fates w (sym (gates w) ∙ there))
-      ]
+      by_uid w u (λ i. AreFates (accepted_from v' i) (v'.lines i))
+      (subst (AreFates (accepted_from v' u)) (sym g.here)
+      (fates-weaker (accepted_from v u) (accepted_from v' u) (λ target n k. keeps-grown v v' u e g u target n k) (more (v.lines u) e) (fates-more v u e step (fates u here))))
+      (λ differs. fates-same v v' w (keeps-grown v v' u e g) (g.others w differs) (fates w (sym (gates w) ∙ there)))
   fates-after (Opens u e g o) fates = fates-opened u e g o fates
-  fates-after (Closes u e g c ends) fates = λ w there.
-      elim (same_or_not w u) [
-        | inl same ↦ absurd (false≢true (sym c.is_closed ∙ subst (λ (i : ℕ). v'.is_open i ≡ true) same there))
-        | inr differs ↦ fates-same v v' w (keeps-grown v v' u e g) (g.others w differs) (fates w (sym (c.others w differs) ∙ there))
-      ]
+  fates-after (Closes u e g c ends) fates = λ w.
+      by_uid w u (λ i. v'.is_open i ≡ true → AreFates (accepted_from v' i) (v'.lines i)) (λ there. absurd (false≢true (sym c.is_closed ∙ there)))
+      (λ differs there. fates-same v v' w (keeps-grown v v' u e g) (g.others w differs) (fates w (sym (c.others w differs) ∙ there)))

@@ -2,7 +2,7 @@
 use Rattle.std.proofs.Common.{◌≡◌, ℕ, ◌≤◌, ◌<◌, Bool, true, false, ◌&&◌, cond, [], length, Option, Some, None, refl, sym, ap, subst, inl, inr, ◌∙◌, arith, eqb-true, eq-eqb}
 use Rattle.std.specs.Prelude.{⊤, ◌⊎◌, nat_eq}
 use Rattle.std.specs.Option.{option_map_or}
-use Rattle.std.proofs.lemmas.Bool.{and_parts, or_right, false≢true}
+use Rattle.std.proofs.lemmas.Bool.{cases_eq, and_parts, or_right, false≢true}
 use Rattle.std.proofs.lemmas.Option.{none-some, same_Some}
 use Rattle.message.specs.declared.id.MessageId.{MessageId}
 use Rattle.message.specs.Content.{ContentText}
@@ -17,8 +17,7 @@ use Rattle.queue_core.specs.States.{message_numbered}
 use Rattle.redrive.specs.Places.{status_numbered, came_from}
 use Rattle.queue_core.proofs.PushLemmas.{born_by, IsNew, numbered-below, numbered-cases, numbered-kept, count-push, accepted-push}
 use Rattle.redrive.proofs.transfers.Journals.{Line, Lines, more, Stands, stands_from, stands_gives, stands_once, stands_kept, Stood, Before, New, stood, Came, accepted_came}
-use Rattle.redrive.proofs.transfers.Views.{View, IsArrival, IsSettling, IsStep, Grows, IsOpened, IsClosed, Change, Stays, Steps, Opens, Closes}
-use Rattle.redrive.proofs.transfers.Worlds.{same_or_not}
+use Rattle.redrive.proofs.transfers.Views.{View, IsArrival, IsSettling, IsStep, Grows, IsOpened, IsClosed, Change, Stays, Steps, Opens, Closes, by_uid, by_growth}
 use Rattle.redrive.proofs.transfers.Fates.{open_stays, confirmed-settling, HasFates, accepted_from, Keeps, keeps-same, keeps-grown, pending-waits, fates-opened, fates-after}
 
 -- ---- messages that begin with a step
@@ -56,20 +55,10 @@ module _ (v v' : View) where
 
   module _ (u : ℕ) (e : Line) (g : Grows v v' u e) where
     kept-grown : (w n : ℕ) (m : Message) → message_numbered (v.lines w) n ≡ Some m → message_numbered (v'.lines w) n ≡ Some m
-    kept-grown w n m h =
-        elim (same_or_not w u) [
-          | inl same ↦ subst (λ (i : ℕ). message_numbered (v'.lines i) n ≡ Some m) (sym same)
-              (subst (λ (ls : Lines). message_numbered ls n ≡ Some m) (sym g.here) (numbered-kept (v.lines u) e n m (subst (λ (i : ℕ). message_numbered (v.lines i) n ≡ Some m) same h)))
-          | inr differs ↦ subst (λ (ls : Lines). message_numbered ls n ≡ Some m) (sym (g.others w differs)) h
-        ]
+    kept-grown w n m = by_growth v v' u e g (λ one other. message_numbered one n ≡ Some m → message_numbered other n ≡ Some m) (numbered-kept (v.lines u) e n m) (λ ls h. h) w
 
     count-grown : (w : ℕ) → message_count (v.lines w) ≤ message_count (v'.lines w)
-    count-grown w =
-        elim (same_or_not w u) [
-          | inl same ↦ subst (λ (i : ℕ). message_count (v.lines i) ≤ message_count (v'.lines i)) (sym same)
-              (subst (λ (ls : Lines). message_count (v.lines u) ≤ message_count ls) (sym g.here) (omega (arith, count-push (v.lines u) e)))
-          | inr differs ↦ subst (λ (ls : Lines). message_count (v.lines w) ≤ message_count ls) (sym (g.others w differs)) (omega arith)
-        ]
+    count-grown w = by_growth v v' u e g (λ one other. message_count one ≤ message_count other) (omega (arith, count-push (v.lines u) e)) (λ ls. omega arith) w
 
     -- where it is known how what the entry begins comes to be
     module _ (says : (b : Birth ContentText) (m : Message) → (effect_of e.event).birth ≡ Some b → m.origin ≡ b.origin → Beginning v u m) where
@@ -89,12 +78,9 @@ module _ (v v' : View) where
       born-here n m is = born-cases n m is (numbered-cases (v.lines u) e n m (subst (λ (ls : Lines). message_numbered ls n ≡ Some m) g.here is))
 
       born-grown : (w n : ℕ) (m : Message) → message_numbered (v'.lines w) n ≡ Some m → (message_numbered (v.lines w) n ≡ Some m) ⊎ IsBorn v v' w n m
-      born-grown w n m h =
-          elim (same_or_not w u) [
-            | inl same ↦ subst (λ (i : ℕ). (message_numbered (v.lines i) n ≡ Some m) ⊎ IsBorn v v' i n m) (sym same)
-                (born-here n m (subst (λ (i : ℕ). message_numbered (v'.lines i) n ≡ Some m) same h))
-            | inr differs ↦ inl (subst (λ (ls : Lines). message_numbered ls n ≡ Some m) (g.others w differs) h)
-          ]
+      born-grown w n m =
+          by_uid w u (λ i. message_numbered (v'.lines i) n ≡ Some m → (message_numbered (v.lines i) n ≡ Some m) ⊎ IsBorn v v' i n m) (born-here n m)
+          (λ differs h. inl (subst (λ (ls : Lines). message_numbered ls n ≡ Some m) (g.others w differs) h))
 
       continues-grown : Continues v v'
       continues-grown = record { kept = kept-grown; born = born-grown; count = count-grown }
@@ -224,27 +210,21 @@ module _ (v v' : View) where
       nothing-stands e (v.lines u) n m s o.unused (ap (λ (x : Event ContentText). (effect_of x).birth) o.opening) (subst (λ (ls : Lines). Stands ls n m s) g.here h)
 
   pub taken-opened : (u : ℕ) (e : Line) → Grows v v' u e → IsOpened v v' u e → AreTaken v → AreTaken v'
-  taken-opened u e g o taken w n m there s =
-      elim (same_or_not w u) [
-        | inl same ↦ absurd (opened-empty u e g o n m Transferred (subst (λ (i : ℕ). Stands (v'.lines i) n m Transferred) same s))
-        | inr differs ↦ taken-same (keeps-grown v v' u e g) taken w n m (g.others w differs) (sym (o.others w differs) ∙ there) s
-      ]
+  taken-opened u e g o taken w n m there =
+      by_uid w u (λ i. Stands (v'.lines i) n m Transferred → WasTaken v' i n) (λ s. absurd (opened-empty u e g o n m Transferred s))
+      (λ differs s. taken-same (keeps-grown v v' u e g) taken w n m (g.others w differs) (sym (o.others w differs) ∙ there) s)
 
   pub taken-after : {ending : ℕ → Type 0} → Change ending v v' → AreTaken v → AreTaken v'
   taken-after (Stays lines gates) taken = λ u n m there s. taken-same (keeps-same v v' lines) taken u n m (lines u) (sym (gates u) ∙ there) s
-  taken-after (Steps u e g gates here step) taken = λ w n m there s.
-      elim (same_or_not w u) [
-        | inl same ↦ subst (λ (i : ℕ). WasTaken v' i n) (sym same)
-            (taken-kept (keeps-grown v v' u e g) u n
-            (taken-by v u n e step taken here m (stood (v.lines u) e n m Transferred (subst (λ (ls : Lines). Stands ls n m Transferred) g.here (subst (λ (i : ℕ). Stands (v'.lines i) n m Transferred) same s)))))
-        | inr differs ↦ taken-same (keeps-grown v v' u e g) taken w n m (g.others w differs) (sym (gates w) ∙ there) s
-      ]
+  taken-after (Steps u e g gates here step) taken = λ w n m there.
+      by_uid w u (λ i. Stands (v'.lines i) n m Transferred → WasTaken v' i n)
+      (λ s. taken-kept (keeps-grown v v' u e g) u n
+      (taken-by v u n e step taken here m (stood (v.lines u) e n m Transferred (subst (λ (ls : Lines). Stands ls n m Transferred) g.here s))))
+      (λ differs s. taken-same (keeps-grown v v' u e g) taken w n m (g.others w differs) (sym (gates w) ∙ there) s)
   taken-after (Opens u e g o) taken = taken-opened u e g o taken
-  taken-after (Closes u e g c ends) taken = λ w n m there s.
-      elim (same_or_not w u) [
-        | inl same ↦ absurd (false≢true (sym c.is_closed ∙ subst (λ (i : ℕ). v'.is_open i ≡ true) same there))
-        | inr differs ↦ taken-same (keeps-grown v v' u e g) taken w n m (g.others w differs) (sym (c.others w differs) ∙ there) s
-      ]
+  taken-after (Closes u e g c ends) taken = λ w n m.
+      by_uid w u (λ i. v'.is_open i ≡ true → Stands (v'.lines i) n m Transferred → WasTaken v' i n) (λ there s. absurd (false≢true (sym c.is_closed ∙ there)))
+      (λ differs there s. taken-same (keeps-grown v v' u e g) taken w n m (g.others w differs) (sym (c.others w differs) ∙ there) s)
 
 -- ---- all that a view keeps
 
@@ -368,7 +348,7 @@ module _ (v v' : View) (u : ℕ) (e : Line) (g : Grows v v' u e) (gates : (w : �
   -- the message at an origin waits, before and after
   stays-waiting : (o : Origin) (b : Birth ContentText) → (effect_of e.event).birth ≡ Some b → (m : Message) → Stands (v.lines o.uid) o.number m (Waiting u) → Stands (v'.lines o.uid) o.number m (Waiting u)
   stays-waiting o b birth m s =
-      elim (same_or_not o.uid u) [
+      elim (cases_eq o.uid u) [
         | inl same ↦ subst (λ (i : ℕ). Stands (v'.lines i) o.number m (Waiting u)) (sym same)
             (subst (λ (ls : Lines). Stands ls o.number m (Waiting u)) (sym g.here)
             (subst (λ (s : Status). Stands (more (v.lines u) e) o.number m s) (waits_at_birth o.number u e.event b birth)
@@ -409,7 +389,7 @@ module _ (v v' : View) (u : ℕ) (e : Line) (g : Grows v v' u e) (gates : (w : �
 
   ancestor : (id : MessageId) (w n : ℕ) → Holder v' id w n → Ancestor v v' u id w n
   ancestor id w n h =
-      elim (same_or_not w u) [
+      elim (cases_eq w u) [
         | inl same ↦ subst (λ (i : ℕ). Ancestor v v' u id i n) (sym same)
             (ancestor-here id n h.message h.status (subst (λ (i : ℕ). message_id i h.message ≡ id) same h.named) (subst (λ (i : ℕ). Holds v' i n h.status) same h.holds)
             (stood (v.lines u) e n h.message h.status (subst (λ (ls : Lines). Stands ls n h.message h.status) g.here (subst (λ (i : ℕ). Stands (v'.lines i) n h.message h.status) same h.stands))))
@@ -545,7 +525,7 @@ module _ (v v' : View) (u : ℕ) (e : Line) (g : Grows v v' u e) (c : IsClosed v
     last-by Present stands h = as-before Present stands tt
     last-by Removed stands h = as-before Removed stands tt
     last-by (Waiting target) stands h =
-        elim (same_or_not target u) [
+        elim (cases_eq target u) [
           | inl same ↦ waited-for (has_accepted (v.lines u) w n) refl (subst (λ (i : ℕ). Stands (v.lines w) n m (Waiting i)) same stands)
           | inr differs ↦ waited-other target differs stands h
         ]
@@ -580,14 +560,11 @@ module _ (v v' : View) where
   module _ (u : ℕ) (e : Line) (g : Grows v v' u e) (o : IsOpened v v' u e) where
     shut-opened : (target : ℕ) → v'.is_open target ≡ false → v.is_open target ≡ false
     shut-opened target h =
-        elim (same_or_not target u) [
-          | inl same ↦ subst (λ (i : ℕ). v.is_open i ≡ false) (sym same) o.was_shut
-          | inr differs ↦ sym (o.others target differs) ∙ h
-        ]
+        by_uid target u (λ i. v.is_open i ≡ false) o.was_shut (λ differs. sym (o.others target differs) ∙ h)
 
     holder-opened : (id : MessageId) (w n : ℕ) → Holder v' id w n → Holder v id w n
     holder-opened id w n h =
-        elim (same_or_not w u) [
+        elim (cases_eq w u) [
           | inl same ↦ absurd (opened-empty v v' u e g o n h.message h.status (subst (λ (i : ℕ). Stands (v'.lines i) n h.message h.status) same h.stands))
           | inr differs ↦ holder-same v v' (keeps-grown v v' u e g) w n shut-opened id (g.others w differs) (sym (o.others w differs) ∙ h.there) h
         ]

@@ -1,5 +1,5 @@
 -- No journal accepts a transfer twice.
-use Rattle.std.proofs.Common.{◌≡◌, ℕ, ◌+◌, ◌≤◌, Bool, true, false, cond, [], ◌∷◌, refl, sym, ap, subst, ◌∙◌, arith, eqb-true, inl, inr}
+use Rattle.std.proofs.Common.{◌≡◌, ℕ, ◌+◌, ◌≤◌, Bool, true, false, cond, [], ◌∷◌, refl, sym, ap, subst, ◌∙◌, arith, eqb-true}
 use Rattle.std.specs.Prelude.{count_by, nat_eq}
 use Rattle.std.specs.List.{list_any}
 use Rattle.std.proofs.lemmas.Bool.{and_parts, or_parts, false≢true}
@@ -10,8 +10,7 @@ use Rattle.journal.specs.declared.entry.Event.TheVariants.{Opened, Arrived, Clos
 use Rattle.queue_core.specs.Messages.{accepts, has_accepted}
 use Rattle.redrive.specs.Places.{acceptance_count}
 use Rattle.redrive.proofs.transfers.Journals.{Line, Lines, more}
-use Rattle.redrive.proofs.transfers.Worlds.{same_or_not}
-use Rattle.redrive.proofs.transfers.Views.{View, IsStep, Grows, IsOpened, Change, Stays, Steps, Opens, Closes}
+use Rattle.redrive.proofs.transfers.Views.{View, IsStep, Grows, IsOpened, Change, Stays, Steps, Opens, Closes, by_growth}
 
 none-counted : (p : Line → Bool) (xs : Lines) → list_any p xs ≡ false → count_by p xs ≡ 0
 none-counted p [] h = refl
@@ -55,11 +54,7 @@ never-accepts event opening s n b e h = ap (accepts s n) e ∙ h
 module _ (v v' : View) where
   once-grown : (u : ℕ) (e : Line) → Grows v v' u e → ((s n : ℕ) → accepts s n e.event ≡ true → has_accepted (v.lines u) s n ≡ false) → IsOnce v → IsOnce v'
   once-grown u e g first once w s n =
-      elim (same_or_not w u) [
-        | inl same ↦ subst (λ (i : ℕ). acceptance_count (v'.lines i) s n ≤ 1) (sym same)
-            (subst (λ (ls : Lines). acceptance_count ls s n ≤ 1) (sym g.here) (once-more (v.lines u) e s n (once u s n) (first s n)))
-        | inr differs ↦ subst (λ (ls : Lines). acceptance_count ls s n ≤ 1) (sym (g.others w differs)) (once w s n)
-      ]
+      by_growth v v' u e g (λ one other. acceptance_count one s n ≤ 1 → acceptance_count other s n ≤ 1) (λ h. once-more (v.lines u) e s n h (first s n)) (λ ls h. h) w (once w s n)
 
   pub once-opened : (u : ℕ) (e : Line) → Grows v v' u e → IsOpened v v' u e → IsOnce v → IsOnce v'
   once-opened u e g o once =

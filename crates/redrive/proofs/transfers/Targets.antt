@@ -1,12 +1,12 @@
 -- No queue is its own dead-letter queue.
 use Rattle.std.proofs.Common.{◌≡◌, ℕ, ◌+◌, ◌<◌, arith, Bool, true, false, not, ◌&&◌, cond, List, [], ◌∷◌, ◌++◌, length, get_or, append_assoc, Option, Some, None, unwrap_or, Result, Ok, refl, sym, ap, subst, inl, inr, ◌∙◌, eqb-true}
-use Rattle.std.specs.Prelude.{nat_eq, is_some, option_map, IfSome, filter, fold}
-use Rattle.std.specs.List.{find, position, All}
+use Rattle.std.specs.Prelude.{nat_eq, is_some, option_map, IfSome, fold}
+use Rattle.std.specs.List.{position, All}
 use Rattle.std.specs.Option.{option_map_or, ForSome}
 use Rattle.std.specs.Str.{bytes_eq}
 use Rattle.std.proofs.lemmas.Bool.{and_parts, false≢true, ne_eqb, not-true}
 use Rattle.std.proofs.lemmas.List.{length-append}
-use Rattle.std.proofs.lemmas.List.Elements.{All-nil, All-head, All-tail, All-cons, All-append, All-weaker, All-map}
+use Rattle.std.proofs.lemmas.List.Elements.{All-nil, All-head, All-tail, All-cons, All-append, All-filter, All-weaker, All-map}
 use Rattle.std.proofs.lemmas.List.Quantifiers.{position-Some}
 use Rattle.std.proofs.lemmas.Option.{none-some, same_Some}
 use Rattle.message.specs.declared.fault.Fault.{Fault}
@@ -20,7 +20,6 @@ use Rattle.queue_config.specs.declared.config.ConfiguredQueue.{ConfiguredQueue}
 use Rattle.queue_config.specs.declared.policy.RedrivePolicy.{RedrivePolicy}
 use Rattle.queue_config.specs.declared.policy.RequestedPolicy.{RequestedPolicy}
 use Rattle.journal.specs.declared.entry.Event.{Event}
-use Rattle.journal.specs.declared.entry.Event.TheVariants.{Set}
 use Rattle.queue_core.specs.declared.command.Command.{Command}
 use Rattle.queue_core.specs.declared.command.Command.TheVariants as commands
 use Rattle.queue_core.specs.declared.parcel.Parcel.{Parcel}
@@ -33,8 +32,10 @@ use Rattle.redrive.specs.World.{World, empty_world, with_queue, next_queue, new_
 use Rattle.redrive.specs.WorldRun.{Answer, world_after, world_after_all}
 use Rattle.queue_core.proofs.CauseLemmas.{IsSoOfAdded, added}
 use Rattle.queue_core.proofs.PushLemmas.{settings_from-push}
+use Rattle.redrive.proofs.KeyedLemmas.{find-holds}
+use Rattle.redrive.proofs.RegistryLemmas.{after_answer-uid}
 use Rattle.redrive.proofs.transfers.Journals.{Lines}
-use Rattle.redrive.proofs.transfers.Commands.{if_some-at, reached-lines, after_answer-uid, after_answer-lines}
+use Rattle.redrive.proofs.transfers.Commands.{if_some-at, reached-lines, after_answer-lines}
 
 -- whether the policy names the queue of a uid
 abbrev names_uid : ℕ → Option RedrivePolicy → Bool
@@ -121,7 +122,7 @@ module _ {T : Type 0} (w : World) (at : ℕ) (answer : Result T Fault) (h : AreA
   commanded uid command sets =
       changed-aimed w uid (λ q. after_answer q at command answer)
       (λ q is k.
-      let u : (after_answer q at command answer).uid ≡ q.uid = after_answer-uid q at command answer in (
+      let u : (after_answer q at command answer).uid ≡ q.uid = after_answer-uid at command answer q in (
         subst (λ (i : ℕ). i < w.next_uid) (sym u) k.0,
         subst (λ (i : ℕ). has_target i (after_answer q at command answer) ≡ false) (sym u)
             (left-aims q q.uid at command answer (subst (λ (i : ℕ). Sets i command) (sym is) sets) k.1),
@@ -168,15 +169,6 @@ performed w uid at command answer h None e = commanded w at answer h uid command
 -- ---- opening
 
 module _ (w : World) (at : ℕ) (h : AreAimed w) where
-  found-head : (p : QueueHistory → Bool) (b : Bool) (x : QueueHistory) (xs : List QueueHistory) (q : QueueHistory) → All (λ q. IsAimed w.next_uid q) (x ∷ xs)
-      → (find p xs ≡ Some q → q.uid < w.next_uid) → cond b (Some x) (find p xs) ≡ Some q → q.uid < w.next_uid
-  found-head p true x xs q k rest is = subst (λ (q : QueueHistory). q.uid < w.next_uid) (same_Some x q is) (All-head (λ q. IsAimed w.next_uid q) x xs k).0
-  found-head p false x xs q k rest is = rest is
-
-  found-below : (p : QueueHistory → Bool) (xs : List QueueHistory) (q : QueueHistory) → All (λ q. IsAimed w.next_uid q) xs → find p xs ≡ Some q → q.uid < w.next_uid
-  found-below p [] q k is = absurd (none-some q is)
-  found-below p (x ∷ xs) q k is = found-head p (p x) x xs q k (found-below p xs q (All-tail (λ q. IsAimed w.next_uid q) x xs k)) is
-
   opened : (q : QueueHistory) → q.uid ≡ w.next_uid → has_target w.next_uid q ≡ false → AreAimed (with_queue w q)
   opened q is other =
       All-append (λ q. IsAimed (w.next_uid + 1) q) w.queues (q ∷ [])
@@ -186,7 +178,7 @@ module _ (w : World) (at : ℕ) (h : AreAimed w) where
   found-other : (o : Option QueueHistory) (name : List ℕ) → queue_named w name ≡ o → is_some o ≡ true → nat_eq (unwrap_or (option_map (λ q. q.uid) o) 0) w.next_uid ≡ false
   found-other None name e there = absurd (false≢true there)
   found-other (Some q) name e there =
-      let below : q.uid < w.next_uid = found-below (λ q. bytes_eq q.name name) w.queues q h e in
+      let below : q.uid < w.next_uid = (find-holds (λ q. bytes_eq q.name name) (λ q. IsAimed w.next_uid q) w.queues q h e).0 in
       ne_eqb q.uid w.next_uid (λ same. absurd (omega arith))
 
   created-other : (own : List ℕ) (asked : Asked) → option_map_or (λ name. not (bytes_eq name own) && is_some (queue_named w name)) (asked_name asked) true ≡ true
@@ -203,21 +195,13 @@ module _ (w : World) (at : ℕ) (h : AreAimed w) where
 
 -- ---- every step
 
-kept : (b : Bool) (x : QueueHistory) (xs : List QueueHistory) (P : QueueHistory → Type 0) → P x → All P xs → All P (cond b (x ∷ xs) xs)
-kept true x xs P h k = All-cons P x xs h k
-kept false x xs P h k = k
-
-filtered : (p : QueueHistory → Bool) (P : QueueHistory → Type 0) (xs : List QueueHistory) → All P xs → All P (filter p xs)
-filtered p P [] h = h
-filtered p P (x ∷ xs) h = kept (p x) x (filter p xs) P (All-head P x xs h) (filtered p P xs (All-tail P x xs h))
-
 after_step : (w : World) (step : HouseStep) (answer : Answer) → AreAimed w → AreAimed (world_after w step answer)
 after_step w (steps.Create at name wish) answer h =
     either-aimed (is_out_of_memory answer) w (cond (opens_queue w name wish) (with_queue w (new_queue w at name wish)) w) h
     (created w at h name wish (may_name_target w name wish) _ refl)
 after_step w (steps.Delete at uid) answer h =
     either-aimed (is_out_of_memory answer) (with_queue_changed w uid (λ q. at_moment q at)) (without_queue w uid) (changed-aimed w uid (λ q. at_moment q at) (λ q is k. k) h)
-    (filtered (λ q. not (nat_eq q.uid uid)) (λ q. IsAimed w.next_uid q) w.queues h)
+    (All-filter (λ q. not (nat_eq q.uid uid)) (λ q. IsAimed w.next_uid q) w.queues h)
 after_step w (steps.Perform at uid command) answer h = performed w uid at command answer h (step_refusal w uid command) refl
 after_step w (steps.HandOver at source) (Ok (replies.HandedOver answer)) h = handed w at answer h source (first_parcel_in w source)
 after_step w (steps.HandOver at source) answer h = h

@@ -1,7 +1,8 @@
 -- A registry as the laws of dead letters see it, and what a step does to it: at most one journal gets one entry more.
-use Rattle.std.proofs.Common.{◌≡◌, ℕ, Bool, true, false, List, [], Some, unwrap_or}
+use Rattle.std.proofs.Common.{◌≡◌, ℕ, Bool, true, false, List, [], Some, unwrap_or, sym, subst, inl, inr}
 use Rattle.std.specs.Prelude.{⊤}
 use Rattle.std.specs.List.{Contains}
+use Rattle.std.proofs.lemmas.Bool.{cases_eq}
 use Rattle.message.specs.Content.{ContentText}
 use Rattle.queue_config.specs.Settings.{QueueSettings}
 use Rattle.journal.specs.declared.entry.Event.{Event}
@@ -63,6 +64,15 @@ IsStep v u Closed = ⊥
 pub record Grows (v v' : View) (u : ℕ) (e : Line) : Type 0 where
   pub here : v'.lines u ≡ more (v.lines u) e
   pub others : (w : ℕ) → (w ≡ u → ⊥) → v'.lines w ≡ v.lines w
+
+-- what is so of one uid, and of each other, is so
+pub by_uid : (w u : ℕ) (P : ℕ → Type 0) → P u → ((w ≡ u → ⊥) → P w) → P w
+by_uid w u P here others = elim (cases_eq w u) [ inl is ↦ subst P (sym is) here | inr differs ↦ others differs ]
+
+-- what an entry more makes of its journal, where each other journal stays
+pub by_growth : (v v' : View) (u : ℕ) (e : Line) → Grows v v' u e → (P : Lines → Lines → Type 0) → P (v.lines u) (more (v.lines u) e) → ((ls : Lines) → P ls ls) → (w : ℕ) → P (v.lines w) (v'.lines w)
+by_growth v v' u e g P grown same w =
+    by_uid w u (λ i. P (v.lines i) (v'.lines i)) (subst (P (v.lines u)) (sym g.here) grown) (λ differs. subst (P (v.lines w)) (sym (g.others w differs)) (same (v.lines w)))
 
 pub record IsOpened (v v' : View) (u : ℕ) (e : Line) : Type 0 where
   pub unused : v.lines u ≡ []

@@ -1,11 +1,11 @@
 -- What each step of the registry does to the view.
-use Rattle.std.proofs.Common.{◌≡◌, ℕ, ◌≤◌, Bool, true, false, not, cond, List, [], ◌∷◌, map, Option, Some, None, Result, Ok, Err, refl, sym, ap, subst, inl, inr, ◌∙◌, arith, eqb-true, unwrap_or}
-use Rattle.std.specs.Prelude.{⊤, ◌⊎◌, MatchBool, nat_eq, filter, is_some, option_and_then}
+use Rattle.std.proofs.Common.{◌≡◌, ℕ, ◌≤◌, Bool, true, false, cond, List, [], ◌∷◌, Option, Some, None, Result, Ok, Err, refl, sym, ap, subst, inl, inr, ◌∙◌, arith, eqb-true, unwrap_or}
+use Rattle.std.specs.Prelude.{⊤, ◌⊎◌, MatchBool, nat_eq, is_some, option_and_then}
 use Rattle.std.specs.List.{find, Contains}
 use Rattle.std.specs.Option.{option_map, option_map_or, option_or}
-use Rattle.std.proofs.lemmas.Bool.{ne_eqb, eqb-false, false≢true, eq-eqb}
+use Rattle.std.proofs.lemmas.Bool.{ne_eqb, false≢true, eq-eqb}
 use Rattle.std.proofs.lemmas.List.Folds.{find-append}
-use Rattle.std.proofs.lemmas.Option.{none-some, same_Some}
+use Rattle.std.proofs.lemmas.Option.{none-some}
 use Rattle.message.specs.declared.fault.Fault.{Fault}
 use Rattle.message.specs.declared.fault.Fault.TheVariants.{QueueDoesNotExist, InvalidAttributeValue, UnsupportedOperation}
 use Rattle.message.specs.Content.{ContentText}
@@ -31,61 +31,16 @@ use Rattle.redrive.specs.World.{World, queue_of_uid, has_queue, with_queue, with
 use Rattle.redrive.specs.History.{AllQueues}
 use Rattle.redrive.specs.WorldRun.{Answer, as_house_reply, answer_of_step, if_there, with_deleted, all_after, MeetsAnswer}
 use Rattle.redrive.proofs.transfers.Journals.{Line, Lines, more}
-use Rattle.redrive.proofs.transfers.Views.{View, view_of, IsStep, Grows, IsOpened, Change, Stays, Steps, Opens, Closes}
-use Rattle.redrive.proofs.transfers.Commands.{after_answer-uid, IsAdded, after_answer-lines, IsOwn, own-at, arrived-at, settled-at, orphaned-at, handed}
+use Rattle.redrive.proofs.transfers.Views.{View, view_of, IsStep, Grows, IsOpened, Change, Stays, Steps, Opens, Closes, by_uid}
+use Rattle.redrive.proofs.KeyedLemmas.{find-map, find-passes, find-without, find-without_other}
+use Rattle.redrive.proofs.RegistryLemmas.{after_answer-uid}
+use Rattle.redrive.proofs.StepLemmas.{or-none}
+use Rattle.redrive.proofs.transfers.Commands.{IsAdded, after_answer-lines, IsOwn, own-at, arrived-at, settled-at, orphaned-at, handed}
 
 -- ---- finding queues
 
-module _ (p : QueueHistory → Bool) where
-  map-cond : (g : QueueHistory → QueueHistory) (b : Bool) (x : QueueHistory) (o : Option QueueHistory) → cond b (Some (g x)) (option_map g o) ≡ option_map g (cond b (Some x) o)
-  map-cond g true x o = refl
-  map-cond g false x o = refl
-
-  -- a change that the test does not see
-  find-map : (g : QueueHistory → QueueHistory) → ((x : QueueHistory) → p (g x) ≡ p x) → (xs : List QueueHistory) → find p (map g xs) ≡ option_map g (find p xs)
-  find-map g h [] = refl
-  find-map g h (x ∷ xs) = rw (h x, find-map g h xs) (map-cond g (p x) x (find p xs))
-
-  passes-head : (b : Bool) (x y : QueueHistory) (o : Option QueueHistory) → p x ≡ b → (o ≡ Some y → p y ≡ true) → cond b (Some x) o ≡ Some y → p y ≡ true
-  passes-head true x y o e h is = subst (λ (z : QueueHistory). p z ≡ true) (same_Some x y is) e
-  passes-head false x y o e h is = h is
-
-  find-passes : (xs : List QueueHistory) (y : QueueHistory) → find p xs ≡ Some y → p y ≡ true
-  find-passes [] y is = absurd (none-some y is)
-  find-passes (x ∷ xs) y is = passes-head (p x) x y (find p xs) refl (find-passes xs y) is
-
-find-uid : (u : ℕ) (xs : List QueueHistory) (q : QueueHistory) → find (λ q. nat_eq q.uid u) xs ≡ Some q → q.uid ≡ u
-find-uid u xs q h = eqb-true q.uid u (find-passes (λ q. nat_eq q.uid u) xs q h)
-
 pub uid_of_open : (w : World) (u : ℕ) (q : QueueHistory) → queue_of_uid w u ≡ Some q → q.uid ≡ u
-uid_of_open w u q h = find-uid u w.queues q h
-
-module _ (own : ℕ) where
-  without-head : (b : Bool) (x : QueueHistory) (xs : List QueueHistory) → nat_eq x.uid own ≡ b → find (λ q. nat_eq q.uid own) xs ≡ None
-      → find (λ q. nat_eq q.uid own) (cond (not b) (x ∷ xs) xs) ≡ None
-  without-head true x xs e none = none
-  without-head false x xs e none = rw (e, none) refl
-
-  -- what was taken out is not found, and everything else is
-  find-without : (xs : List QueueHistory) → find (λ q. nat_eq q.uid own) (filter (λ q. not (nat_eq q.uid own)) xs) ≡ None
-  find-without [] = refl
-  find-without (x ∷ xs) = without-head (nat_eq x.uid own) x (filter (λ q. not (nat_eq q.uid own)) xs) refl (find-without xs)
-
-  without-other : (u : ℕ) → (u ≡ own → ⊥) → (b : Bool) (x : QueueHistory) (xs : List QueueHistory) (o : Option QueueHistory) → nat_eq x.uid own ≡ b → find (λ q. nat_eq q.uid u) xs ≡ o
-      → find (λ q. nat_eq q.uid u) (cond (not b) (x ∷ xs) xs) ≡ cond (nat_eq x.uid u) (Some x) o
-  without-other u differs true x xs o e same = rw (ne_eqb x.uid u (λ is. differs (sym is ∙ eqb-true x.uid own e))) same
-  without-other u differs false x xs o e same = rw same refl
-
-  find-other : (u : ℕ) → (u ≡ own → ⊥) → (xs : List QueueHistory) → find (λ q. nat_eq q.uid u) (filter (λ q. not (nat_eq q.uid own)) xs) ≡ find (λ q. nat_eq q.uid u) xs
-  find-other u differs [] = refl
-  find-other u differs (x ∷ xs) = without-other u differs (nat_eq x.uid own) x (filter (λ q. not (nat_eq q.uid own)) xs) (find (λ q. nat_eq q.uid u) xs) refl (find-other u differs xs)
-
-pub same_or_not : (a b : ℕ) → (a ≡ b) ⊎ (a ≡ b → ⊥)
-same_or_not a b = by_test (nat_eq a b) refl
-  where
-    by_test : (t : Bool) → nat_eq a b ≡ t → (a ≡ b) ⊎ (a ≡ b → ⊥)
-    by_test true e = inl (eqb-true a b e)
-    by_test false e = inr (eqb-false a b e)
+uid_of_open w u q h = eqb-true q.uid u (find-passes (λ q. nat_eq q.uid u) w.queues q h)
 
 -- ---- the view of a registry, by what is found of a uid
 
@@ -127,10 +82,8 @@ module _ (all : AllQueues) (uid : ℕ) (change : QueueHistory → QueueHistory) 
 
   found-absent : queue_of_uid all.world uid ≡ None → (u : ℕ) → queue_of_uid changed.world u ≡ queue_of_uid all.world u
   found-absent h u =
-      elim (same_or_not u uid) [
-        | inl e ↦ subst (λ (w : ℕ). queue_of_uid changed.world w ≡ queue_of_uid all.world w) (sym e) (found-changed uid ∙ (ap (option_map at_uid) h ∙ sym h))
-        | inr differs ↦ found-changed u ∙ other-found u differs (queue_of_uid all.world u) refl
-      ]
+      by_uid u uid (λ w. queue_of_uid changed.world w ≡ queue_of_uid all.world w) (found-changed uid ∙ (ap (option_map at_uid) h ∙ sym h))
+      (λ differs. found-changed u ∙ other-found u differs (queue_of_uid all.world u) refl)
 
 pub lines_there : (all : AllQueues) (u : ℕ) (q : QueueHistory) → queue_of_uid all.world u ≡ Some q → (view_of all).lines u ≡ q.lines
 lines_there all u q h = ap (λ (o : Option QueueHistory). journal_found o (find (λ q. nat_eq q.uid u) all.deleted)) h
@@ -178,10 +131,8 @@ module _ (all : AllQueues) (uid : ℕ) (change : QueueHistory → QueueHistory) 
 
   led-same : {ending : ℕ → Type 0} → (q : QueueHistory) → queue_of_uid all.world uid ≡ Some q → (change q).lines ≡ q.lines → LeadsTo ending all (changed all uid change keeps)
   led-same q h same = record {
-    change = Stays (λ u. elim (same_or_not u uid) [
-      | inl e ↦ subst (λ (w : ℕ). (view_of (changed all uid change keeps)).lines w ≡ (view_of all).lines w) (sym e) (lines-changed q h ∙ (same ∙ sym (lines_there all uid q h)))
-      | inr differs ↦ lines-other all uid change keeps u differs
-    ]) (open-changed all uid change keeps);
+    change = Stays (λ u. by_uid u uid (λ w. (view_of (changed all uid change keeps)).lines w ≡ (view_of all).lines w) (lines-changed q h ∙ (same ∙ sym (lines_there all uid q h)))
+        (λ differs. lines-other all uid change keeps u differs)) (open-changed all uid change keeps);
     fresh = fresh-changed;
   }
 
@@ -198,11 +149,11 @@ module _ {T : Type 0} (all : AllQueues) (uid at : ℕ) (command : Command) (answ
   command-added : {ending : ℕ → Type 0} → (q : QueueHistory) → queue_of_uid all.world uid ≡ Some q
       → ((after_answer q at command answer).lines ≡ q.lines) ⊎ IsAdded (outcome_at q at command).event q.lines (after_answer q at command answer).lines
       → LeadsTo ending all (record { world = world_after_command all.world uid at command answer; deleted = all.deleted })
-  command-added q h (inl same) = led-same all uid (λ q. after_answer q at command answer) (λ q. after_answer-uid q at command answer) fresh q h same
-  command-added q h (inr a) = led-more all uid (λ q. after_answer q at command answer) (λ q. after_answer-uid q at command answer) fresh q a.line h a.is (says q a.line.event h a.added)
+  command-added q h (inl same) = led-same all uid (λ q. after_answer q at command answer) (after_answer-uid at command answer) fresh q h same
+  command-added q h (inr a) = led-more all uid (λ q. after_answer q at command answer) (after_answer-uid at command answer) fresh q a.line h a.is (says q a.line.event h a.added)
 
   command-found : {ending : ℕ → Type 0} → (o : Option QueueHistory) → queue_of_uid all.world uid ≡ o → LeadsTo ending all (record { world = world_after_command all.world uid at command answer; deleted = all.deleted })
-  command-found None h = led-absent all uid (λ q. after_answer q at command answer) (λ q. after_answer-uid q at command answer) fresh h
+  command-found None h = led-absent all uid (λ q. after_answer q at command answer) (after_answer-uid at command answer) fresh h
   command-found (Some q) h = command-added q h (after_answer-lines q at command answer)
 
   command-led : {ending : ℕ → Type 0} → LeadsTo ending all (record { world = world_after_command all.world uid at command answer; deleted = all.deleted })
@@ -319,10 +270,6 @@ module _ {T : Type 0} (all : AllQueues) (source at : ℕ) (answer : Result T Fau
 found-no_last : (u : ℕ) (q : QueueHistory) → (u ≡ q.uid → ⊥) → find (λ q. nat_eq q.uid u) (q ∷ []) ≡ None
 found-no_last u q h = ap (λ b. cond b (Some q) None) (ne_eqb q.uid u (λ e. h (sym e)))
 
-option_or-none : (o : Option QueueHistory) → option_or o None ≡ o
-option_or-none None = refl
-option_or-none (Some q) = refl
-
 module _ (all : AllQueues) (at : ℕ) (name : List ℕ) (settings : QueueSettings) (rules : List Rule) (fresh : IsFresh all) where
   abbrev pub opened : QueueHistory
   opened = opened_queue all.world.next_uid name settings all.world.limits rules at
@@ -336,7 +283,7 @@ module _ (all : AllQueues) (at : ℕ) (name : List ℕ) (settings : QueueSetting
   found-others : (u : ℕ) → (u ≡ all.world.next_uid → ⊥) → queue_of_uid with_opened.world u ≡ queue_of_uid all.world u
   found-others u differs =
       find-append (λ q. nat_eq q.uid u) all.world.queues (opened ∷ [])
-      ∙ (ap (λ (o : Option QueueHistory). option_or (queue_of_uid all.world u) o) (found-no_last u opened differs) ∙ option_or-none (queue_of_uid all.world u))
+      ∙ (ap (λ (o : Option QueueHistory). option_or (queue_of_uid all.world u) o) (found-no_last u opened differs) ∙ or-none (queue_of_uid all.world u))
 
   found-opened : queue_of_uid with_opened.world all.world.next_uid ≡ Some opened
   found-opened =
@@ -371,24 +318,18 @@ module _ (all : AllQueues) (at : ℕ) (name : List ℕ) (settings : QueueSetting
 
 module _ (all : AllQueues) (uid at : ℕ) (fresh : IsFresh all) where
   found-left : (u : ℕ) → (u ≡ uid → ⊥) → queue_of_uid (without_queue all.world uid) u ≡ queue_of_uid all.world u
-  found-left u differs = find-other uid u differs all.world.queues
+  found-left u differs = find-without_other (λ (q : QueueHistory). q.uid) uid u differs all.world.queues
 
   found-out : queue_of_uid (without_queue all.world uid) uid ≡ None
-  found-out = find-without uid all.world.queues
+  found-out = find-without (λ (q : QueueHistory). q.uid) uid all.world.queues
 
   none-left : (u : ℕ) → queue_of_uid all.world u ≡ None → queue_of_uid (without_queue all.world uid) u ≡ None
   none-left u h =
-      elim (same_or_not u uid) [
-        | inl e ↦ subst (λ (w : ℕ). queue_of_uid (without_queue all.world uid) w ≡ None) (sym e) found-out
-        | inr differs ↦ found-left u differs ∙ h
-      ]
+      by_uid u uid (λ w. queue_of_uid (without_queue all.world uid) w ≡ None) found-out (λ differs. found-left u differs ∙ h)
 
   absent-led : {ending : ℕ → Type 0} → queue_of_uid all.world uid ≡ None → LeadsTo ending all (record { world = without_queue all.world uid; deleted = all.deleted })
   absent-led h = record {
-    change = stays-found all (without_queue all.world uid) (λ u. elim (same_or_not u uid) [
-      | inl e ↦ subst (λ (w : ℕ). queue_of_uid (without_queue all.world uid) w ≡ queue_of_uid all.world w) (sym e) (found-out ∙ sym h)
-      | inr differs ↦ found-left u differs
-    ]);
+    change = stays-found all (without_queue all.world uid) (λ u. by_uid u uid (λ w. queue_of_uid (without_queue all.world uid) w ≡ queue_of_uid all.world w) (found-out ∙ sym h) (λ differs. found-left u differs));
     fresh = record { none_there = λ u l. none-left u (fresh.none_there u l); none_deleted = fresh.none_deleted };
   }
 

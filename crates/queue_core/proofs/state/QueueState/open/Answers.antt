@@ -1,5 +1,7 @@
-use Rattle.std.proofs.Common.{◌≡◌, ◌≤◌, List, map, arith, refl, subst, ap, ◌∙◌}
+use Rattle.std.proofs.Common.{◌≡◌, ◌≤◌, List, map, Result, Ok, arith, refl, sym, subst, ap, ◌∙◌}
 use Rattle.std.specs.List.{All}
+use Rattle.std.specs.Result.{IfOk}
+use Rattle.message.specs.declared.fault.Fault.{Fault}
 use Rattle.queue_config.specs.Settings.{QueueSettings, AreSettings}
 use Rattle.queue_config.specs.AlarmRules.{Rule}
 use Rattle.metric_window.specs.KeptRows.{opened_at}
@@ -9,11 +11,14 @@ use Rattle.queue_core.proofs.IndexLemmas.{opened-index}
 use Rattle.queue_core.proofs.WatchLemmas.{watch-opened}
 use Rattle.queue_core.proofs.state.QueueState.open.Goals as goal
 
+of_ok : {A : Type 0} (a b : A) → ◌≡◌ {A = Result A Fault} (Ok a) (Ok b) → a ≡ b
+of_ok {A} a b h = subst (λ (r : Result A Fault). IfOk r (λ x. x ≡ b)) (sym h) refl
+
 pub invariant_of-result : goal.invariant_of-result
 invariant_of-result c =
     let index = opened-index c.args.at c.args.uid c.args.settings c.new-2.result c.new-2.ensures.indices c.new-2.ensures.records c.new-2.ensures.receives c.new-2.ensures.leaving in
     let limit = ap (λ l. l.max_lines) c.limits.view_is in
-    rw (c.in_ok-push.ensures.ok, c.in_ok-journal.ensures.ok) (
+    rw (c.in_ok-push.ensures.ok, of_ok _ _ c.in_ok-journal.ensures) (
       record {
         room = omega arith;
         within = omega arith;

@@ -1,8 +1,6 @@
-use Rattle.std.proofs.Common.{◌≡◌, Some, sym, ap, ◌∙◌, nat_eq}
-use Rattle.std.specs.List.{position}
-use Rattle.redrive.specs.World.{World}
+use Rattle.std.proofs.Common.{sym, ◌∙◌}
 use Rattle.redrive.proofs.RegistryLemmas.{command-absent_answer, changed-absent}
-use Rattle.redrive.proofs.PlaceLemmas.{answer-at, exact-at, step-at, IsRegistry-step_at}
+use Rattle.redrive.proofs.PlaceLemmas.{place-shown, answer-at, exact-at, step-at, IsRegistry-step_at}
 use Rattle.redrive.proofs.house.House.command_in.Goals as goal
 
 pub returns-in-None-clause-answer : goal.returns-in-None-clause-answer
@@ -18,29 +16,25 @@ returns-in-None-clause-state c = sym (changed-absent c.args.self.now c.args.uid 
 pub invariant_of-self : goal.invariant_of-self
 invariant_of-self c =
     let w = c.self.inside.queues in
-    let here : position (λ q. nat_eq q.uid c.args.uid) w.queues ≡ Some c.in-Some.place =
-    ap (λ (w : World). position (λ q. nat_eq q.uid c.args.uid) w.queues) c.self.view_is ∙ sym c.place_of.ensures ∙ c.in-Some.is in
+    let here = place-shown c.args.uid c.self.view_is c.place_of.ensures c.in-Some.is in
     IsRegistry-step_at w c.args.uid c.in-Some.place here c.args.at c.args.command.now c.perform_at.result c.perform_at.new.self c.self.invariant
     c.requires c.perform_at.ensures.state
 
 pub returns-in-Some-clause-answer : goal.returns-in-Some-clause-answer
 returns-in-Some-clause-answer c =
     let w = c.self.inside.queues in
-    let here : position (λ q. nat_eq q.uid c.args.uid) w.queues ≡ Some c.in-Some.place =
-    ap (λ (w : World). position (λ q. nat_eq q.uid c.args.uid) w.queues) c.self.view_is ∙ sym c.place_of.ensures ∙ c.in-Some.is in
+    let here = place-shown c.args.uid c.self.view_is c.place_of.ensures c.in-Some.is in
     rw (← c.self.view_is) (answer-at w c.args.uid c.in-Some.place here c.args.at c.args.command.now c.perform_at.result c.perform_at.ensures.answer)
 
 pub returns-in-Some-clause-exact : goal.returns-in-Some-clause-exact
 returns-in-Some-clause-exact c =
     let w = c.self.inside.queues in
-    let here : position (λ q. nat_eq q.uid c.args.uid) w.queues ≡ Some c.in-Some.place =
-    ap (λ (w : World). position (λ q. nat_eq q.uid c.args.uid) w.queues) c.self.view_is ∙ sym c.place_of.ensures ∙ c.in-Some.is in
+    let here = place-shown c.args.uid c.self.view_is c.place_of.ensures c.in-Some.is in
     rw (← c.self.view_is) (exact-at w c.args.uid c.in-Some.place here c.args.at c.args.command.now c.perform_at.result c.perform_at.ensures.exact)
 
 pub returns-in-Some-clause-state : goal.returns-in-Some-clause-state
 returns-in-Some-clause-state c =
     let w = c.self.inside.queues in
-    let here : position (λ q. nat_eq q.uid c.args.uid) w.queues ≡ Some c.in-Some.place =
-    ap (λ (w : World). position (λ q. nat_eq q.uid c.args.uid) w.queues) c.self.view_is ∙ sym c.place_of.ensures ∙ c.in-Some.is in
+    let here = place-shown c.args.uid c.self.view_is c.place_of.ensures c.in-Some.is in
     rw (← c.self.view_is)
     (step-at w c.args.uid c.in-Some.place here c.args.at c.args.command.now c.perform_at.result c.perform_at.new.self c.self.invariant c.perform_at.ensures.state)

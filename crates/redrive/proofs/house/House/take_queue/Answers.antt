@@ -1,9 +1,7 @@
-use Rattle.std.proofs.Common.{◌≡◌, Some, sym, ap, ◌∙◌, nat_eq}
-use Rattle.std.specs.List.{position}
-use Rattle.redrive.specs.World.{World}
+use Rattle.std.proofs.Common.{sym, ◌∙◌}
 use Rattle.redrive.proofs.RegistryLemmas.{present-absent, delete-absent_state}
 use Rattle.redrive.proofs.DeletionLemmas.{take-absent_answer, journal-handed, journals-kept}
-use Rattle.redrive.proofs.PlaceLemmas.{take-at, left-at, delete-at, IsRegistry-delete_at}
+use Rattle.redrive.proofs.PlaceLemmas.{place-shown, take-at, left-at, delete-at, IsRegistry-delete_at}
 use Rattle.redrive.proofs.house.House.take_queue.Goals as goal
 
 pub returns-in-None-clause-answer : goal.returns-in-None-clause-answer
@@ -18,30 +16,26 @@ returns-in-Some-clause-absent c none = absurd (present-absent c.args.self.now c.
 pub invariant_of-self : goal.invariant_of-self
 invariant_of-self c =
     let w = c.self.inside.queues in
-    let here : position (λ q. nat_eq q.uid c.args.uid) w.queues ≡ Some c.in-Some.place =
-    ap (λ (w : World). position (λ q. nat_eq q.uid c.args.uid) w.queues) c.self.view_is ∙ sym c.place_of.ensures ∙ c.in-Some.is in
+    let here = place-shown c.args.uid c.self.view_is c.place_of.ensures c.in-Some.is in
     IsRegistry-delete_at w c.args.uid c.in-Some.place here c.args.at c.close_and_take.result c.close_and_take.new.self c.self.invariant c.close_and_take.ensures.ok c.close_and_take.ensures.err
 
 pub returns-in-Some-clause-answer : goal.returns-in-Some-clause-answer
 returns-in-Some-clause-answer c =
     let w = c.self.inside.queues in
-    let here : position (λ q. nat_eq q.uid c.args.uid) w.queues ≡ Some c.in-Some.place =
-    ap (λ (w : World). position (λ q. nat_eq q.uid c.args.uid) w.queues) c.self.view_is ∙ sym c.place_of.ensures ∙ c.in-Some.is in
+    let here = place-shown c.args.uid c.self.view_is c.place_of.ensures c.in-Some.is in
     rw (← c.self.view_is) (take-at w c.args.uid c.in-Some.place here c.args.at c.close_and_take.result c.close_and_take.ensures.answer)
 
 pub returns-in-Some-clause-state : goal.returns-in-Some-clause-state
 returns-in-Some-clause-state c =
     let w = c.self.inside.queues in
-    let here : position (λ q. nat_eq q.uid c.args.uid) w.queues ≡ Some c.in-Some.place =
-    ap (λ (w : World). position (λ q. nat_eq q.uid c.args.uid) w.queues) c.self.view_is ∙ sym c.place_of.ensures ∙ c.in-Some.is in
+    let here = place-shown c.args.uid c.self.view_is c.place_of.ensures c.in-Some.is in
     rw (← c.self.view_is)
     (delete-at w c.args.uid c.in-Some.place here c.args.at c.close_and_take.result c.close_and_take.new.self c.self.invariant c.close_and_take.ensures.ok c.close_and_take.ensures.err c.close_and_take.ensures.errors)
 
 pub returns-in-Some-clause-journal : goal.returns-in-Some-clause-journal
 returns-in-Some-clause-journal c =
     let w = c.self.inside.queues in
-    let here : position (λ q. nat_eq q.uid c.args.uid) w.queues ≡ Some c.in-Some.place =
-    ap (λ (w : World). position (λ q. nat_eq q.uid c.args.uid) w.queues) c.self.view_is ∙ sym c.place_of.ensures ∙ c.in-Some.is in
+    let here = place-shown c.args.uid c.self.view_is c.place_of.ensures c.in-Some.is in
     rw (← c.self.view_is)
     (journal-handed w c.close_and_take.new.self c.args.uid c.args.at c.close_and_take.result
     (take-at w c.args.uid c.in-Some.place here c.args.at c.close_and_take.result c.close_and_take.ensures.answer)
@@ -50,8 +44,7 @@ returns-in-Some-clause-journal c =
 pub returns-in-Some-clause-others : goal.returns-in-Some-clause-others
 returns-in-Some-clause-others c =
     let w = c.self.inside.queues in
-    let here : position (λ q. nat_eq q.uid c.args.uid) w.queues ≡ Some c.in-Some.place =
-    ap (λ (w : World). position (λ q. nat_eq q.uid c.args.uid) w.queues) c.self.view_is ∙ sym c.place_of.ensures ∙ c.in-Some.is in
+    let here = place-shown c.args.uid c.self.view_is c.place_of.ensures c.in-Some.is in
     rw (← c.self.view_is)
     (journals-kept w c.close_and_take.new.self c.args.uid c.args.at c.close_and_take.result
     (take-at w c.args.uid c.in-Some.place here c.args.at c.close_and_take.result c.close_and_take.ensures.answer)
