@@ -2,8 +2,8 @@
 
 use super::*;
 
-/// Rows and states of the alarm where minutes pass at once: 179, 180 and 181 of them, so many that the first
-/// have no row any more, and the most that a clock can be moved by a test. The alarm is on where a message was
+/// Rows and states of the alarm where minutes pass at once: 179 of them and then one more twice, 180, 181, so
+/// many that the first have no row any more, and the most that a clock can be moved by a test. The alarm is on where a message was
 /// visible in two of the last three minutes; a message that ran out at the end of the minute 298 is in its row
 /// no more than in the next.
 const MINUTES: &str = r#"open 9 0 DelaySeconds 0
@@ -26,6 +26,12 @@ advance 10800000
 span => ((0, 180), 180)
 minute 0 => Some(Row { minute: 0, flows: Flows { sent: 1, sent_size: 1, received: 0, empty_receives: 0, deleted: 0, refused: 0, dead_letters_arrived: 0 }, gauges: Gauges { visible: 1, delayed: 0, in_flight: 0, age: 59 } })
 state 0 => (Some(Alarm), [Alarm])
+open 9 0 DelaySeconds 0
+0 send 1 a => Sent(Posted { number: 0, id: MessageId { uid: 2, number: 0 } })
+advance 10860000
+span => ((1, 181), 180)
+minute 0 => None
+minute 1 => Some(Row { minute: 1, flows: Flows { sent: 0, sent_size: 0, received: 0, empty_receives: 0, deleted: 0, refused: 0, dead_letters_arrived: 0 }, gauges: Gauges { visible: 1, delayed: 0, in_flight: 0, age: 119 } })
 open 9 0 DelaySeconds 0
 0 send 1 a => Sent(Posted { number: 0, id: MessageId { uid: 2, number: 0 } })
 advance 18000000
