@@ -10,6 +10,7 @@
 
 pub mod laws;
 mod order;
+mod page;
 mod put;
 mod replies;
 mod routes;
@@ -19,6 +20,7 @@ mod text;
 mod texts;
 mod values;
 
+pub use page::PAGE;
 pub use replies::answer;
 pub use text::Text;
 pub use texts::{alarms_text, rows_text, sheet_text, sheets_text};
