@@ -27,7 +27,7 @@ STATES = ("OK", "ALARM", "INSUFFICIENT_DATA")
 def page():
     """Returns the page: the literal of the constant in page.rt, which has no escapes."""
     with open(f"{ROOT}/crates/statistics_api/src/page.rt", encoding="utf-8") as it:
-        found = re.search(r'(?s)pub const PAGE: &str = r##"(.*)"##;\n', it.read())
+        found = re.search(r'(?s)pub const PAGE: &str =\s+r##"(.*)"##;\n', it.read())
     if not found:
         sys.exit("stand_in.py: there is no page in crates/statistics_api/src/page.rt")
     return found[1]
