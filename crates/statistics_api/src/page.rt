@@ -30,10 +30,10 @@ header { position: sticky; top: 0; z-index: 1; background: var(--ground); border
 h1 { font-size: 18px; margin: 0; font-weight: 650; letter-spacing: .01em; }
 #sum { color: var(--soft); font-variant-numeric: tabular-nums; }
 #sum b { color: var(--text); font-weight: 600; }
-#state { margin-left: auto; color: var(--soft); font-variant-numeric: tabular-nums; }
-#state::before { content: "\25cf\a0"; color: var(--good); }
-.gone #state { color: var(--bad); font-weight: 600; }
-.gone #state::before { content: "\25b2\a0"; color: var(--bad); }
+#now { margin-left: auto; color: var(--soft); font-variant-numeric: tabular-nums; }
+#now::before { content: "\25cf\a0"; color: var(--good); }
+.gone #now { color: var(--bad); font-weight: 600; }
+.gone #now::before { content: "\25b2\a0"; color: var(--bad); }
 .gone main { opacity: .55; }
 form { display: flex; flex-wrap: wrap; gap: 8px 18px; align-items: center; max-width: 1500px; margin: 10px auto 0; color: var(--soft); }
 input, select { font: inherit; color: var(--text); background: var(--card); border: 1px solid var(--line); border-radius: 6px; padding: 5px 9px; }
@@ -67,7 +67,7 @@ path.level { stroke: var(--ink); stroke-width: 1; fill: var(--ink-soft); vector-
 </head>
 <body>
 <header>
-<div class="bar"><h1>Jutkariq</h1><span id="sum"></span><span id="state" role="status">asking the server</span></div>
+<div class="bar"><h1>Jutkariq</h1><span id="sum"></span><span id="now"><span id="state" role="status">asking the server</span><span id="when"></span></span></div>
 <form id="controls">
 <label>Find <input id="find" type="search" autocomplete="off" spellcheck="false" placeholder="part of a queue's name"></label>
 <label>Order <select id="order">
@@ -163,15 +163,18 @@ async function look() {
   setTimeout(look, Math.max(SECOND - took, 3 * took));
 }
 
+// What is read out changes with the state alone, and not each second.
 function alive() {
   document.body.classList.remove("gone");
-  put(at("state"), "live, " + time(answered));
+  put(at("state"), "live");
+  put(at("when"), ", " + time(answered));
 }
 
 function gone(error) {
   document.body.classList.add("gone");
   const why = error.status ? "The server answers " + error.message.trim() : "No answer from the server";
-  put(at("state"), answered === null ? why + "." : why + " since " + time(answered) + " (" + span(Math.round((Date.now() - answered) / SECOND)) + "). The numbers are from then.");
+  put(at("state"), why + (answered === null ? "." : " since " + time(answered)));
+  put(at("when"), answered === null ? "" : " (" + span(Math.round((Date.now() - answered) / SECOND)) + "). The numbers are from then.");
 }
 
 // The rows and alarms of a queue on the screen: they change where one of its minutes is over.
@@ -400,7 +403,7 @@ function fromHash() {
   arrange();
 }
 addEventListener("hashchange", fromHash);
-document.addEventListener("visibilitychange", () => { if (!document.hidden && answered !== null && Date.now() - answered > SECOND) put(at("state"), "asking the server"); });
+document.addEventListener("visibilitychange", () => { if (!document.hidden && answered !== null && Date.now() - answered > SECOND) { put(at("state"), "asking the server"); put(at("when"), ""); } });
 fromHash();
 look();
 </script>
