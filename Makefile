@@ -4,8 +4,9 @@
 # minutes where the verdicts hold. `make prove` proves everything from nothing, and writes every verdict anew. `make verdicts` says which
 # hold. `make clients` tours the server that `make run` built, with boto3 and the AWS command line; `make rate` times it, and `make many` with
 # 1,000 queues. `make wrong-bodies` tries the edits that the gate leaves out; with CRATE=name those of one crate. `make refuse` runs the tests of refused
-# memory once for each allocation. `make bench` times the replay that `make replay` built. `make table` puts what the verdicts say into docs/PROOFS.md.
-.PHONY: run replay try install test prove verdicts table clients rate many wrong-bodies refuse bench
+# memory once for each allocation. `make page` shows the statistics page with numbers that were made up, and `make page-test` tries it in a
+# browser. `make bench` times the replay that `make replay` built. `make table` puts what the verdicts say into docs/PROOFS.md.
+.PHONY: run replay try install test prove verdicts table clients rate many wrong-bodies refuse bench page page-test
 PREFIX ?= /usr/local
 
 run:
@@ -51,3 +52,9 @@ refuse:
 
 bench:
 	tools/bench
+
+page:
+	clients/stand_in.py
+
+page-test:
+	tools/page-test

@@ -1,4 +1,6 @@
+pub mod EscapeLemmas
 pub mod ItemLemmas
+pub mod JoinLemmas
 pub mod NameLemmas
 pub mod OrderLemmas
 pub mod RouteLemmas

@@ -1,5 +1,7 @@
 pub mod Answer
+pub mod Metrics
 pub mod Puts
+pub mod Response
 pub mod Router
 pub mod Routes
 pub mod Steps

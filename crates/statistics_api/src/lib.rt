@@ -9,7 +9,11 @@
 #![tactic(auto)]
 
 pub mod laws;
+mod measure;
+mod metrics;
 mod order;
+mod page;
+mod port;
 mod put;
 mod replies;
 mod routes;
@@ -19,6 +23,9 @@ mod text;
 mod texts;
 mod values;
 
+pub use metrics::metrics_text;
+pub use page::PAGE;
+pub use port::{Response, respond};
 pub use replies::answer;
 pub use text::Text;
 pub use texts::{alarms_text, rows_text, sheet_text, sheets_text};

@@ -24,7 +24,7 @@ fn not_found() -> (u16, Text)
 }
 
 /// The path is one, and the method is not `GET`.
-fn method_not_allowed() -> (u16, Text)
+pub(crate) fn method_not_allowed() -> (u16, Text)
     ensures answer { shown result ≡ method_not_allowed }
     ensures constant { is_written result.1 ≡ false }
 {
@@ -32,7 +32,7 @@ fn method_not_allowed() -> (u16, Text)
 }
 
 /// The text cannot be written for want of memory.
-fn out_of_memory() -> (u16, Text)
+pub(crate) fn out_of_memory() -> (u16, Text)
     ensures answer { shown result ≡ out_of_memory }
     ensures constant { is_written result.1 ≡ false }
 {

@@ -168,3 +168,111 @@ fn refused_memory(rt: HostRuntime) -> Result<(), Fail> {
     }
     Ok(())
 }
+
+/// What the port answers of the queues jobs and a: the status, the content type and the text; but in the
+/// place of the page `PAGE`.
+fn told_on_port(alloc: Global, sheets: &[Sheet], call: &str) -> Result<String, Fault> {
+    let (method, path) = call.rsplit_once(' ').unwrap_or((call, ""));
+    let response = respond(alloc, method, path, sheets);
+    if response.status == 500 {
+        return Err(Fault::OutOfMemory);
+    }
+    let text = response.text.as_str();
+    let text = if text == PAGE { "PAGE" } else { text };
+    let status = response.status;
+    let content_type = response.content_type;
+    Ok(format!(in alloc; "{status} {content_type} {text}")?)
+}
+
+/// The metrics of the queues jobs and a. The text was written by hand from docs/PROFILE.md.
+const METRICS: &str =
+    r#"200 text/plain; version=0.0.4; charset=utf-8 # HELP jutkariq_queue_messages_visible Messages that a receive can take.
+# TYPE jutkariq_queue_messages_visible gauge
+jutkariq_queue_messages_visible{queue="a"} 4
+jutkariq_queue_messages_visible{queue="jobs"} 4
+# HELP jutkariq_queue_messages_delayed Messages whose delay is not over.
+# TYPE jutkariq_queue_messages_delayed gauge
+jutkariq_queue_messages_delayed{queue="a"} 2
+jutkariq_queue_messages_delayed{queue="jobs"} 2
+# HELP jutkariq_queue_messages_in_flight Messages that were received and not deleted, while they are hidden.
+# TYPE jutkariq_queue_messages_in_flight gauge
+jutkariq_queue_messages_in_flight{queue="a"} 3
+jutkariq_queue_messages_in_flight{queue="jobs"} 3
+# HELP jutkariq_queue_oldest_message_age_seconds Age of the oldest message.
+# TYPE jutkariq_queue_oldest_message_age_seconds gauge
+jutkariq_queue_oldest_message_age_seconds{queue="a"} 1
+jutkariq_queue_oldest_message_age_seconds{queue="jobs"} 1
+# HELP jutkariq_queue_journal_entries Entries of the journal.
+# TYPE jutkariq_queue_journal_entries gauge
+jutkariq_queue_journal_entries{queue="a"} 8
+jutkariq_queue_journal_entries{queue="jobs"} 6
+# HELP jutkariq_queue_minute_messages_sent Messages sent in the current minute.
+# TYPE jutkariq_queue_minute_messages_sent gauge
+jutkariq_queue_minute_messages_sent{queue="a"} 16
+jutkariq_queue_minute_messages_sent{queue="jobs"} 16
+# HELP jutkariq_queue_minute_sent_bytes Size of the messages sent in the current minute.
+# TYPE jutkariq_queue_minute_sent_bytes gauge
+jutkariq_queue_minute_sent_bytes{queue="a"} 17
+jutkariq_queue_minute_sent_bytes{queue="jobs"} 17
+# HELP jutkariq_queue_minute_messages_received Messages received in the current minute.
+# TYPE jutkariq_queue_minute_messages_received gauge
+jutkariq_queue_minute_messages_received{queue="a"} 14
+jutkariq_queue_minute_messages_received{queue="jobs"} 14
+# HELP jutkariq_queue_minute_empty_receives Receives without a message in the current minute.
+# TYPE jutkariq_queue_minute_empty_receives gauge
+jutkariq_queue_minute_empty_receives{queue="a"} 13
+jutkariq_queue_minute_empty_receives{queue="jobs"} 13
+# HELP jutkariq_queue_minute_deletes Deletes in the current minute.
+# TYPE jutkariq_queue_minute_deletes gauge
+jutkariq_queue_minute_deletes{queue="a"} 12
+jutkariq_queue_minute_deletes{queue="jobs"} 12
+# HELP jutkariq_queue_minute_refused_calls Calls that the queue refused in the current minute.
+# TYPE jutkariq_queue_minute_refused_calls gauge
+jutkariq_queue_minute_refused_calls{queue="a"} 15
+jutkariq_queue_minute_refused_calls{queue="jobs"} 15
+# HELP jutkariq_queue_minute_dead_letters_arrived Dead letters that arrived in the current minute.
+# TYPE jutkariq_queue_minute_dead_letters_arrived gauge
+jutkariq_queue_minute_dead_letters_arrived{queue="a"} 11
+jutkariq_queue_minute_dead_letters_arrived{queue="jobs"} 11
+# HELP jutkariq_queue_alarm_state 1 for the state that the alarm is in, 0 for the two others.
+# TYPE jutkariq_queue_alarm_state gauge
+jutkariq_queue_alarm_state{queue="jobs",alarm="deep",state="OK"} 0
+jutkariq_queue_alarm_state{queue="jobs",alarm="deep",state="ALARM"} 0
+jutkariq_queue_alarm_state{queue="jobs",alarm="deep",state="INSUFFICIENT_DATA"} 1
+jutkariq_queue_alarm_state{queue="jobs",alarm="calm",state="OK"} 1
+jutkariq_queue_alarm_state{queue="jobs",alarm="calm",state="ALARM"} 0
+jutkariq_queue_alarm_state{queue="jobs",alarm="calm",state="INSUFFICIENT_DATA"} 0
+jutkariq_queue_alarm_state{queue="jobs",alarm="busy",state="OK"} 0
+jutkariq_queue_alarm_state{queue="jobs",alarm="busy",state="ALARM"} 1
+jutkariq_queue_alarm_state{queue="jobs",alarm="busy",state="INSUFFICIENT_DATA"} 0
+"#;
+
+/// What else the port answers.
+const PORT: &str = r#"GET / => 200 text/html; charset=utf-8 PAGE
+POST / => 405 application/json {"message":"method not allowed"}
+HEAD /metrics => 405 application/json {"message":"method not allowed"}
+GET /metrics/ => 404 application/json {"message":"not found"}
+GET /statistics/queues/jobs/rows/ => 404 application/json {"message":"not found"}
+GET /statistics/queues/a/rows => 200 application/json {"rows":[]}
+POST /statistics/queues => 405 application/json {"message":"method not allowed"}
+"#;
+
+/// The port has the page, the metrics, and the paths of [`answer`]. A call whose memory is refused is
+/// made again.
+#[test]
+fn port(rt: HostRuntime) -> Result<(), Fail> {
+    let mut sheets = Vec::new(rt.alloc());
+    sheets.push(jobs(rt.alloc())?)?;
+    sheets.push(sheet(rt.alloc(), "a", 8)?)?;
+    let metrics = match told_on_port(rt.alloc(), sheets.as_slice(), "GET /metrics") {
+        Err(Fault::OutOfMemory) => told_on_port(rt.alloc(), sheets.as_slice(), "GET /metrics")?,
+        told => told?,
+    };
+    assert_eq!(rt; metrics.as_str(), METRICS);
+    for line in PORT.lines() {
+        let (call, wanted) = line.split_once(" => ").ok_or("what is told of it")?;
+        let told = told_on_port(rt.alloc(), sheets.as_slice(), call)?;
+        assert_eq!(rt; told.as_str(), wanted, "{call}");
+    }
+    Ok(())
+}

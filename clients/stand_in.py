@@ -1,0 +1,145 @@
+#!/usr/bin/env python3
+"""Serves the statistics page and numbers that were made up for it: to look at the page, and to test it, without a queue.
+
+Usage: stand_in.py [PORT [QUEUES]], 9325 and 5 by default; with port 0 the system chooses one. It prints its address, and goes on until
+it is ended. The page is the text of crates/statistics_api/src/page.rt as it stands; the texts have the members and the order of
+section 24 of docs/PROFILE.md. Some of its queues and alarms have names that no queue can have, so that one sees that the page takes
+every name as a text.
+"""
+
+import json
+import math
+import os
+import re
+import sys
+import time
+from http.server import BaseHTTPRequestHandler, ThreadingHTTPServer
+from urllib.parse import unquote
+
+ROOT = os.path.normpath(os.path.join(os.path.dirname(os.path.abspath(__file__)), ".."))
+MINUTE = 60_000
+WINDOW = 180
+FLOWS = ("deadLettersArrived", "deleted", "emptyReceives", "received", "refused", "sent", "sentSize")
+ODD = ("<b>bold</b>", "a&amp;b", "it's \"quoted\"", "</script><script>document.title='taken'</script>")
+STATES = ("OK", "ALARM", "INSUFFICIENT_DATA")
+
+
+def page():
+    """Returns the page: the literal of the constant in page.rt, which has no escapes."""
+    with open(f"{ROOT}/crates/statistics_api/src/page.rt", encoding="utf-8") as it:
+        found = re.search(r'(?s)pub const PAGE: &str =\s+r##"(.*)"##;\n', it.read())
+    if not found:
+        sys.exit("stand_in.py: there is no page in crates/statistics_api/src/page.rt")
+    return found[1]
+
+
+class Queue:
+    """A queue whose numbers follow from its place and from the minute alone, so that a row never changes."""
+
+    def __init__(self, place, name, since):
+        self.place, self.name, self.since = place, name, since
+
+    def minute(self, minute, part=1.0):
+        """Returns a minute as a row has it, or the part of it that is over."""
+        wave = 1 + math.sin((minute + 13 * self.place) / 11) + 0.4 * math.sin((minute * (self.place + 3)) / 5)
+        sent = int(max(0, 14 * wave + (minute * 7919 + self.place) % 5) * part)
+        received = int(max(0, 12 * wave + (minute * 104729 + self.place) % 7) * part)
+        refused = 2 if self.place % 4 == 1 and minute % 37 < 2 else 0
+        visible = int(max(0, 40 + 30 * math.sin((minute + 29 * self.place) / 17)))
+        return {
+            "age": visible * 3, "deadLettersArrived": received // 9 if self.place == 0 else 0, "delayed": (minute + self.place) % 4,
+            "deleted": int(received * 0.9), "emptyReceives": (minute + self.place) % 3, "inFlight": received // 4, "minute": minute,
+            "received": received, "refused": refused, "sent": sent, "sentSize": sent * 57, "visible": visible,
+        }
+
+    def sheet(self, now):
+        """Returns what stands in the queue at a time in milliseconds."""
+        row = self.minute(now // MINUTE, now % MINUTE / MINUTE)
+        return {
+            "age": row["age"] + now // 1000 % 60, "clock": now, "current": {key: row[key] for key in FLOWS}, "delayed": row["delayed"],
+            "inFlight": row["inFlight"], "lines": (now - self.since) // 1000 + 100, "name": self.name, "visible": row["visible"],
+        }
+
+    def rows(self, now):
+        """Returns the rows of the last minutes that are over."""
+        end = now // MINUTE
+        return [self.minute(minute) for minute in range(max(self.since // MINUTE, end - WINDOW), end)]
+
+    def alarms(self, now):
+        """Returns its alarms: none, one or three, and one of an odd name where its own is odd."""
+        names = [(), ("backlog",), ("backlog", "refusals", "stalled")][self.place % 3] + (("<i>odd</i> & \"more\"",) if self.name in ODD else ())
+        return [{"name": name, "state": STATES[(number + self.place + now // MINUTE) % 3]} for number, name in enumerate(names)]
+
+
+def names(count):
+    """Returns so many names: some as queues have them, then the odd ones, then numbers."""
+    first = ["dead", "jobs", "mail-out", "thumbnails_v2", *ODD]
+    return [*first, *(f"many-{number:04}" for number in range(count))][:count]
+
+
+class Answers(BaseHTTPRequestHandler):
+    """Answers as section 24 of docs/PROFILE.md says, but that names are decoded."""
+
+    queues = ()
+    asked = {}
+
+    def text_of(self):
+        """Returns the status, the content type and the text."""
+        now = int(time.time() * 1000)
+        if self.path == "/":
+            return 200, "text/html; charset=utf-8", page()
+        found = re.fullmatch(r"/statistics/queues(?:/([^/]+)(/rows|/alarms)?)?", self.path)
+        if self.path == "/asked":
+            return 200, "application/json", json.dumps(self.asked)
+        if not found:
+            return 404, "application/json", '{"message":"not found"}'
+        self.asked[found[2] or "/"] = self.asked.get(found[2] or "/", 0) + 1
+        by_name = sorted(self.queues, key=lambda it: it.name.encode())
+        if found[1] is None:
+            told = {"queues": [it.sheet(now) for it in by_name]}
+        else:
+            queue = next((it for it in by_name if it.name == unquote(found[1])), None)
+            if not queue:
+                return 404, "application/json", '{"message":"not found"}'
+            told = {None: queue.sheet, "/rows": lambda at: {"rows": queue.rows(at)}, "/alarms": lambda at: {"alarms": queue.alarms(at)}}[found[2]](now)
+        return 200, "application/json", json.dumps(told, separators=(",", ":"), ensure_ascii=False)
+
+    def answer(self):
+        """Sends an answer; a method other than GET is refused where there is such a path."""
+        status, kind, text = self.text_of()
+        if self.command != "GET" and status == 200:
+            status, kind, text = 405, "application/json", '{"message":"method not allowed"}'
+        self.send_response(status)
+        self.send_header("Content-Type", kind)
+        self.send_header("Content-Length", str(len(text.encode())))
+        self.end_headers()
+        self.wfile.write(text.encode())
+
+    do_GET = do_POST = answer
+
+    def log_message(self, *_):
+        """Says nothing."""
+
+
+def serving(port, count):
+    """Returns a server of so many queues, which listens already."""
+    since = int(time.time() * 1000) - 200 * MINUTE
+    Answers.queues = [Queue(place, name, since) for place, name in enumerate(names(count))]
+    Answers.asked = {}
+    return ThreadingHTTPServer(("127.0.0.1", port), Answers)
+
+
+def main(words):
+    """Serves until it is ended."""
+    if len(words) > 2 or not all(it.isdigit() for it in words):
+        sys.exit("usage: stand_in.py [PORT [QUEUES]]")
+    server = serving(int(words[0]) if words else 9325, int(words[1]) if len(words) > 1 else 5)
+    print(f"http://127.0.0.1:{server.server_address[1]}/", flush=True)
+    try:
+        server.serve_forever()
+    except KeyboardInterrupt:
+        pass
+
+
+if __name__ == "__main__":
+    main(sys.argv[1:])

@@ -1,0 +1,123 @@
+-- Statistics in the text format of Prometheus, version 0.0.4: for each metric a line `# HELP`, a line `# TYPE`, and a line for each queue.
+-- Which metrics there are, their names and the words on them are this project's own; the names follow Prometheus's naming guide.
+use Rattle.std.specs.Prelude.{ℕ, ◌==◌, List, [], ◌∷◌, ◌++◌, codes, decimal, if◌then◌else◌, flat_map}
+use Rattle.std.specs.List.{concat}
+use Rattle.alarm.specs.declared.state.AlarmState.{AlarmState}
+use Rattle.alarm.specs.declared.state.AlarmState.TheVariants.{InsufficientData, Okay, Alarm}
+use Rattle.alarm.specs.AlarmState.{alarm_state_name}
+use Rattle.board.specs.Sheet.{Statistics}
+use Rattle.statistics_api.specs.Texts.{by_name}
+use Rattle.statistics_api.specs.declared.measure.Measure.{Measure}
+use Rattle.statistics_api.specs.declared.measure.Measure.TheVariants.{Visible, Delayed, InFlight, Age, Entries, Sent, SentSize, Received, EmptyReceives, Deleted, Refused, DeadLettersArrived}
+
+abbrev pub measure_name : Measure → List ℕ
+measure_name Visible = codes "jutkariq_queue_messages_visible"
+measure_name Delayed = codes "jutkariq_queue_messages_delayed"
+measure_name InFlight = codes "jutkariq_queue_messages_in_flight"
+measure_name Age = codes "jutkariq_queue_oldest_message_age_seconds"
+measure_name Entries = codes "jutkariq_queue_journal_entries"
+measure_name Sent = codes "jutkariq_queue_minute_messages_sent"
+measure_name SentSize = codes "jutkariq_queue_minute_sent_bytes"
+measure_name Received = codes "jutkariq_queue_minute_messages_received"
+measure_name EmptyReceives = codes "jutkariq_queue_minute_empty_receives"
+measure_name Deleted = codes "jutkariq_queue_minute_deletes"
+measure_name Refused = codes "jutkariq_queue_minute_refused_calls"
+measure_name DeadLettersArrived = codes "jutkariq_queue_minute_dead_letters_arrived"
+
+abbrev pub measure_help : Measure → List ℕ
+measure_help Visible = codes "Messages that a receive can take."
+measure_help Delayed = codes "Messages whose delay is not over."
+measure_help InFlight = codes "Messages that were received and not deleted, while they are hidden."
+measure_help Age = codes "Age of the oldest message."
+measure_help Entries = codes "Entries of the journal."
+measure_help Sent = codes "Messages sent in the current minute."
+measure_help SentSize = codes "Size of the messages sent in the current minute."
+measure_help Received = codes "Messages received in the current minute."
+measure_help EmptyReceives = codes "Receives without a message in the current minute."
+measure_help Deleted = codes "Deletes in the current minute."
+measure_help Refused = codes "Calls that the queue refused in the current minute."
+measure_help DeadLettersArrived = codes "Dead letters that arrived in the current minute."
+
+-- how much it is of a queue
+abbrev pub measured : Measure → Statistics → ℕ
+measured Visible s = s.gauges.visible
+measured Delayed s = s.gauges.delayed
+measured InFlight s = s.gauges.in_flight
+measured Age s = s.gauges.age
+measured Entries s = s.lines
+measured Sent s = s.current.sent
+measured SentSize s = s.current.sent_size
+measured Received s = s.current.received
+measured EmptyReceives s = s.current.empty_receives
+measured Deleted s = s.current.deleted
+measured Refused s = s.current.refused
+measured DeadLettersArrived s = s.current.dead_letters_arrived
+
+-- all of them, in the order in which they are told
+abbrev pub measures : List Measure
+measures =
+    Visible ∷ Delayed ∷ InFlight ∷ Age ∷ Entries ∷ Sent ∷ SentSize ∷ Received ∷ EmptyReceives ∷ Deleted ∷ Refused
+    ∷ DeadLettersArrived ∷ []
+
+-- ---- texts
+
+-- a byte of a label's value: a backslash, a quote and a line feed are escaped
+abbrev pub escaped_byte : ℕ → List ℕ
+escaped_byte c =
+    if c == 92 then codes "\\\\"
+    else if c == 34 then codes "\\\""
+    else if c == 10 then codes "\\n"
+    else c ∷ []
+
+abbrev pub escaped : List ℕ → List ℕ
+escaped text = flat_map escaped_byte text
+
+-- the two lines before those of the queues
+abbrev pub head_text : List ℕ → List ℕ → List ℕ
+head_text name help = concat (codes "# HELP " ∷ name ∷ codes " " ∷ help ∷ codes "\n# TYPE " ∷ name ∷ codes " gauge\n" ∷ [])
+
+-- the line of a queue
+abbrev pub sample_text : Measure → Statistics → List ℕ
+sample_text m s = concat (measure_name m ∷ codes "{queue=\"" ∷ escaped s.name ∷ codes "\"} " ∷ decimal (measured m s) ∷ codes "\n" ∷ [])
+
+-- a metric of these queues
+abbrev pub family_text : List Statistics → Measure → List ℕ
+family_text sheets m = head_text (measure_name m) (measure_help m) ++ flat_map (sample_text m) sheets
+
+-- ---- alarms
+
+-- 1 for the state that an alarm is in, and 0 for another
+abbrev pub state_digit : AlarmState → AlarmState → List ℕ
+state_digit InsufficientData InsufficientData = codes "1"
+state_digit Okay Okay = codes "1"
+state_digit Alarm Alarm = codes "1"
+state_digit InsufficientData Okay = codes "0"
+state_digit InsufficientData Alarm = codes "0"
+state_digit Okay InsufficientData = codes "0"
+state_digit Okay Alarm = codes "0"
+state_digit Alarm InsufficientData = codes "0"
+state_digit Alarm Okay = codes "0"
+
+-- the line of one of the three states
+abbrev pub state_text : List ℕ → List ℕ × AlarmState → AlarmState → List ℕ
+state_text queue a state =
+    concat (codes "jutkariq_queue_alarm_state{queue=\"" ∷ escaped queue ∷ codes "\",alarm=\"" ∷ escaped a.0 ∷ codes "\",state=\""
+    ∷ alarm_state_name state ∷ codes "\"} " ∷ state_digit state a.1 ∷ codes "\n" ∷ [])
+
+-- the lines of an alarm
+abbrev pub alarm_text : List ℕ → List ℕ × AlarmState → List ℕ
+alarm_text queue a = flat_map (state_text queue a) (Okay ∷ Alarm ∷ InsufficientData ∷ [])
+
+-- those of a queue's alarms, in the order of the configuration
+abbrev pub queue_alarms_text : Statistics → List ℕ
+queue_alarms_text s = flat_map (alarm_text s.name) s.alarms
+
+-- the alarms of these queues
+abbrev pub alarms_family_text : List Statistics → List ℕ
+alarms_family_text sheets =
+    head_text (codes "jutkariq_queue_alarm_state") (codes "1 for the state that the alarm is in, 0 for the two others.")
+    ++ flat_map queue_alarms_text sheets
+
+-- all metrics; queues stand in the order of their names
+abbrev pub metrics_text : List Statistics → List ℕ
+metrics_text sheets = flat_map (family_text (by_name sheets)) measures ++ alarms_family_text (by_name sheets)

@@ -1,0 +1,41 @@
+-- What the port of the statistics answers (this project's own): the page at `/`, the text for Prometheus at `/metrics`, and at every other
+-- path what `answer_of` says. A status, a content type and a text.
+use Rattle.std.specs.Prelude.{ℕ, List, codes, if◌then◌else◌}
+use Rattle.std.specs.Str.{bytes_eq}
+use Rattle.board.specs.Sheet.{Statistics}
+use Rattle.statistics_api.specs.Answer.{Answer, answer_of, method_not_allowed}
+use Rattle.statistics_api.specs.Metrics.{metrics_text}
+use Rattle.statistics_api.specs.Text.{bytes_of}
+use Rattle.statistics_api.specs.declared.page.TheConstants.{PAGE}
+use Rattle.statistics_api.specs.declared.port.Response.{Response}
+
+abbrev pub Told : Type 0
+Told = ℕ × List ℕ × List ℕ
+
+-- the status, the content type and the bytes of a response
+abbrev pub told_by : Response → Told
+told_by r = (r.status, r.content_type.now, bytes_of r.text)
+
+abbrev pub as_json : Answer → Told
+as_json answer = (answer.0, codes "application/json", answer.1)
+
+-- the page, which is a constant
+abbrev pub page : Told
+page = (200, codes "text/html; charset=utf-8", PAGE.now)
+
+-- a text for Prometheus
+abbrev pub for_prometheus : List ℕ → Told
+for_prometheus text = (200, codes "text/plain; version=0.0.4; charset=utf-8", text)
+
+abbrev pub metrics : List Statistics → Told
+metrics sheets = for_prometheus (metrics_text sheets)
+
+-- what is told to the method `GET`, and to no other
+abbrev pub if_get : List ℕ → Told → Told
+if_get method told = if bytes_eq method (codes "GET") then told else as_json method_not_allowed
+
+abbrev pub response_of : List ℕ → List ℕ → List Statistics → Told
+response_of method path sheets =
+    if bytes_eq path (codes "/") then if_get method page
+    else if bytes_eq path (codes "/metrics") then if_get method (metrics sheets)
+    else as_json (answer_of method path sheets)

@@ -1,0 +1,111 @@
+//! What the port of the statistics answers.
+
+ghost use Rattle.std.specs.Prelude.{◌≡◌, ◌⊎◌, false, codes, string_bytes};
+ghost use Rattle.statistics_api.specs.Text.{is_written, shown};
+ghost use Rattle.statistics_api.specs.Answer.{out_of_memory};
+ghost use Rattle.statistics_api.specs.Response.{told_by, as_json, page, for_prometheus, metrics, if_get, response_of};
+
+use crate::metrics::metrics_text;
+use crate::page::PAGE;
+use crate::replies::{answer, method_not_allowed, out_of_memory};
+use crate::text::Text;
+use board::Sheet;
+use std::alloc::Global;
+
+/// What is answered: a status, a content type and a text.
+#[derive(Debug, Drop)]
+pub struct Response {
+    pub status: u16,
+    pub content_type: &'static str,
+    pub text: Text,
+}
+
+/// An answer, which is a JSON text.
+fn as_json(answer: (u16, Text)) -> Response
+    ensures told { told_by result ≡ as_json (shown answer) }
+    ensures constant { is_written result.text ≡ is_written answer.1 }
+    ensures status { result.status ≡ answer.0 }
+{
+    let (status, text) = answer;
+    let content_type = "application/json";
+    Response {
+        status,
+        content_type,
+        text,
+    }
+}
+
+/// The page.
+fn page() -> Response
+    ensures told { told_by result ≡ page }
+    ensures constant { is_written result.text ≡ false }
+{
+    let content_type = "text/html; charset=utf-8";
+    Response {
+        status: 200,
+        content_type,
+        text: Text::Constant(PAGE),
+    }
+}
+
+/// The page, where the method is `GET`.
+fn page_to(method: &str) -> Response
+    ensures told { told_by result ≡ if_get method.now page }
+    ensures constant { is_written result.text ≡ false }
+{
+    if method != "GET" {
+        return as_json(method_not_allowed());
+    }
+    page()
+}
+
+/// A text for Prometheus.
+fn for_prometheus(text: String) -> Response
+    ensures told { told_by result ≡ for_prometheus (string_bytes text) }
+    ensures status { result.status ≡ 200 }
+{
+    let content_type = "text/plain; version=0.0.4; charset=utf-8";
+    Response {
+        status: 200,
+        content_type,
+        text: Text::Written(text),
+    }
+}
+
+/// The metrics, or want of memory.
+fn metrics(alloc: Global, sheets: &[Sheet]) -> Response
+    ensures told { (told_by result ≡ metrics sheets.now) ⊎ (told_by result ≡ as_json out_of_memory) }
+    ensures constant { (result.status ≡ 200) ⊎ (is_written result.text ≡ false) }
+{
+    match metrics_text(alloc, sheets) {
+        Ok(text) => for_prometheus(text),
+        Err(_) => as_json(out_of_memory()),
+    }
+}
+
+/// The metrics, where the method is `GET`, or want of memory.
+fn metrics_to(alloc: Global, method: &str, sheets: &[Sheet]) -> Response
+    ensures told { (told_by result ≡ if_get method.now (metrics sheets.now)) ⊎ (told_by result ≡ as_json out_of_memory) }
+    ensures constant { (result.status ≡ 200) ⊎ (is_written result.text ≡ false) }
+{
+    if method != "GET" {
+        return as_json(method_not_allowed());
+    }
+    metrics(alloc, sheets)
+}
+
+/// What the port of the statistics answers (this project's own): to `GET /` the page, which takes no
+/// memory; to `GET /metrics` the numbers of all queues for Prometheus; to every other path what
+/// [`answer`] says. Another method on these two paths is 405. 500 may stand in the place of any answer
+/// but of the page's, for want of memory.
+pub fn respond(alloc: Global, method: &str, path: &str, sheets: &[Sheet]) -> Response
+    ensures response { (told_by result ≡ response_of method.now path.now sheets.now) ⊎ (told_by result ≡ as_json out_of_memory) }
+    ensures page { path.now ≡ codes "/" → told_by result ≡ response_of method.now path.now sheets.now }
+    ensures constant { (result.status ≡ 200) ⊎ (is_written result.text ≡ false) }
+{
+    match path {
+        "/" => page_to(method),
+        "/metrics" => metrics_to(alloc, method, sheets),
+        _ => as_json(answer(alloc, method, path, sheets)),
+    }
+}
