@@ -1,5 +1,5 @@
 -- One step of going through a journal: what is left at a place is the entry there and what is left after it.
-use Rattle.std.proofs.Common.{◌≡◌, ℕ, ◌+◌, ◌<◌, Bool, true, false, cond, List, [], ◌∷◌, ◌++◌, map, length, take, drop, Some, refl, sym, ◌∙◌}
+use Rattle.std.proofs.Common.{◌≡◌, ℕ, ◌+◌, ◌<◌, Bool, true, false, cond, List, [], ◌∷◌, ◌++◌, map, length, take, drop, Some, refl, sym, ap, ◌∙◌}
 use Rattle.std.specs.Prelude.{slice_get, option_map}
 use Rattle.std.specs.List.{list_any, find}
 use Rattle.std.proofs.lemmas.List.{map-append, take_more}
@@ -42,5 +42,5 @@ pub read_more : {X Y : Type 0} (f : X → Y) (xs : List X) (ys : List Y) (place 
     → map f (xs ++ x ∷ []) ≡ take (place + 1) ys
 read_more f xs ys place x inside at same =
     map-append f xs (x ∷ [])
-    ∙ rw same refl
-    ∙ sym (take_more ys place (f x) inside ∙ rw (get_or_from_slice_get ys place (f x) (f x) at) refl)
+    ∙ ap (λ firsts. firsts ++ f x ∷ []) same
+    ∙ sym (take_more ys place (f x) inside ∙ ap (λ y. take place ys ++ y ∷ []) (get_or_from_slice_get ys place (f x) (f x) at))

@@ -8,5 +8,5 @@ use Rattle.plain_queue.proofs.metrics.minute_gauges.Goals as goal
 pub returns : goal.returns
 returns c from ordered =
     c.gauges_of.ensures
-    ∙ ap (λ (lines : List (Entry ContentText)). gauges_of lines c.millisecond_before-last.result) (c.before.ensures from c.args.clock ordered)
+    ∙ ap (λ (lines : List (Entry ContentText)). gauges_of lines c.millisecond_before-last.result) (c.before-2.ensures from c.args.clock ordered)
     ∙ ap (λ (clock : ℕ). gauges_of (entries_until c.args.lines.now c.args.minute) clock) c.millisecond_before-last.ensures

@@ -1,4 +1,4 @@
-use Rattle.std.proofs.Common.{◌∙◌, refl, arith}
+use Rattle.std.proofs.Common.{◌∙◌, arith}
 use Rattle.std.proofs.lemmas.List.{take_all}
 use Rattle.plain_queue.proofs.EntryLemmas.{read_more}
 use Rattle.plain_queue.proofs.entries.Collected.of.Goals as goal
