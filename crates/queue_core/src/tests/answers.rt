@@ -1,6 +1,6 @@
 //! Dead letters step by step, changes of settings to the millisecond, and closed queues.
 
-use super::{ask, first};
+use super::Talk;
 use std::test::Fail;
 
 /// Dead letters leave and are confirmed, come back, arrive once, and meet a full journal. Then a queue is
@@ -105,5 +105,5 @@ limits => (900, 43200, 10)
 
 #[test]
 fn answers(rt: HostRuntime) -> Result<(), Fail> {
-    ask(&rt, &rt, &mut first(rt.alloc())?, LINES)
+    Talk::new(&rt)?.hold(&rt, LINES)
 }
