@@ -223,8 +223,8 @@ module _ (q : QueueHistory) (event : Event ContentText) (legal : IsLegal q) wher
         minute = ap (λ k. k.minute) window ∙ is.minute;
         rows = ap (λ k. k.rows) window ∙ is.rows ∙ sym rows-same;
         current =
-        ap (λ k. k.current) window ∙ ap (λ (f : Flows). capped (added f (flows_of content_size event))) is.current
-        ∙ sym (minute_flows-push content_size q.lines entry present ∙ rw here refl);
+            ap (λ k. k.current) window ∙ ap (λ (f : Flows). capped (added f (flows_of content_size event))) is.current
+            ∙ sym (minute_flows-push content_size q.lines entry present ∙ rw here refl);
         alarms = ap (λ a. a.items) alarms ∙ is.alarms ∙ ap (λ (rs : List Row). map (told_alarm rs) rules) (sym rows-same);
         allowed = is.allowed;
       }
@@ -265,24 +265,24 @@ module _ (q : QueueHistory) (legal : IsLegal q) (first : ℕ) (before : List Row
         index = index;
         begun = omega (arith, next, is.begun);
         rows =
-        ap (λ k. k.rows) closed
-        ∙ ap (λ (rs : List Row). keep_last longest_window (rs ++ current_row w.window gauges ∷ [])) is.rows
-        ∙ keep_last-again longest_window (until minute) (current_row w.window gauges)
-        ∙ ap (λ (r : Row). keep_last longest_window (until minute ++ r ∷ [])) row
-        ∙ ap (keep_last longest_window) (until-more minute is.begun)
-        ∙ ap (λ (m : ℕ). keep_last longest_window (until m)) (sym next);
+            ap (λ k. k.rows) closed
+            ∙ ap (λ (rs : List Row). keep_last longest_window (rs ++ current_row w.window gauges ∷ [])) is.rows
+            ∙ keep_last-again longest_window (until minute) (current_row w.window gauges)
+            ∙ ap (λ (r : Row). keep_last longest_window (until minute ++ r ∷ [])) row
+            ∙ ap (keep_last longest_window) (until-more minute is.begun)
+            ∙ ap (λ (m : ℕ). keep_last longest_window (until m)) (sym next);
         current = ap (λ k. k.current) closed ∙ sym (flows-none q v.window.minute legal (omega (arith, next, late)));
         alarms =
-        alarms
-        ∙ ap (map (λ alarm. with_minute alarm (current_row w.window gauges))) is.alarms
-        ∙ map-twice (told_alarm (before ++ until minute)) (λ alarm. with_minute alarm (current_row w.window gauges)) q.rules
-        ∙ map_agree (λ rule. with_minute (told_alarm (before ++ until minute) rule) (current_row w.window gauges)) (told_alarm ((before ++ until minute) ++ current_row w.window gauges ∷ []))
-        (λ rule. told-more rule (before ++ until minute) (current_row w.window gauges)) q.rules
-        ∙ ap (λ (rs : List Row). map (told_alarm rs) q.rules)
-        (ap (λ (r : Row). (before ++ until minute) ++ r ∷ []) row
-        ∙ append_assoc before (until minute) (metric_row content_size q.lines minute ∷ [])
-        ∙ ap (λ (rs : List Row). before ++ rs) (until-more minute is.begun)
-        ∙ ap (λ (m : ℕ). before ++ until m) (sym next));
+            alarms
+            ∙ ap (map (λ alarm. with_minute alarm (current_row w.window gauges))) is.alarms
+            ∙ map-twice (told_alarm (before ++ until minute)) (λ alarm. with_minute alarm (current_row w.window gauges)) q.rules
+            ∙ map_agree (λ rule. with_minute (told_alarm (before ++ until minute) rule) (current_row w.window gauges)) (told_alarm ((before ++ until minute) ++ current_row w.window gauges ∷ []))
+            (λ rule. told-more rule (before ++ until minute) (current_row w.window gauges)) q.rules
+            ∙ ap (λ (rs : List Row). map (told_alarm rs) q.rules)
+            (ap (λ (r : Row). (before ++ until minute) ++ r ∷ []) row
+            ∙ append_assoc before (until minute) (metric_row content_size q.lines minute ∷ [])
+            ∙ ap (λ (rs : List Row). before ++ rs) (until-more minute is.begun)
+            ∙ ap (λ (m : ℕ). before ++ until m) (sym next));
       }
 
   -- a minute up to which all have ended lasts, where nothing but the last rows counts of those that went before
@@ -295,12 +295,12 @@ module _ (q : QueueHistory) (legal : IsLegal q) (first : ℕ) (before : List Row
         rows = is.rows ∙ ap (λ (m : ℕ). keep_last longest_window (until m)) here ∙ shown;
         current = is.current ∙ ap (λ (m : ℕ). minute_flows content_size q.lines m) here;
         alarms =
-        is.alarms
-        ∙ ap (λ (m : ℕ). map (told_alarm (before ++ until m)) q.rules) here
-        ∙ alike-where (λ rule. rule.minutes ≤ longest_window) (told_alarm (before ++ until present)) (told_alarm (rows_before q.lines present)) q.rules allowed
-        (λ rule few.
-        told-agree rule (before ++ until present) (rows_before q.lines present)
-        (enough rule.minutes few ∙ sym (kept-twice rule.minutes longest_window (until present) few) ∙ ap (keep_last rule.minutes) shown));
+            is.alarms
+            ∙ ap (λ (m : ℕ). map (told_alarm (before ++ until m)) q.rules) here
+            ∙ alike-where (λ rule. rule.minutes ≤ longest_window) (told_alarm (before ++ until present)) (told_alarm (rows_before q.lines present)) q.rules allowed
+            (λ rule few.
+            told-agree rule (before ++ until present) (rows_before q.lines present)
+            (enough rule.minutes few ∙ sym (kept-twice rule.minutes longest_window (until present) few) ∙ ap (keep_last rule.minutes) shown));
         allowed = allowed;
       }
 
@@ -348,9 +348,9 @@ module _ (q : QueueHistory) (legal : IsLegal q) (x : MessageIndex) (w : Watch) (
         rows = ap (λ k. k.rows) window ∙ kept-none longest_window ∙ ap (λ (n : ℕ). keep_last longest_window (rows_from q.lines minute n)) (sym none);
         current = ap (λ k. k.current) window ∙ sym (flows-none q v.window.minute legal (omega (arith, here)));
         alarms =
-        ap (λ a. a.items) alarms ∙ is.alarms
-        ∙ ap (λ (rs : List Row). map (told_alarm rs) q.rules) (sym (append-nil (rows_before q.lines (minute_of q.clock))))
-        ∙ ap (λ (n : ℕ). map (told_alarm (rows_before q.lines (minute_of q.clock) ++ rows_from q.lines minute n)) q.rules) (sym none);
+            ap (λ a. a.items) alarms ∙ is.alarms
+            ∙ ap (λ (rs : List Row). map (told_alarm rs) q.rules) (sym (append-nil (rows_before q.lines (minute_of q.clock))))
+            ∙ ap (λ (n : ℕ). map (told_alarm (rows_before q.lines (minute_of q.clock) ++ rows_from q.lines minute n)) q.rules) (sym none);
       }
 
   pub watch-jumped : (present : ℕ) (y : MessageIndex) (v : Watch) → minute_of q.clock + longest_window < present → IsPassing q (present - longest_window) (rows_before q.lines (minute_of q.clock)) y v

@@ -40,9 +40,9 @@ mod reply;
 mod slot;
 mod state;
 mod tally;
-mod watch;
 #[cfg(test)]
 mod tests;
+mod watch;
 
 pub use command::{
     Command, Delay, LONGEST_DELAY, LONGEST_TIMEOUT, MOST_OFFERS, Maximum, Step, Timeout,

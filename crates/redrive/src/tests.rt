@@ -8,7 +8,7 @@
 
 mod talk;
 
-use crate::{Catalog, House, HouseReply, HouseRun, HouseStep};
+use crate::{Catalog, House, HouseReply, HouseRun, HouseStep, QueueMetrics};
 use journal::{Moment, Ticks};
 use message::{Content, Fault, QueueName};
 use queue_config::{Wish, config_from_text};

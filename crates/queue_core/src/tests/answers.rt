@@ -1,6 +1,6 @@
 //! Dead letters step by step, changes of settings to the millisecond, and closed queues.
 
-use super::{ask, first};
+use super::Talk;
 use std::test::Fail;
 
 /// Dead letters leave and are confirmed, come back, arrive once, and meet a full journal. Then a queue is
@@ -105,7 +105,7 @@ limits => (900, 43200, 10)
 
 #[test]
 fn answers(rt: HostRuntime) -> Result<(), Fail> {
-    let refused = ask(&rt, &rt, &mut first(rt.alloc())?, LINES)?;
-    assert!(rt; refused <= 1);
-    Ok(())
+    let mut talk = Talk::new(&rt)?;
+    talk.hold(&rt, LINES)?;
+    talk.end()
 }

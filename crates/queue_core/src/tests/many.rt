@@ -1,5 +1,6 @@
 //! Many minutes and many messages: what takes too long where a call goes through all that was there before.
 
+use super::talk::{Talk, known_moment, step};
 use super::*;
 
 /// Rows and states of the alarm where minutes pass at once: 179 of them and then one more twice, 180, 181, so
@@ -65,55 +66,57 @@ state 0 => (Some(Okay), [Okay])
 /// Each row is of what stood in the queue at that minute's own last millisecond, however many pass at once.
 #[test]
 fn many_minutes(rt: HostRuntime) -> Result<(), Fail> {
-    let queue = &mut first(rt.alloc())?;
-    ask(&rt, &rt, queue, MINUTES)
+    let mut talk = Talk::new(&rt)?;
+    talk.hold(&rt, MINUTES)?;
+    talk.end()
 }
 
-/// Sends so many messages at the time 0.
-fn send_many(
-    alloc: Global,
-    queue: &mut QueueState,
-    count: u32,
-    ticks: &mut Ticks,
-) -> Result<(), Fault> {
-    let send = step(alloc, "0 send 1 a")?;
-    for _ in 0..count {
-        queue.perform(alloc, send.at, &send.command, ticks)?;
+impl Talk {
+    /// Sends so many messages at the time 0.
+    fn send_many(&mut self, count: u32) -> Result<(), Fault> {
+        let send = step(self.alloc, "0 send 1 a")?;
+        for _ in 0..count {
+            self.queue
+                .perform(self.alloc, send.at, &send.command, &mut self.ticks)?;
+        }
+        Ok(())
     }
-    Ok(())
-}
 
-/// Receives so many messages at the time 1, one by one, and deletes each.
-fn take_many(
-    alloc: Global,
-    queue: &mut QueueState,
-    count: u32,
-    ticks: &mut Ticks,
-) -> Result<(), Fault> {
-    let at = moment("1")?;
-    for _ in 0..count {
-        let offers = queue.receive(alloc, at, 1, None, ticks)?;
+    /// Receives a message at a time, and deletes it.
+    fn take_one(&mut self, at: Moment) -> Result<(), Fault> {
+        let offers = self
+            .queue
+            .receive(self.alloc, at, 1, None, &mut self.ticks)?;
         for offer in offers.as_slice() {
             let handle = Handle {
                 uid: 2,
                 number: offer.number,
                 receipt: offer.receipt,
             };
-            queue.delete(alloc, at, handle, ticks)?;
+            self.queue.delete(self.alloc, at, handle, &mut self.ticks)?;
         }
+        Ok(())
     }
-    Ok(())
+
+    /// Receives so many messages at the time 1, one by one, and deletes each.
+    fn take_many(&mut self, count: u32) -> Result<(), Fault> {
+        let at = known_moment("1")?;
+        for _ in 0..count {
+            self.take_one(at)?;
+        }
+        Ok(())
+    }
 }
 
 /// 400,000 messages are sent, and 100,000 of them are received and deleted. A body that goes through the
 /// entries of the journal at each call reads over 10^11 of them.
 #[test]
 fn many_messages(rt: HostRuntime) -> Result<(), Fail> {
-    let ticks = &mut Ticks::new(&rt);
-    let queue = &mut open(rt.alloc(), "16777216 0 DelaySeconds 0")?;
-    send_many(rt.alloc(), queue, 400_000, ticks)?;
-    take_many(rt.alloc(), queue, 100_000, ticks)?;
-    ask(&rt, &rt, queue, TAKEN)
+    let mut talk = Talk::new(&rt)?;
+    talk.hold(&rt, "open 16777216 0 DelaySeconds 0")?;
+    talk.send_many(400_000)?;
+    talk.take_many(100_000)?;
+    talk.hold(&rt, TAKEN)
 }
 
 const TAKEN: &str =

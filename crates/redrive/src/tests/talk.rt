@@ -3,7 +3,6 @@
 use super::*;
 
 /// A registry, a name directory, what their calls take, and what was told last.
-#[derive(Drop)]
 pub(super) struct Talk {
     alloc: Global,
     house: House,
@@ -12,58 +11,107 @@ pub(super) struct Talk {
     text: String,
 }
 
+/// Written out, so that a function which lets a conversation go has one step for all its parts in its proof.
+impl Drop for Talk {
+    fn drop(self) {
+        let Talk {
+            alloc: _alloc,
+            house: _house,
+            catalog: _catalog,
+            ticks: _ticks,
+            text: _text,
+        } = self;
+    }
+}
+
+/// The first word of a text, and what stands behind it.
+fn first_word(text: &str) -> (&str, &str) {
+    text.split_once(' ').unwrap_or((text, ""))
+}
+
+/// The number that a text is, and 0 where it is none.
+fn number(text: &str) -> u64 {
+    text.parse::<u64>().unwrap_or(0)
+}
+
 /// The parts of a line: its call, the queue's name, its uid, the moment, and a number.
 fn parts(line: &str) -> (&str, &str, u64, Moment, u64) {
-    let mut words = line.split(' ');
-    let call = words.next().unwrap_or("");
-    let name = words.next().unwrap_or("");
-    let at = Moment::new(words.next().unwrap_or("").parse().unwrap_or(0));
-    let number = words.next().unwrap_or("").parse().unwrap_or(0);
-    let uid = name.parse().unwrap_or(0);
-    (call, name, uid, at.unwrap_or(Moment::zero()), number)
+    let (call, rest) = first_word(line);
+    let (name, rest) = first_word(rest);
+    let (at, rest) = first_word(rest);
+    let (more, _) = first_word(rest);
+    let at = Moment::new(number(at)).unwrap_or(Moment::zero());
+    (call, name, number(name), at, number(more))
+}
+
+/// Requests the attribute of a word that has an equals sign.
+fn request(alloc: Global, wish: &mut Wish, word: &str) -> Result<(), Fault> {
+    match word.split_once('=') {
+        Some((name, value)) => wish.put(alloc, name, value),
+        None => Ok(()),
+    }
 }
 
 /// The attributes that a line requests: each word of it with an equals sign.
 fn requested(alloc: Global, line: &str) -> Result<Wish, Fault> {
     let mut wish = Wish::new();
     for word in line.split(' ') {
-        if let Some((name, value)) = word.split_once("=") {
-            wish.put(alloc, name, value)?;
-        }
+        request(alloc, &mut wish, word)?;
     }
     Ok(wish)
 }
 
-/// The step of a line. A call that is none has a look.
-fn step(alloc: Global, line: &str) -> Result<HouseStep, Fault> {
-    let (call, name, uid, at, number) = parts(line);
-    let (source, target, delay, timeout) = (uid, number, None, None);
-    let wish = requested(alloc, line)?;
-    let command = match call {
-        "create" => {
-            let name = QueueName::read(name)?;
-            return Ok(HouseStep::Create { at, name, wish });
-        }
-        "delete" => return Ok(HouseStep::Delete { at, uid }),
-        "hand" => return Ok(HouseStep::HandOver { at, source }),
-        "confirm" => return Ok(HouseStep::Confirm { at, source }),
-        "advance" => return Ok(HouseStep::Advance { at }),
+/// The command of a line. A call that is none has a look.
+fn command(alloc: Global, call: &str, number: u64, line: &str) -> Result<Command, Fault> {
+    let (delay, timeout) = (None, None);
+    match call {
         "send" => {
             let body = String::from_str(alloc, "hello")?;
             let content = Content::new(alloc, body, Vec::new(alloc))?;
-            Command::Send { content, delay }
+            Ok(Command::Send { content, delay })
         }
         "receive" => {
             let maximum = Maximum::new(1).ok_or(Fault::InvalidParameterValue)?;
-            Command::Receive { maximum, timeout }
+            Ok(Command::Receive { maximum, timeout })
         }
-        "set" => Command::Set { wish, target },
-        "settle" => Command::Settle { number },
-        "orphan" => Command::Orphan { target },
-        "close" => Command::Close,
-        _ => Command::Look,
-    };
-    Ok(HouseStep::Perform { at, uid, command })
+        "set" => {
+            let (wish, target) = (requested(alloc, line)?, number);
+            Ok(Command::Set { wish, target })
+        }
+        "settle" => Ok(Command::Settle { number }),
+        "orphan" => Ok(Command::Orphan { target: number }),
+        "close" => Ok(Command::Close),
+        _ => Ok(Command::Look),
+    }
+}
+
+/// The step of a line. A call that is none is a command.
+fn step(alloc: Global, line: &str) -> Result<HouseStep, Fault> {
+    let (call, name, uid, at, number) = parts(line);
+    match call {
+        "create" => {
+            let (name, wish) = (QueueName::read(name)?, requested(alloc, line)?);
+            Ok(HouseStep::Create { at, name, wish })
+        }
+        "delete" => Ok(HouseStep::Delete { at, uid }),
+        "hand" => Ok(HouseStep::HandOver { at, source: uid }),
+        "confirm" => Ok(HouseStep::Confirm { at, source: uid }),
+        "advance" => Ok(HouseStep::Advance { at }),
+        _ => {
+            let command = command(alloc, call, number, line)?;
+            Ok(HouseStep::Perform { at, uid, command })
+        }
+    }
+}
+
+/// Tells a value as it prints itself.
+fn tell<T: Debug>(text: &mut String, value: &T) -> Result<(), Fault> {
+    Ok(write!(text, "{value:?}")?)
+}
+
+/// Tells a word and a number.
+fn tell_number(text: &mut String, word: &str, number: u64) -> Result<(), Fault> {
+    Ok(write!(text, "{word} {number}")?)
 }
 
 /// Tells what a look sees: the clock, the entries of the journal, and how many messages are visible,
@@ -95,13 +143,33 @@ fn same<T: Debug + Drop + PartialEq>(line: &str, told: T, wanted: T) -> Result<(
     Err(Fail::new(format_args!("{line}: {told:?}, not {wanted:?}")))
 }
 
+/// Tells a reply, each kind in its own words.
+fn tell_reply(text: &mut String, reply: &Reply) -> Result<(), Fault> {
+    match reply {
+        Reply::Sent(posted) => tell_number(text, "sent", posted.number),
+        Reply::Received(offers) => tell_number(text, "offered", offers.as_slice().len() as u64),
+        Reply::Looked(look) => tell_look(text, look),
+        other => {
+            text.push_str("Performed(")?;
+            tell(text, other)?;
+            Ok(text.push(')')?)
+        }
+    }
+}
+
+/// A registry with the limits and the queues of a configuration.
+fn configured(alloc: Global, config: &str) -> Result<House, Fault> {
+    let config = config_from_text(alloc, config).map_err(|_| Fault::OutOfMemory)?;
+    House::new(alloc, &config, Moment::zero())
+}
+
 impl Talk {
     /// A registry with the limits and the queues of a configuration, and an empty directory.
     fn open(rt: &HostRuntime, config: &str) -> Result<Talk, Fault> {
         let (alloc, ticks) = (rt.alloc(), Ticks::new(rt));
-        let config = config_from_text(alloc, config).map_err(|_| Fault::OutOfMemory)?;
-        let house = House::new(alloc, &config, Moment::zero())?;
-        let (catalog, text) = (Catalog::new(alloc)?, String::with_capacity(alloc, 200)?);
+        let text = String::with_capacity(alloc, 200)?;
+        let catalog = Catalog::new(alloc)?;
+        let house = configured(alloc, config)?;
         Ok(Talk {
             alloc,
             house,
@@ -121,91 +189,91 @@ impl Talk {
     /// Makes the call of a step.
     fn make(&mut self, step: HouseStep) -> Result<HouseReply, Fault> {
         let (alloc, house, ticks) = (self.alloc, &mut self.house, &mut self.ticks);
-        Ok(match step {
+        match step {
             HouseStep::Create { at, name, wish } => {
-                HouseReply::Created(house.create(alloc, at, name, wish)?)
+                Ok(HouseReply::Created(house.create(alloc, at, name, wish)?))
             }
             HouseStep::Delete { at, uid } => {
-                HouseReply::Deleted(house.take_queue(alloc, uid, at, ticks)?)
+                Ok(HouseReply::Deleted(house.take_queue(alloc, uid, at, ticks)?))
             }
             HouseStep::Perform { at, uid, command } => {
-                HouseReply::Performed(house.step(alloc, uid, at, command, ticks)?)
+                Ok(HouseReply::Performed(house.step(alloc, uid, at, command, ticks)?))
             }
             HouseStep::HandOver { at, source } => {
-                HouseReply::HandedOver(Ok(house.arrive_one(alloc, source, at, ticks)?))
+                Ok(HouseReply::HandedOver(Ok(house.arrive_one(alloc, source, at, ticks)?)))
             }
-            HouseStep::Confirm { .. } => return Err(Fault::UnsupportedOperation),
+            HouseStep::Confirm { .. } => Err(Fault::UnsupportedOperation),
             HouseStep::Advance { at } => {
                 house.advance_all(at, ticks);
-                HouseReply::Advanced
+                Ok(HouseReply::Advanced)
             }
-        })
+        }
     }
 
     /// Tells the answer to a step, each kind in its own words: of a queue that was deleted what a look
     /// sees.
-    fn tell(&mut self, answer: Result<HouseReply, Fault>) -> Result<(), Fault> {
+    fn tell(&mut self, answer: &mut Result<HouseReply, Fault>) -> Result<(), Fault> {
         let text = &mut self.text;
         text.clear();
         match answer {
-            Ok(HouseReply::Created(uid)) => write!(text, "created {uid}")?,
-            Ok(HouseReply::Deleted(mut queue)) => {
+            Ok(HouseReply::Created(uid)) => tell_number(text, "created", *uid),
+            Ok(HouseReply::Deleted(queue)) => {
                 write!(text, "deleted {}: ", queue.uid())?;
-                let look = queue.look(Moment::zero(), &mut self.ticks);
-                tell_look(text, &look)?;
+                tell_look(text, &queue.look(Moment::zero(), &mut self.ticks))
             }
-            Ok(HouseReply::Performed(Reply::Sent(posted))) => {
-                write!(text, "sent {}", posted.number)?;
-            }
-            Ok(HouseReply::Performed(Reply::Received(offers))) => {
-                write!(text, "offered {}", offers.as_slice().len())?;
-            }
-            Ok(HouseReply::Performed(Reply::Looked(look))) => tell_look(text, &look)?,
-            Ok(HouseReply::HandedOver(Ok(moved))) => write!(text, "{moved:?}")?,
-            Ok(HouseReply::HandedOver(Err(fault))) | Err(fault) => text.push_str(fault.name())?,
-            Ok(other) => write!(text, "{other:?}")?,
+            Ok(HouseReply::Performed(reply)) => tell_reply(text, reply),
+            Ok(HouseReply::HandedOver(Ok(moved))) => tell(text, moved),
+            Ok(HouseReply::HandedOver(Err(fault))) | Err(fault) => Ok(text.push_str(fault.name())?),
+            Ok(other) => tell(text, other),
         }
-        Ok(())
+    }
+
+    /// Makes the call of a line that is a step, and tells its answer.
+    fn act(&mut self, line: &str) -> Result<(), Fault> {
+        let step = step(self.alloc, line)?;
+        let mut answer = self.make(step);
+        match answer {
+            Err(fault) => Err(fault),
+            _ => self.tell(&mut answer),
+        }
     }
 
     /// Makes the call of a line, and tells its answer.
     fn call(&mut self, line: &str) -> Result<(), Fault> {
         let (call, name, uid, at, _) = parts(line);
-        let (alloc, target) = (self.alloc, at.milliseconds());
-        let (house, catalog, text) = (&mut self.house, &mut self.catalog, &mut self.text);
+        let (alloc, house, text) = (self.alloc, &mut self.house, &mut self.text);
         text.clear();
         match call {
-            "find" => write!(text, "{:?}", house.find(&QueueName::read(name)?))?,
-            "state" => write!(text, "{}", house.state(uid).is_some())?,
-            "list" => tell_names(text, &house.list(alloc, name)?)?,
-            "sources" => tell_names(text, &house.sources(alloc, uid)?)?,
-            "move" => write!(
-                text,
-                "{:?}",
-                house.move_one(alloc, uid, at, &mut self.ticks)?
-            )?,
-            "drop" => write!(
-                text,
-                "{:?}",
-                house.delete_queue(alloc, uid, at, &mut self.ticks)?
-            )?,
-            "entry" => write!(text, "{:?}", catalog.find(&QueueName::read(name)?))?,
-            "names" => tell_names(text, &catalog.list(alloc, name)?)?,
-            "users" => tell_names(text, &catalog.sources(alloc, uid)?)?,
-            "remove" => write!(text, "{}", catalog.remove(uid))?,
-            "target" => write!(text, "{}", catalog.set_target(uid, target))?,
-            "add" => {
-                let name = QueueName::read(name)?;
-                if catalog.find(&name).is_none() {
-                    write!(text, "added {}", catalog.add(alloc, name, target)?)?;
-                }
-            }
+            "find" => tell(text, &house.find(&QueueName::read(name)?)),
+            "state" => tell(text, &house.state(uid).is_some()),
+            "list" => tell_names(text, &house.list(alloc, name)?),
+            "sources" => tell_names(text, &house.sources(alloc, uid)?),
+            "move" => tell(text, &house.move_one(alloc, uid, at, &mut self.ticks)?),
+            "drop" => tell(text, &house.delete_queue(alloc, uid, at, &mut self.ticks)?),
+            "entry" | "names" | "users" | "remove" | "target" | "add" => self.look_up(line),
+            _ => self.act(line),
+        }
+    }
+
+    /// Makes the call of a line at the name directory, and tells its answer.
+    fn look_up(&mut self, line: &str) -> Result<(), Fault> {
+        let (call, name, uid, at, _) = parts(line);
+        let (alloc, target) = (self.alloc, at.milliseconds());
+        let (catalog, text) = (&mut self.catalog, &mut self.text);
+        match call {
+            "entry" => tell(text, &catalog.find(&QueueName::read(name)?)),
+            "names" => tell_names(text, &catalog.list(alloc, name)?),
+            "users" => tell_names(text, &catalog.sources(alloc, uid)?),
+            "remove" => tell(text, &catalog.remove(uid)),
+            "target" => tell(text, &catalog.set_target(uid, target)),
             _ => {
-                let answer = self.make(step(alloc, line)?)?;
-                self.tell(Ok(answer))?;
+                let name = QueueName::read(name)?;
+                if catalog.find(&name).is_some() {
+                    return Ok(());
+                }
+                tell_number(text, "added", catalog.add(alloc, name, target)?)
             }
         }
-        Ok(())
     }
 
     /// Has a conversation, in which each call has to answer what its line says. One that finds no memory
@@ -220,7 +288,7 @@ impl Talk {
                 answer = self.call(call);
             }
             if let Err(fault) = answer {
-                self.tell(Err(fault))?;
+                self.tell(&mut Err(fault))?;
             }
             let told = self.text.as_str();
             if !is_again || told != or {
@@ -240,29 +308,49 @@ impl Talk {
         self.house.run(self.alloc, &steps, 0, 0, &mut self.ticks)
     }
 
+    /// Runs a step again alone, and tells its answer and what is told of the queues then.
+    fn run_again(&mut self, line: &str, metrics: &mut Vec<QueueMetrics>) -> Result<(), Fault> {
+        let mut again = self.run(line)?;
+        *metrics = again.metrics;
+        for answer in again.answers.iter_mut() {
+            self.tell(answer)?;
+        }
+        Ok(())
+    }
+
+    /// Counts the queues: how many there are, and each by its uid and its visible messages.
+    fn count(&mut self, metrics: &Vec<QueueMetrics>) -> Result<(), Fault> {
+        self.text.clear();
+        write!(self.text, "{}", metrics.len())?;
+        for queue in metrics {
+            write!(self.text, " {}:{}", queue.uid, queue.gauges.visible)?;
+        }
+        Ok(())
+    }
+
+    /// Compares what a list of steps gave with what each line says, and the queues after it with `counts`. A
+    /// step that finds no memory is run again alone.
+    fn compare(&mut self, text: &str, run: &mut HouseRun, counts: &str) -> Result<(), Fail> {
+        same(text, run.answers.len(), text.lines().count())?;
+        for (line, answer) in text.lines().zip(run.answers.iter_mut()) {
+            let (_, wanted) = line.split_once(" => ").ok_or("an answer")?;
+            self.tell(answer)?;
+            if self.text.as_str() == Fault::OutOfMemory.name() {
+                self.run_again(line, &mut run.metrics)?;
+            }
+            same(line, self.text.as_str(), wanted)?;
+        }
+        self.count(&run.metrics)?;
+        same(text, self.text.as_str(), counts)
+    }
+
     /// Runs a list of steps, each of which has to answer what its line says, and counts the queues after
-    /// it: how many there are, and each by its uid and its visible messages. A step that finds no memory is run again alone.
+    /// it. A list that finds no memory for what it gives is run again.
     pub(super) fn list(&mut self, text: &str, counts: &str) -> Result<(), Fail> {
         let mut run = match self.run(text) {
             Err(Fault::OutOfMemory) => self.run(text)?,
             run => run?,
         };
-        same(text, run.answers.len(), text.lines().count())?;
-        for (line, answer) in text.lines().zip(run.answers) {
-            let (_, wanted) = line.split_once(" => ").ok_or("an answer")?;
-            self.tell(answer)?;
-            if self.text.as_str() == Fault::OutOfMemory.name() {
-                let mut again = self.run(line)?;
-                self.tell(again.answers.pop().ok_or("an answer")?)?;
-                run.metrics = again.metrics;
-            }
-            same(line, self.text.as_str(), wanted)?;
-        }
-        self.text.clear();
-        write!(self.text, "{}", run.metrics.len())?;
-        for queue in run.metrics {
-            write!(self.text, " {}:{}", queue.uid, queue.gauges.visible)?;
-        }
-        same(text, self.text.as_str(), counts)
+        self.compare(text, &mut run, counts)
     }
 }

@@ -12,9 +12,9 @@ loop-rule-preserved c =
     let few : c.rule-item.result.minutes ≤ longest_window = omega (arith, minutes, c.rule.invariant.minutes.1) in
     record {
       alarms =
-      c.in_ok-push.ensures.items ∙ ap₂ (λ (a : List KeptAlarm) (b : KeptAlarm). a ++ b ∷ []) c.loop-rule.invariant.alarms (c.in_ok-new.ensures ∙ ap new_alarm c.rule.view_is ∙ ap new_alarm c.rule-item.is)
-      ∙ sym (map_more new_alarm c.args.rules.now c.loop-rule.rule-index c.rule-item.result c.loop-rule-test.true);
+          c.in_ok-push.ensures.items ∙ ap₂ (λ (a : List KeptAlarm) (b : KeptAlarm). a ++ b ∷ []) c.loop-rule.invariant.alarms (c.in_ok-new.ensures ∙ ap new_alarm c.rule.view_is ∙ ap new_alarm c.rule-item.is)
+          ∙ sym (map_more new_alarm c.args.rules.now c.loop-rule.rule-index c.rule-item.result c.loop-rule-test.true);
       allowed =
-      All-more (λ (rule : Rule). rule.minutes ≤ longest_window) c.args.rules.now c.loop-rule.rule-index c.rule-item.result c.loop-rule-test.true c.loop-rule.invariant.allowed
-      (subst (λ (rule : Rule). rule.minutes ≤ longest_window) c.rule-item.is few);
+          All-more (λ (rule : Rule). rule.minutes ≤ longest_window) c.args.rules.now c.loop-rule.rule-index c.rule-item.result c.loop-rule-test.true c.loop-rule.invariant.allowed
+          (subst (λ (rule : Rule). rule.minutes ≤ longest_window) c.rule-item.is few);
     }

@@ -32,5 +32,5 @@ invariant_of-result c =
       index,
       c.new-3.ensures,
       watch-opened c.args.at c.args.uid c.args.settings c.args.rules.items c.in_ok-watch.watch (c.in_ok-watch.ensures.window ∙ ap opened_at c.minute_of.ensures) (subst (λ (rules : List Rule). c.in_ok-watch.watch.alarms.items ≡ map new_alarm rules) c.as_slice.ensures.value c.in_ok-watch.ensures.alarms)
-      (subst (λ (rules : List Rule). All (λ rule. rule.minutes ≤ longest_window) rules) c.as_slice.ensures.value c.in_ok-watch.ensures.allowed),
+          (subst (λ (rules : List Rule). All (λ rule. rule.minutes ≤ longest_window) rules) c.as_slice.ensures.value c.in_ok-watch.ensures.allowed),
     )
