@@ -108,16 +108,16 @@ impl Talk {
     }
 }
 
-/// 400,000 messages are sent, and 100,000 of them are received and deleted. A body that goes through the
-/// entries of the journal at each call reads over 10^11 of them.
+/// 40,000 messages are sent, and 10,000 of them are received and deleted. A body that goes through the
+/// entries of the journal at each call reads over 10^9 of them.
 #[test]
 fn many_messages(rt: HostRuntime) -> Result<(), Fail> {
     let mut talk = Talk::new(&rt)?;
     talk.hold(&rt, "open 16777216 0 DelaySeconds 0")?;
-    talk.send_many(400_000)?;
-    talk.take_many(100_000)?;
+    talk.send_many(40_000)?;
+    talk.take_many(10_000)?;
     talk.hold(&rt, TAKEN)
 }
 
 const TAKEN: &str =
-    "1 look => (Gauges { visible: 300000, delayed: 0, in_flight: 0, age: 0 }, 600001, 1, (0, 0), None, false)";
+    "1 look => (Gauges { visible: 30000, delayed: 0, in_flight: 0, age: 0 }, 60001, 1, (0, 0), None, false)";
