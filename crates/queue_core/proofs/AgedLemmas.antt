@@ -1,5 +1,5 @@
 -- The age of the oldest message, by the least number that is there.
-use Rattle.std.proofs.Common.{◌≡◌, ℕ, ◌-◌, ◌<◌, ◌≤◌, ◌/◌, true, false, Some, None, refl, sym, ◌∙◌, arith}
+use Rattle.std.proofs.Common.{◌≡◌, ℕ, ◌-◌, ◌/◌, true, Some, None, refl, sym, ◌∙◌, arith}
 use Rattle.queue_core.specs.declared.facts.Message.{Message}
 use Rattle.queue_core.specs.declared.index.MessageIndex.{MessageIndex}
 use Rattle.queue_core.specs.Messages.{message_count}
