@@ -1,17 +1,16 @@
--- The list of the messages that are there stays that of their slots: where room is made in it, and where one comes or goes. Its first number is that of the oldest message.
-use Rattle.std.proofs.Common.{◌≡◌, ◌≢◌, ℕ, zero, suc, ◌+◌, ◌-◌, ◌<◌, ◌≤◌, ◌^◌, Bool, true, false, cond, ◌&&◌, nat_eq, List, [], ◌∷◌, ◌++◌, length, get_or, count_by, Option, Some, None, is_some, inl, inr, refl, sym, ap, subst, ◌∙◌, arith, eq-eqb}
-use Rattle.std.specs.Prelude.{slice_index, slice_set, replicate, IsSome}
+-- The list of the messages that are there stays that of their slots: where room is made in it, and where one comes or goes.
+use Rattle.std.proofs.Common.{◌≡◌, ◌≢◌, ℕ, zero, suc, ◌+◌, ◌-◌, ◌<◌, ◌≤◌, Bool, true, false, cond, List, length, get_or, Option, Some, None, is_some, inl, inr, sym, ap, subst, ◌∙◌, arith}
+use Rattle.std.specs.Prelude.{slice_index, slice_set}
 use Rattle.std.specs.Cmp.{nat_cmp_total}
 use Rattle.std.specs.FinMap.{FinMap, contains_key, get, len, get-empty, get-insert, get-remove, len-empty, len-remove, nat_cmp-IsAntisymmetric, same_map}
 use Rattle.std.specs.FinMap as finite
 use Rattle.std.specs.Ordering.{nat_cmp}
-use Rattle.std.proofs.lemmas.Bool.{false≢true, cases_eq, cases_lt, false_from_ne_true}
+use Rattle.std.proofs.lemmas.Bool.{cases_eq}
 use Rattle.std.proofs.lemmas.Bool.Decides.{nat_tests}
 use Rattle.std.proofs.lemmas.List.{get_or_default, get_or-set_same, get_or-set_other, length-set}
-use Rattle.std.proofs.lemmas.Option.{none-some, same_Some}
-use Rattle.age_index.specs.Ages.{IsFirst, IsNumberAt, slots_without}
+use Rattle.age_index.specs.Ages.{IsNumberAt, slots_without}
 use Rattle.queue_core.specs.declared.ages.Ages.{Ages}
-use Rattle.queue_core.specs.Ages.{place_if, AreAges, IsFirstHere, IsLonger, HasPlaces, CanList, IsListed}
+use Rattle.queue_core.specs.Ages.{place_if, AreAges, IsLonger, CanList, IsListed}
 
 -- ---- how many numbers a map has
 
@@ -43,10 +42,6 @@ len_below m (suc count) none =
 
 same_place : (here : Bool) (x y : Ages) (n : ℕ) → slice_index y.places.items n ≡ slice_index x.places.items n → place_if here x n ≡ place_if here y n
 same_place here x y n e = ap (λ place. cond here (Some place) None) (sym e)
-
--- it stays as it is
-pub listed_same : (number : ℕ) (here : Bool) (x : Ages) → CanList number here x → IsListed number here here x x
-listed_same number here x can = record { found = can.found; others = λ n other. refl; places = λ n other. refl; len = refl; spare = refl }
 
 -- it is put in at a slot, which its place tells then
 pub put_in_list : (number slot : ℕ) (x y : Ages) → CanList number false x → y.list.slots ≡ finite.insert x.list.slots number slot → y.list.spare + 1 ≡ x.list.spare
@@ -125,9 +120,6 @@ ages_longer here count lacking x y is more = record {
   room = omega (arith, is.room, more.spare);
 }
 
-pub longer_same : (x : Ages) → IsLonger x x
-longer_same x = record { slots = refl; places = λ n. refl; len = omega arith; spare = omega arith }
-
 -- for one number more
 pub ages_more : (here : ℕ → Bool) (count lacking lacking' : ℕ) (x : Ages) → AreAges here count lacking x → count < length x.places.items → lacking' ≡ lacking → AreAges here (count + 1) lacking' x
 ages_more here count lacking lacking' x is within same = record { found = is.found; within = omega arith; room = omega (arith, is.room) }
@@ -135,24 +127,3 @@ ages_more here count lacking lacking' x is within same = record { found = is.fou
 -- no more numbers than there ever were
 pub few_listed : (here : ℕ → Bool) (count lacking : ℕ) (x : Ages) → AreAges here count lacking x → ((n : ℕ) → count ≤ n → here n ≡ false) → len x.list.slots ≤ count
 few_listed here count lacking x is none = len_below x.list.slots count (λ n past. is.found n ∙ ap (λ b. place_if b x n) (none n past))
-
--- ---- the first
-
-here_by : (here : Bool) (x : Ages) (n : ℕ) (o : Option ℕ) → o ≡ place_if here x n → IsSome o → here ≡ true
-here_by true x n o e is = refl
-here_by false x n o e is = absurd (false≢true (sym (ap is_some e) ∙ is))
-
-listed_if : (here : Bool) (x : Ages) (n : ℕ) (o : Option ℕ) → o ≡ place_if here x n → here ≡ true → IsSome o
-listed_if true x n o e is = ap is_some e
-listed_if false x n o e is = absurd (false≢true is)
-
-nowhere : (here : Bool) (x : Ages) (n : ℕ) (o : Option ℕ) → o ≡ place_if here x n → o ≡ None → here ≡ false
-nowhere true x n o e none = absurd (none-some (slice_index x.places.items n) (sym none ∙ e))
-nowhere false x n o e none = refl
-
-pub first_is : (here : ℕ → Bool) (count lacking : ℕ) (x : Ages) (first : Option ℕ) → AreAges here count lacking x → IsFirst x.list.slots first → IsFirstHere here first
-first_is here count lacking x None is none = λ n. nowhere (here n) x n (get x.list.slots n) (is.found n) (none n)
-first_is here count lacking x (Some least) is first = (
-  here_by (here least) x least (get x.list.slots least) (is.found least) first.0,
-  λ n below. false_from_ne_true (here n) (λ h. let more = first.1 n (listed_if (here n) x n (get x.list.slots n) (is.found n) h) in omega arith),
-)
