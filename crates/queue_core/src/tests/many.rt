@@ -72,14 +72,25 @@ fn many_minutes(rt: HostRuntime) -> Result<(), Fail> {
 }
 
 impl Talk {
+    /// Performs a step, whatever it answers but a refusal.
+    fn do_step(&mut self, step: &Step) -> Result<(), Fault> {
+        self.queue
+            .perform(self.alloc, step.at, &step.command, &mut self.ticks)?;
+        Ok(())
+    }
+
+    /// Performs a step so many times.
+    fn repeat(&mut self, step: &Step, count: u32) -> Result<(), Fault> {
+        for _ in 0..count {
+            self.do_step(step)?;
+        }
+        Ok(())
+    }
+
     /// Sends so many messages at the time 0.
     fn send_many(&mut self, count: u32) -> Result<(), Fault> {
         let send = step(self.alloc, "0 send 1 a")?;
-        for _ in 0..count {
-            self.queue
-                .perform(self.alloc, send.at, &send.command, &mut self.ticks)?;
-        }
-        Ok(())
+        self.repeat(&send, count)
     }
 
     /// Receives a message at a time, and deletes it.
