@@ -111,10 +111,21 @@ impl Talk {
         })
     }
 
-    /// The same after a conversation.
-    pub(super) fn after(rt: &HostRuntime, config: &str, text: &str) -> Result<Talk, Fail> {
-        let mut talk = Talk::open(rt, config).or_else(|_| Talk::open(rt, config))?;
-        talk.hold(text)?;
+    /// The same after a conversation. One that finds no memory to begin with begins again, which is counted.
+    pub(super) fn after(
+        rt: &HostRuntime,
+        config: &str,
+        text: &str,
+        refused: &mut u32,
+    ) -> Result<Talk, Fail> {
+        let mut talk = match Talk::open(rt, config) {
+            Err(Fault::OutOfMemory) => {
+                *refused = refused.saturating_add(1);
+                Talk::open(rt, config)?
+            }
+            talk => talk?,
+        };
+        talk.hold(text, refused)?;
         Ok(talk)
     }
 
@@ -209,14 +220,15 @@ impl Talk {
     }
 
     /// Has a conversation, in which each call has to answer what its line says. One that finds no memory
-    /// is made again, and may then answer what stands behind `or`.
-    pub(super) fn hold(&mut self, text: &str) -> Result<(), Fail> {
+    /// is made again, which is counted, and may then answer what stands behind `or`.
+    pub(super) fn hold(&mut self, text: &str, refused: &mut u32) -> Result<(), Fail> {
         for line in text.lines() {
             let (call, wanted) = line.split_once(" => ").ok_or("an answer")?;
             let (wanted, or) = wanted.split_once(" or ").unwrap_or((wanted, wanted));
             let mut answer = self.call(call);
             let is_again = answer == Err(Fault::OutOfMemory);
             if is_again {
+                *refused = refused.saturating_add(1);
                 answer = self.call(call);
             }
             if let Err(fault) = answer {
@@ -241,10 +253,19 @@ impl Talk {
     }
 
     /// Runs a list of steps, each of which has to answer what its line says, and counts the queues after
-    /// it: how many there are, and each by its uid and its visible messages. A step that finds no memory is run again alone.
-    pub(super) fn list(&mut self, text: &str, counts: &str) -> Result<(), Fail> {
+    /// it: how many there are, and each by its uid and its visible messages. A step that finds no memory is run again
+    /// alone, which is counted.
+    pub(super) fn list(
+        &mut self,
+        text: &str,
+        counts: &str,
+        refused: &mut u32,
+    ) -> Result<(), Fail> {
         let mut run = match self.run(text) {
-            Err(Fault::OutOfMemory) => self.run(text)?,
+            Err(Fault::OutOfMemory) => {
+                *refused = refused.saturating_add(1);
+                self.run(text)?
+            }
             run => run?,
         };
         same(text, run.answers.len(), text.lines().count())?;
@@ -252,6 +273,7 @@ impl Talk {
             let (_, wanted) = line.split_once(" => ").ok_or("an answer")?;
             self.tell(answer)?;
             if self.text.as_str() == Fault::OutOfMemory.name() {
+                *refused = refused.saturating_add(1);
                 let mut again = self.run(line)?;
                 self.tell(again.answers.pop().ok_or("an answer")?)?;
                 run.metrics = again.metrics;
