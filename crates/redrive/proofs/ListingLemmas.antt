@@ -1,6 +1,6 @@
 -- Names gathered and put in order, one after another.
-use Rattle.std.proofs.Common.{◌≡◌, ℕ, zero, suc, ◌+◌, ◌<◌, Bool, true, false, cond, List, [], ◌∷◌, ◌++◌, length, get_or, take, map, refl, sym, ap, ◌∙◌, arith}
-use Rattle.std.specs.Prelude.{nat_eq, filter, fold}
+use Rattle.std.proofs.Common.{◌≡◌, ℕ, zero, suc, ◌+◌, ◌<◌, Bool, true, false, cond, List, [], ◌∷◌, ◌++◌, length, get_or, take, map, Result, Ok, Err, refl, sym, ap, ◌∙◌, arith}
+use Rattle.std.specs.Prelude.{nat_eq, filter, fold, OnErr}
 use Rattle.std.specs.List.{starts_with}
 use Rattle.std.proofs.lemmas.List.{take_more}
 use Rattle.redrive.specs.Listing.{comes_before, put_name, in_order, names_beginning}
@@ -64,7 +64,7 @@ length-put [] name = refl
 length-put (x ∷ xs) name = put-if (comes_before name x) name x xs (length-put xs name)
 
 length-fold : (order names : List (List ℕ)) → length (fold put_name order names) ≡ length names + length order
-length-fold order [] = refl
+length-fold order [] = omega arith
 length-fold order (x ∷ names) = let next = length-fold (put_name order x) names in let one = length-put order x in omega arith
 
 -- as many as before they were put in order
@@ -87,3 +87,8 @@ some-begins key prefix [] i x within is passes = absurd (omega (arith, within))
 some-begins key prefix (y ∷ xs) zero x within is passes = rw (ap (λ (z : _). starts_with nat_eq (key z) prefix) (sym is) ∙ passes) (omega arith)
 some-begins key prefix (y ∷ xs) (suc i) x within is passes =
     some-if (starts_with nat_eq (key y) prefix) (key y) (names_beginning prefix (map key xs)) (some-begins key prefix xs i x (omega (arith, within)) is passes)
+
+-- what is so at any rate is so on a refusal
+pub on_refusal : {T E : Type 0} (answer : Result T E) {P : Type 0} → P → OnErr answer P
+on_refusal (Ok x) p = tt
+on_refusal (Err e) p = p

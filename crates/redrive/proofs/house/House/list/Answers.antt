@@ -4,7 +4,7 @@ use Rattle.std.proofs.lemmas.List.{take_all}
 use Rattle.queue_core.specs.Queue.{QueueHistory}
 use Rattle.redrive.specs.World.{World}
 use Rattle.redrive.specs.Listing.{names_beginning}
-use Rattle.redrive.proofs.ListingLemmas.{names_beginning-more, length-in_order, some-begins}
+use Rattle.redrive.proofs.ListingLemmas.{on_refusal, names_beginning-more, length-in_order, some-begins}
 use Rattle.redrive.proofs.house.House.list.Goals as goal
 
 pub loop-queue-preserved : goal.loop-queue-preserved
@@ -18,8 +18,9 @@ returns-in_err-add_name-clause-wants c =
     let same : c.as_slice-queue-items.result.now ≡ c.args.self.now.queues = c.as_slice-queue-items.ensures ∙ ap (λ (w : World). w.queues) c.self.view_is in
     let begins = some-begins (λ (q : QueueHistory). q.name) c.args.prefix.now c.as_slice-queue-items.result.now c.loop-queue.queue-index c.queue-item.result c.loop-queue-test.true c.queue-item.is
     (rw (sym c.name.ensures) c.in_err-add_name.ensures.wants) in
-    rw (length-in_order (names_beginning c.args.prefix.now (map (λ (q : QueueHistory). q.name) c.args.self.now.queues)))
-    (subst (λ (qs : List QueueHistory). 0 < length (names_beginning c.args.prefix.now (map (λ q. q.name) qs))) same begins)
+    on_refusal c.from_residual.result
+    (rw (length-in_order (names_beginning c.args.prefix.now (map (λ (q : QueueHistory). q.name) c.args.self.now.queues)))
+    (subst (λ (qs : List QueueHistory). 0 < length (names_beginning c.args.prefix.now (map (λ q. q.name) qs))) same begins))
 
 pub returns-clause-wants : goal.returns-clause-wants
 returns-clause-wants c =
