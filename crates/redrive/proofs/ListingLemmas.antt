@@ -1,9 +1,9 @@
 -- Names gathered and put in order, one after another.
-use Rattle.std.proofs.Common.{◌≡◌, ℕ, ◌+◌, ◌<◌, Bool, true, false, cond, List, [], ◌∷◌, ◌++◌, length, get_or, take, map, refl, sym, ap, ◌∙◌}
-use Rattle.std.specs.Prelude.{nat_eq, filter, fold}
+use Rattle.std.proofs.Common.{◌≡◌, ℕ, zero, suc, ◌+◌, ◌<◌, Bool, true, false, cond, List, [], ◌∷◌, ◌++◌, length, get_or, take, map, Result, Ok, Err, refl, sym, ap, ◌∙◌, arith}
+use Rattle.std.specs.Prelude.{nat_eq, filter, fold, OnErr}
 use Rattle.std.specs.List.{starts_with}
 use Rattle.std.proofs.lemmas.List.{take_more}
-use Rattle.redrive.specs.Listing.{put_name, in_order, names_beginning}
+use Rattle.redrive.specs.Listing.{comes_before, put_name, in_order, names_beginning}
 
 pub fold-if : (b : Bool) (order : List (List ℕ)) (x : List ℕ) (xs : List (List ℕ)) → fold put_name order (cond b (x ∷ xs) xs) ≡ fold put_name (cond b (put_name order x) order) xs
 fold-if true order x xs = refl
@@ -51,3 +51,44 @@ pub in_order-more : (names : List (List ℕ)) (i : ℕ) (name : List ℕ) → i 
 in_order-more names i name l is =
     ap in_order (take_more names i name l ∙ ap (λ (y : List ℕ). take i names ++ y ∷ []) (sym is))
     ∙ fold-push [] (take i names) name
+
+-- ---- how many names there are
+
+put-if : (b : Bool) (name x : List ℕ) (xs : List (List ℕ)) → length (put_name xs name) ≡ length xs + 1
+    → length (cond b (name ∷ x ∷ xs) (x ∷ put_name xs name)) ≡ length (x ∷ xs) + 1
+put-if true name x xs h = omega arith
+put-if false name x xs h = omega (arith, h)
+
+length-put : (xs : List (List ℕ)) (name : List ℕ) → length (put_name xs name) ≡ length xs + 1
+length-put [] name = refl
+length-put (x ∷ xs) name = put-if (comes_before name x) name x xs (length-put xs name)
+
+length-fold : (order names : List (List ℕ)) → length (fold put_name order names) ≡ length names + length order
+length-fold order [] = omega arith
+length-fold order (x ∷ names) = let next = length-fold (put_name order x) names in let one = length-put order x in omega arith
+
+-- as many as before they were put in order
+pub length-in_order : (names : List (List ℕ)) → length (in_order names) ≡ length names
+length-in_order names = let all = length-fold [] names in omega arith
+
+-- where one passes a test, there is one that passes
+some-if : {X : Type 0} (b : Bool) (x : X) (xs : List X) → 0 < length xs → 0 < length (cond b (x ∷ xs) xs)
+some-if true x xs h = omega arith
+some-if false x xs h = h
+
+pub some-passes : {X : Type 0} (p : X → Bool) (xs : List X) (i : ℕ) (x : X) → i < length xs → x ≡ get_or xs i x → p x ≡ true → 0 < length (filter p xs)
+some-passes p [] i x within is passes = absurd (omega (arith, within))
+some-passes p (y ∷ xs) zero x within is passes = rw (ap p (sym is) ∙ passes) (omega arith)
+some-passes p (y ∷ xs) (suc i) x within is passes = some-if (p y) y (filter p xs) (some-passes p xs i x (omega (arith, within)) is passes)
+
+pub some-begins : {X : Type 0} (key : X → List ℕ) (prefix : List ℕ) (xs : List X) (i : ℕ) (x : X) → i < length xs → x ≡ get_or xs i x
+    → starts_with nat_eq (key x) prefix ≡ true → 0 < length (names_beginning prefix (map key xs))
+some-begins key prefix [] i x within is passes = absurd (omega (arith, within))
+some-begins key prefix (y ∷ xs) zero x within is passes = rw (ap (λ (z : _). starts_with nat_eq (key z) prefix) (sym is) ∙ passes) (omega arith)
+some-begins key prefix (y ∷ xs) (suc i) x within is passes =
+    some-if (starts_with nat_eq (key y) prefix) (key y) (names_beginning prefix (map key xs)) (some-begins key prefix xs i x (omega (arith, within)) is passes)
+
+-- what is so at any rate is so on a refusal
+pub on_refusal : {T E : Type 0} (answer : Result T E) {P : Type 0} → P → OnErr answer P
+on_refusal (Ok x) p = tt
+on_refusal (Err e) p = p

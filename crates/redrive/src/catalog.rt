@@ -1,6 +1,6 @@
 //! The name directory.
 
-ghost use Rattle.std.specs.Prelude.{◌≡◌, OnOk, OnErr, IfOk, IfErr, None, Ok, Err, true, false, ◌==◌};
+ghost use Rattle.std.specs.Prelude.{◌≡◌, ◌<◌, length, OnOk, OnErr, IfOk, IfErr, None, Ok, Err, true, false, ◌==◌};
 ghost use Rattle.std.specs.List.{position};
 ghost use Rattle.message.specs.Fault.{Meets};
 ghost use Rattle.redrive.specs.Listed.{items_of};
@@ -127,11 +127,12 @@ impl Catalog {
     }
 
     /// The names that begin with a prefix, in the order in which they were added. `OutOfMemory` is the only
-    /// refusal.
+    /// refusal, where there is such a name.
     pub fn names_with(&self, alloc: Global, prefix: &str) -> Result<Vec<QueueName>, Fault>
         ensures ok { IfOk result (λ names. names.items ≡ names_with self.now prefix.now) }
         ensures directory { IsDirectory self.now }
         ensures errors { IfErr result (λ fault. fault ≡ Fault.OutOfMemory) }
+        ensures wants { OnErr result (0 < length (names_with self.now prefix.now)) }
     {
         let mut names = Vec::new(alloc);
         for queue in self.queues.as_slice() {
@@ -141,11 +142,12 @@ impl Catalog {
     }
 
     /// The names that begin with a prefix, in the order of their bytes. `OutOfMemory` is the only
-    /// refusal.
+    /// refusal, where there is such a name.
     pub fn list(&self, alloc: Global, prefix: &str) -> Result<Vec<QueueName>, Fault>
         ensures ok { IfOk result (λ names. names.items ≡ names_listed self.now prefix.now) }
         ensures directory { IsDirectory self.now }
         ensures errors { IfErr result (λ fault. fault ≡ Fault.OutOfMemory) }
+        ensures wants { OnErr result (0 < length (names_with self.now prefix.now)) }
     {
         let names = self.names_with(alloc, prefix)?;
         in_order(alloc, names)
@@ -162,10 +164,11 @@ impl Catalog {
     }
 
     /// The names of the queues whose target the queue of a uid is, in the order in which they were added. Where
-    /// no queue has the uid it is `QueueDoesNotExist`, which needs no memory.
+    /// no queue has the uid it is `QueueDoesNotExist`, which needs no memory, as no names do.
     pub fn names_to(&self, alloc: Global, uid: u64) -> Result<Vec<QueueName>, Fault>
         ensures answer { Meets (items_of result) (names_to_answer self.now uid) }
         ensures absent { has_uid self.now uid ≡ false → result ≡ Err Fault.QueueDoesNotExist }
+        ensures wants { OnErr result (has_uid self.now uid ≡ true → 0 < length (names_to self.now uid)) }
     {
         if !self.has_uid(uid) {
             return Err(Fault::QueueDoesNotExist);
@@ -174,10 +177,11 @@ impl Catalog {
     }
 
     /// The names of the queues whose target the queue of a uid is, in the order of their bytes. Where
-    /// no queue has the uid it is `QueueDoesNotExist`, which needs no memory.
+    /// no queue has the uid it is `QueueDoesNotExist`, which needs no memory, as no names do.
     pub fn sources(&self, alloc: Global, uid: u64) -> Result<Vec<QueueName>, Fault>
         ensures answer { Meets (items_of result) (sources_answer self.now uid) }
         ensures absent { has_uid self.now uid ≡ false → result ≡ Err Fault.QueueDoesNotExist }
+        ensures wants { OnErr result (has_uid self.now uid ≡ true → 0 < length (names_to self.now uid)) }
     {
         let names = self.names_to(alloc, uid)?;
         in_order(alloc, names)
@@ -187,6 +191,7 @@ impl Catalog {
     fn names_of_target(&self, alloc: Global, uid: u64) -> Result<Vec<QueueName>, Fault>
         ensures ok { IfOk result (λ names. names.items ≡ names_to self.now uid) }
         ensures errors { IfErr result (λ fault. fault ≡ Fault.OutOfMemory) }
+        ensures wants { OnErr result (0 < length (names_to self.now uid)) }
     {
         let mut names = Vec::new(alloc);
         for queue in self.queues.as_slice() {

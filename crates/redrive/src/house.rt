@@ -1,6 +1,6 @@
 //! The queue registry.
 
-ghost use Rattle.std.specs.Prelude.{◌≡◌, ◌≢◌, ℕ, ◌<◌, ◌≤◌, ◌==◌, List, [], ◌∷◌, map, vec_capacity, IfSome, IfOk, OnOk, OnErr, IfErr, true, false};
+ghost use Rattle.std.specs.Prelude.{◌≡◌, ◌≢◌, ℕ, ◌<◌, ◌≤◌, ◌==◌, List, [], ◌∷◌, length, map, vec_capacity, IfSome, IfOk, OnOk, OnErr, IfErr, true, false};
 ghost use Rattle.std.specs.List.{position};
 ghost use Rattle.std.specs.Option.{option_copied, option_map};
 ghost use Rattle.message.specs.Fault.{Meets};
@@ -405,11 +405,12 @@ impl House {
     }
 
     /// The names that begin with a prefix, in the order of their bytes. `OutOfMemory` is the only
-    /// refusal.
+    /// refusal, where there is such a name.
     pub fn list(&self, alloc: Global, prefix: &str) -> Result<Vec<QueueName>, Fault>
         ensures ok { IfOk result (λ names. names.items ≡ names_in_world self.now prefix.now) }
         ensures registry { IsRegistry self.now }
         ensures errors { IfErr result (λ fault. fault ≡ Fault.OutOfMemory) }
+        ensures wants { OnErr result (0 < length (names_in_world self.now prefix.now)) }
     {
         let mut names = Vec::new(alloc);
         for queue in self.queues.as_slice() {
@@ -419,10 +420,11 @@ impl House {
     }
 
     /// The names of the queues whose dead-letter queue the queue of a uid is, in the order of their
-    /// bytes. Where no queue has the uid it is `QueueDoesNotExist`, which needs no memory.
+    /// bytes. Where no queue has the uid it is `QueueDoesNotExist`, which needs no memory, as no names do.
     pub fn sources(&self, alloc: Global, uid: u64) -> Result<Vec<QueueName>, Fault>
         ensures answer { Meets (items_of result) (sources_answer self.now uid) }
         ensures absent { queue_of_uid self.now uid ≡ None → result ≡ Err Fault.QueueDoesNotExist }
+        ensures wants { OnErr result (has_queue self.now uid ≡ true → 0 < length (sources_in_world self.now uid)) }
         ensures registry { IsRegistry self.now }
     {
         self.keep_registry();
@@ -436,6 +438,7 @@ impl House {
     fn source_names(&self, alloc: Global, uid: u64) -> Result<Vec<QueueName>, Fault>
         ensures ok { IfOk result (λ names. names.items ≡ sources_in_world self.now uid) }
         ensures errors { IfErr result (λ fault. fault ≡ Fault.OutOfMemory) }
+        ensures wants { OnErr result (0 < length (sources_in_world self.now uid)) }
     {
         let mut names = Vec::new(alloc);
         for queue in self.queues.as_slice() {

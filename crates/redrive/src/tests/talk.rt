@@ -179,10 +179,21 @@ impl Talk {
         })
     }
 
-    /// The same after a conversation.
-    pub(super) fn after(rt: &HostRuntime, config: &str, text: &str) -> Result<Talk, Fail> {
-        let mut talk = Talk::open(rt, config).or_else(|_| Talk::open(rt, config))?;
-        talk.hold(text)?;
+    /// The same after a conversation. One that finds no memory to begin with begins again, which is counted.
+    pub(super) fn after(
+        rt: &HostRuntime,
+        config: &str,
+        text: &str,
+        refused: &mut u32,
+    ) -> Result<Talk, Fail> {
+        let mut talk = match Talk::open(rt, config) {
+            Err(Fault::OutOfMemory) => {
+                *refused = refused.saturating_add(1);
+                Talk::open(rt, config)?
+            }
+            talk => talk?,
+        };
+        talk.hold(text, refused)?;
         Ok(talk)
     }
 
@@ -277,14 +288,15 @@ impl Talk {
     }
 
     /// Has a conversation, in which each call has to answer what its line says. One that finds no memory
-    /// is made again, and may then answer what stands behind `or`.
-    pub(super) fn hold(&mut self, text: &str) -> Result<(), Fail> {
+    /// is made again, which is counted, and may then answer what stands behind `or`.
+    pub(super) fn hold(&mut self, text: &str, refused: &mut u32) -> Result<(), Fail> {
         for line in text.lines() {
             let (call, wanted) = line.split_once(" => ").ok_or("an answer")?;
             let (wanted, or) = wanted.split_once(" or ").unwrap_or((wanted, wanted));
             let mut answer = self.call(call);
             let is_again = answer == Err(Fault::OutOfMemory);
             if is_again {
+                *refused = refused.saturating_add(1);
                 answer = self.call(call);
             }
             if let Err(fault) = answer {
@@ -329,13 +341,20 @@ impl Talk {
     }
 
     /// Compares what a list of steps gave with what each line says, and the queues after it with `counts`. A
-    /// step that finds no memory is run again alone.
-    fn compare(&mut self, text: &str, run: &mut HouseRun, counts: &str) -> Result<(), Fail> {
+    /// step that finds no memory is run again alone, which is counted.
+    fn compare(
+        &mut self,
+        text: &str,
+        run: &mut HouseRun,
+        counts: &str,
+        refused: &mut u32,
+    ) -> Result<(), Fail> {
         same(text, run.answers.len(), text.lines().count())?;
         for (line, answer) in text.lines().zip(run.answers.iter_mut()) {
             let (_, wanted) = line.split_once(" => ").ok_or("an answer")?;
             self.tell(answer)?;
             if self.text.as_str() == Fault::OutOfMemory.name() {
+                *refused = refused.saturating_add(1);
                 self.run_again(line, &mut run.metrics)?;
             }
             same(line, self.text.as_str(), wanted)?;
@@ -345,12 +364,21 @@ impl Talk {
     }
 
     /// Runs a list of steps, each of which has to answer what its line says, and counts the queues after
-    /// it. A list that finds no memory for what it gives is run again.
-    pub(super) fn list(&mut self, text: &str, counts: &str) -> Result<(), Fail> {
+    /// it: how many there are, and each by its uid and its visible messages. A list that finds no memory for what
+    /// it gives is run again, which is counted.
+    pub(super) fn list(
+        &mut self,
+        text: &str,
+        counts: &str,
+        refused: &mut u32,
+    ) -> Result<(), Fail> {
         let mut run = match self.run(text) {
-            Err(Fault::OutOfMemory) => self.run(text)?,
+            Err(Fault::OutOfMemory) => {
+                *refused = refused.saturating_add(1);
+                self.run(text)?
+            }
             run => run?,
         };
-        self.compare(text, &mut run, counts)
+        self.compare(text, &mut run, counts, refused)
     }
 }
