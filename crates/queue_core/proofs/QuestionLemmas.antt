@@ -148,9 +148,6 @@ module _ (q : QueueHistory) (x : MessageIndex) (is : IsIndexOf q.lines q.clock x
   left_at number slot same = ap is_left same ∙ sym (indexed.left_is q.lines q.clock (records_in x) is.recorded.records is.settled number)
 
   -- what is live or in flight is kept
-  pub here_kept : (number : ℕ) → is_numbered (λ m. is_live q.lines q.clock m) q.lines number ≡ true → None ≡ records_in x number → ⊥
-  here_kept number h none = false≢true (here_at number None (ap slot_in none) ∙ h)
-
   pub in_flight_kept : (number : ℕ) → is_numbered (λ m. is_in_state InFlight q.lines q.clock m) q.lines number ≡ true → None ≡ records_in x number → ⊥
   in_flight_kept number h none = false≢true (in_flight_at number None (ap slot_in none) ∙ h)
 

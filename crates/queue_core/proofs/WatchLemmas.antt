@@ -1,10 +1,10 @@
 -- What a queue keeps of its last minutes and of its alarms: from its opening on, behind each line, behind each minute that ends, and what is read off it.
-use Rattle.std.proofs.Common.{◌≡◌, ℕ, zero, suc, ◌+◌, ◌-◌, ◌*◌, ◌<◌, ◌≤◌, ◌^◌, max, Bool, true, false, cond, eqb, ◌&&◌, inl, inr, List, [], ◌∷◌, ◌++◌, map, length, take, drop, get_or, set, Option, Some, None, refl, sym, ap, ◌∙◌, subst, arith}
+use Rattle.std.proofs.Common.{◌≡◌, ℕ, zero, suc, ◌+◌, ◌-◌, ◌*◌, ◌<◌, ◌≤◌, max, Bool, true, false, cond, eqb, ◌&&◌, inl, inr, List, [], ◌∷◌, ◌++◌, map, length, take, drop, get_or, set, Some, None, refl, sym, ap, ◌∙◌, subst, arith}
 use Rattle.std.specs.Prelude.{nat_le, nat_lt, filter, slice_get, option_map}
 use Rattle.std.specs.List.{All, range_with_len}
 use Rattle.std.proofs.lemmas.Bool.Decides.{nat_tests}
 use Rattle.std.proofs.lemmas.Bool.{cases_lt}
-use Rattle.std.proofs.lemmas.List.{append-nil, append_assoc, take_all, drop_all, drop-drop, drop-map, length-drop, length-map}
+use Rattle.std.proofs.lemmas.List.{append-nil, append_assoc, take_all, drop_all, drop-drop, drop-map, length-drop}
 use Rattle.std.proofs.lemmas.List.Edits.{map_over_more}
 use Rattle.std.proofs.lemmas.List.Elements.{All-head, All-tail}
 use Rattle.std.proofs.lemmas.List.FromFn.{map-range_with_len_more, length-map-range_with_len}
@@ -20,7 +20,7 @@ use Rattle.metric_window.specs.declared.gauges.Gauges.{Gauges}
 use Rattle.metric_window.specs.declared.row.Row.{Row}
 use Rattle.metric_window.specs.Flows.{no_flows, flows_of, added, flows_total, capped, greatest, minute_of, entries_in, minute_flows}
 use Rattle.metric_window.specs.KeptRows.{KeptRows, keep_last, opened_at, current_row, with_closed, row_in}
-use Rattle.metric_window.specs.Window.{longest_window, window_end, is_in_window}
+use Rattle.metric_window.specs.Window.{longest_window}
 use Rattle.metric_window.proofs.MinuteLemmas.{minute_flows-push, minute_flows-none}
 use Rattle.metric_window.proofs.KeptLemmas.{keep_last-again, keep_last-behind, range-behind, row_in-from}
 use Rattle.alarm.specs.declared.state.AlarmState.{AlarmState}
@@ -32,9 +32,9 @@ use Rattle.queue_core.specs.declared.index.MessageIndex.{MessageIndex}
 use Rattle.queue_core.specs.declared.watch.Watch.{Watch}
 use Rattle.queue_core.specs.Messages.{opens, created_time}
 use Rattle.queue_core.specs.States.{gauges_of}
-use Rattle.queue_core.specs.Metrics.{minute_end, entries_until, metric_row, current_flows, row_of, complete_minutes, last_rows, alarm_state_in}
+use Rattle.queue_core.specs.Metrics.{minute_end, entries_until, metric_row, current_flows, row_of, complete_minutes, alarm_state_in}
 use Rattle.queue_core.specs.Queue.{QueueHistory}
-use Rattle.queue_core.specs.Legal.{IsOrdered, BeginsAndFollows, IsLegal}
+use Rattle.queue_core.specs.Legal.{IsOrdered, IsLegal}
 use Rattle.queue_core.specs.Indexed.{IsIndexOf}
 use Rattle.queue_core.specs.Watched.{rows_from, first_shown, rows_before, told_alarm, IsWatchOf, IsPassing}
 use Rattle.queue_core.proofs.MarkLemmas.{map_agree}
@@ -365,9 +365,6 @@ module _ (q : QueueHistory) (legal : IsLegal q) (x : MessageIndex) (w : Watch) (
 -- ---- what is read off
 
 module _ (lines : List (Entry ContentText)) (clock : ℕ) (rules : List Rule) (w : Watch) (is : IsWatchOf lines (minute_of clock) rules w) (early : created_time lines ≤ clock) where
-  pub current-told : w.window.current ≡ current_flows content_size lines clock
-  current-told = is.current
-
   pub row-told : (minute : ℕ) → row_in w.window.rows minute ≡ row_of content_size lines clock minute
   row-told minute =
       let first : ℕ = first_shown lines (minute_of clock) in

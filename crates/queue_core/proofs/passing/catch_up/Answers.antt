@@ -1,5 +1,5 @@
 use Rattle.std.proofs.Common.{◌≡◌, ℕ, ◌+◌, ◌-◌, ◌<◌, [], sym, ap, ◌∙◌, subst, arith}
-use Rattle.metric_window.specs.KeptRows.{KeptRows, opened_at}
+use Rattle.metric_window.specs.KeptRows.{opened_at}
 use Rattle.metric_window.specs.Window.{longest_window}
 use Rattle.metric_window.specs.Flows.{minute_of}
 use Rattle.queue_core.specs.declared.watch.Watch.{Watch}

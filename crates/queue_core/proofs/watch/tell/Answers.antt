@@ -1,5 +1,4 @@
 use Rattle.std.proofs.Common.{sym, ap, ◌∙◌, arith}
-use Rattle.std.proofs.lemmas.List.Edits.{map_over_more}
 use Rattle.alarm.specs.KeptAlarm.{with_minute}
 use Rattle.queue_core.proofs.WatchLemmas.{told-next, all-told}
 use Rattle.queue_core.proofs.watch.tell.Goals as goal
