@@ -91,19 +91,6 @@ cond_same f false q r h = h
 pub reached-lines : (q : QueueHistory) (at : ℕ) (command : Command) → (reached q at command).lines ≡ q.lines
 reached-lines q at command = cond_same (λ q. q.lines) (leaves_clock command) q (at_moment q at) refl
 
-reached-uid : (q : QueueHistory) (at : ℕ) (command : Command) → (reached q at command).uid ≡ q.uid
-reached-uid q at command = cond_same (λ q. q.uid) (leaves_clock command) q (at_moment q at) refl
-
-optional-uid : (q : QueueHistory) (o : Option (Event ContentText)) → (with_optional_event q o).uid ≡ q.uid
-optional-uid q None = refl
-optional-uid q (Some event) = refl
-
-pub after_answer-uid : {T : Type 0} (q : QueueHistory) (at : ℕ) (command : Command) (answer : Result T Fault) → (after_answer q at command answer).uid ≡ q.uid
-after_answer-uid q at command answer =
-    cond_same (λ q. q.uid) (is_out_of_memory answer) (reached q at command) (with_optional_event (reached q at command) (outcome_at q at command).event)
-    (optional-uid (reached q at command) (outcome_at q at command).event)
-    ∙ reached-uid q at command
-
 -- the journal as it was, or with the command's entry
 pub record IsAdded (event : Option (Event ContentText)) (before after : Lines) : Type 0 where
   pub line : Line
