@@ -8,9 +8,9 @@ use super::*;
 use journal::{Moment, Ticks};
 use message::{Content, Fault, QueueName};
 use queue_config::{Limits, Settings};
-use queue_core::{Command, Maximum, QueueState, Reply, Timeout};
+use queue_core::{Command, Look, Maximum, Offers, QueueState, Reply, Timeout};
 use std::alloc::Global;
-use std::process::Abort;
+use std::fmt::Debug;
 use std::sync::Wait;
 use std::sync::atomic::{AtomicU64, Ordering};
 use std::test::Fail;
@@ -74,46 +74,110 @@ fn moment(text: &str) -> Result<Moment, Fault> {
 /// or under the queue's timeout, or `look`, `parcel`, `close`.
 fn command(alloc: Global, text: &str) -> Result<Command, Fault> {
     let (verb, rest) = first_word(text);
-    let (messages, seconds) = first_word(rest);
-    Ok(match verb {
+    match verb {
         "send" => {
             let (body, delay) = (String::from_str(alloc, rest)?, None);
             let content = Content::new(alloc, body, Vec::new(alloc))?;
-            Command::Send { content, delay }
+            Ok(Command::Send { content, delay })
         }
         "receive" => {
+            let (messages, seconds) = first_word(rest);
             let maximum = Maximum::new(messages.parse().unwrap_or(0));
             let maximum = maximum.ok_or(Fault::InvalidParameterValue)?;
             let timeout = seconds.parse().ok().and_then(Timeout::new);
-            Command::Receive { maximum, timeout }
+            Ok(Command::Receive { maximum, timeout })
         }
-        "look" => Command::Look,
-        "parcel" => Command::FirstParcel,
-        "close" => Command::Close,
-        _ => return Err(Fault::UnsupportedOperation),
-    })
+        "look" => Ok(Command::Look),
+        "parcel" => Ok(Command::FirstParcel),
+        "close" => Ok(Command::Close),
+        _ => Err(Fault::UnsupportedOperation),
+    }
+}
+
+/// Tells offers: of each its number, its receipt, its body and when it was sent.
+fn tell_offers(text: &mut String, offers: &Offers) -> Result<(), Fault> {
+    text.push_str("offered")?;
+    for offer in offers.as_slice() {
+        let (body, sent) = (offer.content.body(), offer.sent.milliseconds());
+        write!(text, " {}.{} {body} of {sent}", offer.number, offer.receipt)?;
+    }
+    Ok(())
+}
+
+/// Tells what a look sees.
+fn tell_look(text: &mut String, look: &Look) -> Result<(), Fault> {
+    let (visible, lines) = (look.gauges.visible, look.lines);
+    let closed = if look.closed { ", closed" } else { "" };
+    let at = look.clock.milliseconds();
+    Ok(write!(text, "{visible} visible, {lines} entries at {at}{closed}")?)
 }
 
 /// Tells an answer: the number of a message that was sent; of each offer its number, its receipt, its body
 /// and when it was sent; what a look sees; and any other as it is named.
 fn tell(text: &mut String, answer: &Result<Reply, Fault>) -> Result<(), Fault> {
     match answer {
-        Ok(Reply::Sent(posted)) => write!(text, "sent {}", posted.number)?,
-        Ok(Reply::Received(offers)) => {
-            text.push_str("offered")?;
-            for offer in offers.as_slice() {
-                let (body, sent) = (offer.content.body(), offer.sent.milliseconds());
-                write!(text, " {}.{} {body} of {sent}", offer.number, offer.receipt)?;
-            }
-        }
-        Ok(Reply::Looked(look)) => {
-            let (visible, lines) = (look.gauges.visible, look.lines);
-            let closed = if look.closed { ", closed" } else { "" };
-            let at = look.clock.milliseconds();
-            write!(text, "{visible} visible, {lines} entries at {at}{closed}")?;
-        }
-        Ok(other) => write!(text, "{other:?}")?,
-        Err(fault) => text.push_str(fault.name())?,
+        Ok(Reply::Sent(posted)) => Ok(write!(text, "sent {}", posted.number)?),
+        Ok(Reply::Received(offers)) => tell_offers(text, offers),
+        Ok(Reply::Looked(look)) => tell_look(text, look),
+        Ok(other) => Ok(write!(text, "{other:?}")?),
+        Err(fault) => Ok(text.push_str(fault.name())?),
     }
-    Ok(())
+}
+
+/// A failure unless what was told is what was wanted.
+fn same<T: Debug + Drop + PartialEq>(
+    title: &str,
+    line: &str,
+    told: T,
+    wanted: T,
+) -> Result<(), Fail> {
+    if told == wanted {
+        return Ok(());
+    }
+    Err(Fail::new(format_args!("{title}: {line}: {told:?}, not {wanted:?}")))
+}
+
+/// What is left of a desk that was closed, and what was told last.
+struct Left {
+    queue: QueueState,
+    ticks: Ticks,
+    text: String,
+}
+
+/// Written out, so that a function which lets a queue go has one step for all its parts in its proof.
+impl Drop for Left {
+    fn drop(self) {
+        let Left {
+            queue: _queue,
+            ticks: _ticks,
+            text: _text,
+        } = self;
+    }
+}
+
+impl Left {
+    /// Tells what a look sees and what a receive is offered.
+    fn tell_offers(&mut self, alloc: Global) -> Result<(), Fault> {
+        let receive = command(alloc, "receive 10")?;
+        self.text.clear();
+        self.tell(alloc, &Command::Look)?;
+        self.text.push_str("; ")?;
+        self.tell(alloc, &receive)
+    }
+
+    /// Performs a command at the clock, and tells the answer.
+    fn tell(&mut self, alloc: Global, command: &Command) -> Result<(), Fault> {
+        let answer = self
+            .queue
+            .perform(alloc, Moment::zero(), command, &mut self.ticks);
+        tell(&mut self.text, &answer)
+    }
+
+    /// Tells how many messages there ever were, how many are in flight, and what a look sees.
+    fn tell_counts(&mut self) -> Result<(), Fault> {
+        let look = self.queue.look(Moment::zero(), &mut self.ticks);
+        let (messages, in_flight) = (self.queue.message_count(), look.gauges.in_flight);
+        write!(self.text, "{messages} messages, {in_flight} in flight; ")?;
+        tell_look(&mut self.text, &look)
+    }
 }

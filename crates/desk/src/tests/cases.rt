@@ -33,22 +33,37 @@ impl Press for Counting {
     }
 }
 
-/// A desk with two passes: its first one, p, and q that is cut off from it.
-#[derive(Drop)]
+/// A desk with two passes: its first one, p, and q that is cut off from it. The text is what was told last.
 struct Talk {
     desk: Desk<Counting>,
     p: Pass<Counting>,
     q: Pass<Counting>,
     alloc: Global,
     ticks: Ticks,
+    text: String,
     ghost first: { p.desk ≡ desk },
     ghost second: { q.desk ≡ desk },
+}
+
+/// Written out, so that a function which lets a conversation go has one step for all its parts in its proof.
+impl Drop for Talk {
+    fn drop(self) {
+        let Talk {
+            desk: _desk,
+            p: _p,
+            q: _q,
+            alloc: _alloc,
+            ticks: _ticks,
+            text: _text,
+        } = self;
+    }
 }
 
 impl Talk {
     /// A desk to which no call was made.
     fn open(rt: &HostRuntime) -> Result<Talk, Fault> {
         let (alloc, ticks, press) = (rt.alloc(), Ticks::new(rt), Counting { turns: 0 });
+        let text = String::with_capacity(alloc, 200)?;
         let (desk, mut p) = Desk::new(rt, alloc, open(alloc)?, press)?;
         let q = desk.pass(&mut p);
         Ok(Talk {
@@ -57,6 +72,7 @@ impl Talk {
             q,
             alloc,
             ticks,
+            text,
         })
     }
 
@@ -68,10 +84,10 @@ impl Talk {
     }
 
     /// Does what a line says of the pass p, and tells what is told.
-    fn act<R: Wait + Abort>(&mut self, rt: &R, text: &mut String, line: &str) -> Result<(), Fault> {
-        text.clear();
+    fn act<R: Wait>(&mut self, rt: &R, line: &str) -> Result<(), Fault> {
+        self.text.clear();
         match line {
-            "counts" => write!(text, "{}", self.desk.glance(&mut self.p))?,
+            "counts" => write!(self.text, "{}", self.desk.glance(&mut self.p))?,
             "parts" => self.p = self.desk.pass(&mut self.p),
             "cuts off" => self.q = self.desk.pass(&mut self.p),
             "meets" => {
@@ -83,66 +99,95 @@ impl Talk {
                 let ended = mem::replace(&mut self.q, next);
                 self.desk.end_pass(&mut self.p, ended);
             }
-            _ => self.ask(rt, text, line)?,
+            _ => self.ask(rt, line)?,
         }
         Ok(())
     }
 
     /// Asks a command at a moment, which is one turn, also where it finds no memory.
-    fn ask<R: Wait + Abort>(&mut self, rt: &R, text: &mut String, line: &str) -> Result<(), Fault> {
-        let (alloc, gate) = (self.alloc, Barrier::new(0));
+    fn ask<R: Wait>(&mut self, rt: &R, line: &str) -> Result<(), Fault> {
         let (verb, rest) = first_word(line);
         let (at, call) = first_word(rest);
-        let (at, command) = (moment(at)?, command(alloc, call)?);
-        let turns = self.desk.glance(&mut self.p);
-        let asked = self.desk.ask(rt, alloc, &mut self.p, at, &command, &gate);
-        let turns = self.desk.glance(&mut self.p).wrapping_sub(turns);
-        assert_eq!(rt; turns, 1, "{line}");
-        match (verb, asked.reply) {
-            (_, Err(Fault::OutOfMemory)) => Err(Fault::OutOfMemory),
-            ("shows", _) => Ok(write!(text, "{:?}", asked.told)?),
-            ("knocks", reply) => {
-                write!(text, "{}: ", gate.sum.load(Ordering::SeqCst))?;
-                tell(text, &reply)
-            }
-            (_, reply) => tell(text, &reply),
+        let (at, gate) = (moment(at)?, Barrier::new(0));
+        let command = command(self.alloc, call)?;
+        let before = self.desk.glance(&mut self.p);
+        let asked = self
+            .desk
+            .ask(rt, self.alloc, &mut self.p, at, &command, &gate);
+        let turns = self.desk.glance(&mut self.p).wrapping_sub(before);
+        if turns != 1 {
+            return Ok(write!(self.text, "{turns} turns")?);
         }
+        tell_asked(&mut self.text, verb, &gate, &asked)
     }
 
-    /// Does what each line of a case says, and wants what is told behind an arrow. What finds no memory is
-    /// done once more. Then p closes the desk: what is left of the queue is what a look sees, and what a
-    /// receive is offered then.
-    fn hold<R: Wait + Abort>(mut self, rt: &R, case: &str) -> Result<(), Fail> {
-        let alloc = self.alloc;
-        let (title, lines) = case.split_once("\n").ok_or("a title")?;
-        let (lines, left) = lines.split_once("\n--\n").ok_or("a line --")?;
-        let text = String::with_capacity(alloc, 200);
-        let mut text = text.or_else(|_| String::with_capacity(alloc, 200))?;
+    /// Does what a line says of one of the passes.
+    fn act_as<R: Wait>(&mut self, rt: &R, who: &str, line: &str) -> Result<(), Fault> {
+        if who != "q" {
+            return self.act(rt, line);
+        }
+        self.swap();
+        let told = self.act(rt, line);
+        self.swap();
+        told
+    }
+
+    /// Does what each line says, and wants what is told behind an arrow. What finds no memory is done once more.
+    fn go_through<R: Wait>(&mut self, rt: &R, title: &str, lines: &str) -> Result<(), Fail> {
         for line in lines.lines() {
             let (call, wanted) = line.split_once(" => ").unwrap_or((line, ""));
             let (who, call) = first_word(call);
-            if who == "q" {
-                self.swap();
-            }
-            match self.act(rt, &mut text, call) {
-                Err(Fault::OutOfMemory) => self.act(rt, &mut text, call)?,
+            match self.act_as(rt, who, call) {
+                Err(Fault::OutOfMemory) => self.act_as(rt, who, call)?,
                 told => told?,
             }
-            if who == "q" {
-                self.swap();
-            }
-            assert_eq!(rt; text.as_str(), wanted, "{title}: {call}");
+            same(title, line, self.text.as_str(), wanted)?;
         }
-        let receive = command(alloc, "receive 10")?;
-        let Talk { desk, p, ticks, .. } = self;
-        let (mut queue, mut ticks) = (desk.close(rt, p)?, ticks);
-        let (at, ticks) = (Moment::zero(), &mut ticks);
-        text.clear();
-        tell(&mut text, &queue.perform(alloc, at, &Command::Look, ticks))?;
-        text.push_str("; ")?;
-        tell(&mut text, &queue.perform(alloc, at, &receive, ticks))?;
-        assert_eq!(rt; text.as_str(), left, "{title}: what is left");
         Ok(())
+    }
+
+    /// Closes the desk with p.
+    fn close<R: Wait>(self, rt: &R) -> Result<Left, Fault> {
+        let Talk {
+            desk,
+            p,
+            q: _q,
+            alloc: _alloc,
+            ticks,
+            text,
+        } = self;
+        let queue = desk.close(rt, p)?;
+        Ok(Left { queue, ticks, text })
+    }
+
+    /// Goes through a case. Then p closes the desk: what is left of the queue is what a look sees, and what a
+    /// receive is offered then.
+    fn hold<R: Wait>(mut self, rt: &R, case: &str) -> Result<(), Fail> {
+        let alloc = self.alloc;
+        let (title, lines) = case.split_once("\n").ok_or("a title")?;
+        let (lines, wanted) = lines.split_once("\n--\n").ok_or("a line --")?;
+        self.go_through(rt, title, lines)?;
+        let mut left = self.close(rt)?;
+        left.tell_offers(alloc)?;
+        same(title, "--", left.text.as_str(), wanted)
+    }
+}
+
+/// Tells what was asked: what the press `shows`; or the answer, and where it `knocks` what the gate was told.
+fn tell_asked(
+    text: &mut String,
+    verb: &str,
+    gate: &Barrier,
+    asked: &Asked<Shown>,
+) -> Result<(), Fault> {
+    match (verb, &asked.reply) {
+        (_, Err(Fault::OutOfMemory)) => Err(Fault::OutOfMemory),
+        ("shows", _) => Ok(write!(text, "{:?}", asked.told)?),
+        ("knocks", reply) => {
+            write!(text, "{}: ", gate.sum.load(Ordering::SeqCst))?;
+            tell(text, reply)
+        }
+        (_, reply) => tell(text, reply),
     }
 }
 

@@ -3,7 +3,6 @@
 ghost use Rattle.std.specs.Prelude.{◌≡◌};
 
 use super::*;
-use queue_core::Offers;
 use receipt_handle::Handle;
 use std::thread::Threads;
 
@@ -84,11 +83,12 @@ impl Caller<'_> {
 /// How many sends and offers all threads were told of. None met a refusal, and the numbers of each one's
 /// own messages rise. Each number was given to one message, and none was left out; the receipts of each
 /// are 1, 2 and so on, each of one offer.
-fn all_of(rt: &impl Abort, alloc: Global, callers: &[Caller<'_>]) -> Result<usize, Fail> {
+fn all_of(alloc: Global, callers: &[Caller<'_>]) -> Result<usize, Fail> {
     let mut all = Vec::new(alloc);
     for caller in callers {
-        assert_eq!(rt; caller.failed, None);
-        assert!(rt; caller.told.iter().filter(|told| told.1 == 0).is_sorted());
+        let rises = caller.told.iter().filter(|told| told.1 == 0).is_sorted();
+        same("a thread", "its refusal", caller.failed, None)?;
+        same("a thread", "whether its numbers rise", rises, true)?;
         all.extend_from_slice(caller.told.as_slice())?;
     }
     all.as_mut_slice().sort_unstable();
@@ -98,10 +98,148 @@ fn all_of(rt: &impl Abort, alloc: Global, callers: &[Caller<'_>]) -> Result<usiz
             0 => (last.0.wrapping_add(1), 0),
             _ => (last.0, last.1.wrapping_add(1)),
         };
-        assert_eq!(rt; told, wanted);
+        same("all threads", "the next message or offer", told, wanted)?;
         last = told;
     }
     Ok(all.len())
+}
+
+/// How many messages the last look saw.
+fn seen_last(callers: &[Caller<'_>]) -> u64 {
+    callers.iter().map(|caller| caller.seen).max().unwrap_or(0)
+}
+
+/// Each thread looks once more.
+fn look_again<R: Wait>(rt: &R, callers: &mut [Caller<'_>]) -> Result<(), Fault> {
+    for caller in callers.iter_mut() {
+        caller.ask(rt, "0 look", &NoGate)?;
+    }
+    Ok(())
+}
+
+/// So many callers at a desk.
+fn gathered<'a>(
+    alloc: Global,
+    desk: &'a Desk<NoPress>,
+    pass: &mut Pass<NoPress>,
+    count: u64,
+) -> Result<Vec<Caller<'a>>, Fault>
+    requires { pass.old.desk ≡ desk.now }
+    ensures { pass.new.desk ≡ pass.old.desk }
+{
+    let mut callers = Vec::new(alloc);
+    for _ in 0..count {
+        callers.push(Caller {
+            desk,
+            pass: desk.pass(pass),
+            alloc,
+            told: Vec::new(alloc),
+            seen: 0,
+            failed: None,
+        })?;
+    }
+    Ok(callers)
+}
+
+/// A desk with a pass, from which the passes of a crew are cut off, and what is told of them.
+struct Place {
+    desk: Desk<NoPress>,
+    pass: Pass<NoPress>,
+    alloc: Global,
+    ticks: Ticks,
+    text: String,
+    ghost together: { pass.desk ≡ desk },
+}
+
+/// Written out, so that a function which lets a desk go has one step for all its parts in its proof.
+impl Drop for Place {
+    fn drop(self) {
+        let Place {
+            desk: _desk,
+            pass: _pass,
+            alloc: _alloc,
+            ticks: _ticks,
+            text: _text,
+        } = self;
+    }
+}
+
+impl Place {
+    /// A desk to which no call was made.
+    fn open(rt: &HostRuntime) -> Result<Place, Fault> {
+        let (alloc, ticks) = (rt.alloc(), Ticks::new(rt));
+        let text = String::with_capacity(alloc, 200)?;
+        let (desk, pass) = Desk::new(rt, alloc, open(alloc)?, NoPress)?;
+        Ok(Place {
+            desk,
+            pass,
+            alloc,
+            ticks,
+            text,
+        })
+    }
+
+    /// Lets a crew do what its lines say, and tells how many sends and offers there were, and how many messages
+    /// the last look saw.
+    fn work<R: Threads + Sync + Wait>(
+        &mut self,
+        rt: &R,
+        crew: &str,
+        gate: &Barrier,
+    ) -> Result<(usize, u64), Fail> {
+        let (count, lines) = first_word(crew);
+        let count = count.parse().unwrap_or(0);
+        let mut callers = gathered(self.alloc, &self.desk, &mut self.pass, count)?;
+        thread::for_each_mut(
+            rt,
+            callers.as_mut_slice(),
+            8,
+            &|index, caller| {
+                let line = lines.lines().nth(index % 4 + 1).unwrap_or("");
+                caller.failed = caller.work(rt, line, gate).err();
+            },
+        );
+        let told = all_of(self.alloc, callers.as_slice())?;
+        let seen = seen_last(callers.as_slice());
+        look_again(rt, callers.as_mut_slice())?;
+        Ok((told, seen))
+    }
+
+    /// Closes the desk.
+    fn close<R: Wait>(self, rt: &R) -> Result<Left, Fault> {
+        let Place {
+            desk,
+            pass,
+            alloc: _alloc,
+            ticks,
+            text,
+        } = self;
+        let queue = desk.close(rt, pass)?;
+        Ok(Left { queue, ticks, text })
+    }
+
+    /// Lets a crew do what its lines say, and tells that, with what the gate was told and how many turns had ended.
+    fn tell<R: Threads + Sync + Wait>(&mut self, rt: &R, crew: &str) -> Result<(), Fail> {
+        let gate = Barrier::new(104);
+        let (told, seen) = self.work(rt, crew, &gate)?;
+        let (gate, turns) = (
+            gate.sum.load(Ordering::SeqCst),
+            self.desk.glance(&mut self.pass),
+        );
+        Ok(write!(
+            self.text,
+            "gate {gate}, {told} told, {seen} seen, {turns} turns; "
+        )?)
+    }
+
+    /// Compares what the threads of a crew did, and what they left, with what was wanted.
+    fn hold<R: Threads + Sync + Wait>(mut self, rt: &R, crew: &str) -> Result<(), Fail> {
+        let (crew, wanted) = crew.split_once("\n--\n").ok_or("a line --")?;
+        self.tell(rt, crew)?;
+        let mut left = self.close(rt)?;
+        left.tell_counts()?;
+        same(crew, "--", left.text.as_str(), wanted)
+    }
 }
 
 /// Crews of threads, each at a desk of its own. Its first line says how many they are. Each of the four
@@ -131,63 +269,11 @@ gate 104, 5 told, 5 seen, 13 turns; 5 messages, 0 in flight; 5 visible, 6 entrie
 --
 gate 0, 240 told, 0 seen, 242 turns; 192 messages, 18 in flight; 156 visible, 235 entries at 2";
 
-/// Tells what the threads of a crew did at a desk.
-fn told<R: Threads + Sync + Wait + Abort>(
-    rt: &R,
-    alloc: Global,
-    mut ticks: Ticks,
-    desk: Desk<NoPress>,
-    mut pass: Pass<NoPress>,
-    crew: &str,
-) -> Result<String, Fail>
-    requires { pass.desk ≡ desk }
-{
-    let (gate, (count, lines)) = (Barrier::new(104), first_word(crew));
-    let mut callers = Vec::new(alloc);
-    for _ in 0..count.parse::<u64>().unwrap_or(0) {
-        callers.push(Caller {
-            desk: &desk,
-            pass: desk.pass(&mut pass),
-            alloc,
-            told: Vec::new(alloc),
-            seen: 0,
-            failed: None,
-        })?;
-    }
-    thread::for_each_mut(
-        rt,
-        callers.as_mut_slice(),
-        8,
-        &|index, caller| {
-            let line = lines.lines().nth(index % 4 + 1).unwrap_or("");
-            caller.failed = caller.work(rt, line, &gate).err();
-        },
-    );
-    let told = all_of(rt, alloc, callers.as_slice())?;
-    let seen = callers.iter().map(|caller| caller.seen).max().unwrap_or(0);
-    for caller in callers.iter_mut() {
-        caller.ask(rt, "0 look", &NoGate)?;
-    }
-    drop(callers);
-    let (gate, turns) = (gate.sum.load(Ordering::SeqCst), desk.glance(&mut pass));
-    let mut queue = desk.close(rt, pass)?;
-    let look = queue.look(Moment::zero(), &mut ticks);
-    let (messages, in_flight) = (queue.message_count(), look.gauges.in_flight);
-    let mut text = format!(in alloc; "gate {gate}, {told} told, {seen} seen, {turns} turns; ")?;
-    write!(text, "{messages} messages, {in_flight} in flight; ")?;
-    tell(&mut text, &Ok(Reply::Looked(look)))?;
-    Ok(text)
-}
-
 /// What the threads of each crew did is what was wanted.
 #[test]
 fn crews(rt: HostRuntime) -> Result<(), Fail> {
-    let alloc = rt.alloc();
     for crew in CREWS.split("\n\n") {
-        let (crew, wanted) = crew.split_once("\n--\n").ok_or("a line --")?;
-        let (desk, pass) = Desk::new(&rt, alloc, open(alloc)?, NoPress)?;
-        let told = told(&rt, alloc, Ticks::new(&rt), desk, pass, crew)?;
-        assert_eq!(rt; told.as_str(), wanted, "{crew}");
+        Place::open(&rt)?.hold(&rt, crew)?;
     }
     Ok(())
 }
