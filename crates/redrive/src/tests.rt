@@ -219,6 +219,13 @@ fn hold_all(rt: &HostRuntime, refused: &mut u32) -> Result<(), Fail> {
     Talk::after(rt, "", LEFT, refused)?.list(steps, "2 1:4 3:0", refused)?;
     let mut talk = Talk::after(rt, "", LEFT, refused)?;
     talk.list("hand 2 1900 => Arrived", "2 1:4 2:0", refused)?;
-    talk.list("confirm 2 1900 => Confirmed(Settled(true))", "2 1:4 2:0", refused)?;
-    talk.hold("look 1 0 => 1900 5 4 0 0\nlook 2 0 => 1900 5 0 0 0", refused)
+    talk.list(
+        "confirm 2 1900 => Confirmed(Settled(true))",
+        "2 1:4 2:0",
+        refused,
+    )?;
+    talk.hold(
+        "look 1 0 => 1900 5 4 0 0\nlook 2 0 => 1900 5 0 0 0",
+        refused,
+    )
 }

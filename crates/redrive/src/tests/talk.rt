@@ -366,12 +366,7 @@ impl Talk {
     /// Runs a list of steps, each of which has to answer what its line says, and counts the queues after
     /// it: how many there are, and each by its uid and its visible messages. A list that finds no memory for what
     /// it gives is run again, which is counted.
-    pub(super) fn list(
-        &mut self,
-        text: &str,
-        counts: &str,
-        refused: &mut u32,
-    ) -> Result<(), Fail> {
+    pub(super) fn list(&mut self, text: &str, counts: &str, refused: &mut u32) -> Result<(), Fail> {
         let mut run = match self.run(text) {
             Err(Fault::OutOfMemory) => {
                 *refused = refused.saturating_add(1);
