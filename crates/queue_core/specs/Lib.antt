@@ -19,4 +19,6 @@ pub mod Metrics
 pub mod Watched
 pub mod Turns
 pub mod Lasting
+pub mod Cost
+pub mod Spending
 pub mod Examples
