@@ -34,6 +34,8 @@ mod AgeRoomLemmas
 mod KeptRecordLemmas
 mod DueLemmas
 mod NumberLemmas
+mod BoundLemmas
+mod SpendingLemmas
 mod ChangeLemmas
 mod AppliedLemmas
 mod ReceiveLemmas

@@ -55,10 +55,13 @@ KeepsSent before after = is_here before ≡ true → is_here after ≡ true → 
 
 -- ---- the messages of a queue
 
--- a change that begins so many messages and adds so much, by the operations before and after it
-pub record Costs (begun more : ℕ) (ticks : ℕ) (x : MessageIndex) (ticks' : ℕ) (y : MessageIndex) : Type 0 where
-  pub kept : index_map_len y.records ≤ index_map_len x.records + begun
-  pub spent : (c : ℕ) → index_map_len x.records + begun < 2 ^ c → spent c ticks' y.indices ≤ spent c ticks x.indices + 2 * (c + 1) * more
+-- a change that begins so many messages and adds so much: the operations, the number of records and the indices before it and behind it
+pub record CostsBetween (begun more : ℕ) (ticks records : ℕ) (x : Indices) (ticks' records' : ℕ) (y : Indices) : Type 0 where
+  pub kept : records' ≤ records + begun
+  pub spent : (c : ℕ) → records + begun < 2 ^ c → spent c ticks' y ≤ spent c ticks x + 2 * (c + 1) * more
+
+abbrev pub Costs : ℕ → ℕ → ℕ → MessageIndex → ℕ → MessageIndex → Type 0
+Costs begun more ticks x ticks' y = CostsBetween begun more ticks (index_map_len x.records) x.indices ticks' (index_map_len y.records) y.indices
 
 -- how much at most an event adds, where so many wait for the dead-letter queue of a uid
 abbrev pub event_adds : (ℕ → ℕ) → Event ContentText → ℕ

@@ -7,8 +7,10 @@ ghost use Rattle.std.specs.VecDeque.{deque_capacity};
 ghost use Rattle.indexmap.specs.IndexMap.{get};
 ghost use Rattle.queue_core.specs.Messages.{effect_of, contains_number};
 ghost use Rattle.queue_core.specs.declared.slot.Stay.TheVariants.{Hidden, Left};
-ghost use Rattle.queue_core.specs.Slots.{is_here, is_left};
+ghost use Rattle.queue_core.specs.Slots.{is_here, is_left, is_left_for, one_if};
 ghost use Rattle.queue_core.specs.Records.{records_in, slots_in, born_in, born_record, records_after, hidden_until, received_at, with_stay, HasIndices, IsIndexed, IsReady};
+ghost use Rattle.queue_core.specs.Tally.{births};
+ghost use Rattle.queue_core.specs.Spending.{added, event_adds, left_count, Costs};
 ghost use Rattle.queue_core.specs.Applying.{CanApply, HaveReceived, HaveCounted, HasChanged, among, where_here, where_left, ended_by, returned_from};
 
 use crate::index::MessageIndex;
@@ -42,6 +44,7 @@ impl MessageIndex {
         ensures receives { HaveReceived event.now self.old.receives.items self.new.receives.items }
         ensures leaving { self.new.leaving.items
             ≡ filter (λ n. is_left (slots_in self.new n)) self.old.leaving.items ++ (effect_of event.now).departures }
+        ensures cost { Costs (births event.now) (event_adds (left_count self.old) event.now) ticks.old self.old ticks.new self.new }
     {
         match event {
             Event::Opened { .. } | Event::DeletedAgain | Event::Refused { .. } => {}
@@ -80,6 +83,7 @@ impl MessageIndex {
         ensures change { HasChanged (among (number ∷ []) (λ r. Some (record r { slot = slot }))) self.old self.new }
         ensures receives { self.new.receives.items ≡ self.old.receives.items }
         ensures leaving { self.new.leaving.items ≡ self.old.leaving.items }
+        ensures cost { Costs 0 (added (slots_in self.old number) (Some slot)) ticks.old self.old ticks.new self.new }
     {
         let kept = self.records.get(&number).unwrap();
         let (first_receive, last_receive) = (kept.first_receive, kept.last_receive);
@@ -96,6 +100,7 @@ impl MessageIndex {
         ensures receives { self.new.receives.items
             ≡ slice_set self.old.receives.items number (slice_index self.old.receives.items number + 1) }
         ensures leaving { self.new.leaving.items ≡ self.old.leaving.items }
+        ensures cost { Costs 0 6 ticks.old self.old ticks.new self.new }
     {
         let kept = self.records.get(&number).unwrap();
         let first_receive = kept.first_receive.unwrap_or(at);
@@ -119,6 +124,7 @@ impl MessageIndex {
         ensures change { HasChanged (among offered.now (λ r. Some (hidden_until due (received_at at r)))) self.old self.new }
         ensures receives { HaveCounted offered.now self.old.receives.items self.new.receives.items }
         ensures leaving { self.new.leaving.items ≡ self.old.leaving.items }
+        ensures cost { Costs 0 (6 * length offered.now) ticks.old self.old ticks.new self.new }
     {
         for number in offered {
             self.offer(*number, at, due, ticks);
@@ -133,6 +139,7 @@ impl MessageIndex {
         ensures change { HasChanged (among (number ∷ []) (λ r. Some (with_stay (Left target false) r))) self.old self.new }
         ensures receives { self.new.receives.items ≡ self.old.receives.items }
         ensures leaving { self.new.leaving.items ≡ self.old.leaving.items }
+        ensures cost { Costs 0 0 ticks.old self.old ticks.new self.new }
     {
         let kept = self.records.get(&number).unwrap();
         let stay = Stay::Left {
@@ -144,6 +151,7 @@ impl MessageIndex {
     }
 
     /// Lets the messages of these numbers leave for the dead-letter queue of a uid.
+    #[tactic(auto, using(queue_core::proofs::SpendingLemmas::free_then, queue_core::proofs::SpendingLemmas::costs_none))]
     fn depart_all(&mut self, numbers: &[u64], target: u64, ticks: &mut Ticks)
         requires indices { HasIndices self.old }
         requires here { (n : ℕ) → contains_number n numbers.now ≡ true → is_here (slots_in self.old n) ≡ true }
@@ -153,6 +161,7 @@ impl MessageIndex {
         ensures change { HasChanged (among numbers.now (λ r. Some (with_stay (Left target false) r))) self.old self.new }
         ensures receives { self.new.receives.items ≡ self.old.receives.items }
         ensures leaving { self.new.leaving.items ≡ self.old.leaving.items ++ numbers.now }
+        ensures cost { Costs 0 0 ticks.old self.old ticks.new self.new }
     {
         append_reserved(&mut self.leaving, numbers);
         for number in numbers {
@@ -167,6 +176,7 @@ impl MessageIndex {
         ensures change { HasChanged (among (number ∷ []) (where_here (λ r. Some (hidden_until due r)))) self.old self.new }
         ensures receives { self.new.receives.items ≡ self.old.receives.items }
         ensures leaving { self.new.leaving.items ≡ self.old.leaving.items }
+        ensures cost { Costs 0 6 ticks.old self.old ticks.new self.new }
     {
         let Some(slot) = self.slot_of(number) else {
             return;
@@ -185,12 +195,14 @@ impl MessageIndex {
     }
 
     /// Takes the message of a number out, where it is there.
+    #[tactic(auto, using(queue_core::proofs::SpendingLemmas::free_then, queue_core::proofs::SpendingLemmas::costs_none))]
     fn delete(&mut self, number: u64, ticks: &mut Ticks)
         requires indices { HasIndices self.old }
         requires few { born_in self.old < 2 ^ 62 }
         ensures change { HasChanged (among (number ∷ []) (where_here (λ r. None))) self.old self.new }
         ensures receives { self.new.receives.items ≡ self.old.receives.items }
         ensures leaving { self.new.leaving.items ≡ self.old.leaving.items }
+        ensures cost { Costs 0 0 ticks.old self.old ticks.new self.new }
     {
         let Some(slot) = self.slot_of(number) else {
             return;
@@ -202,12 +214,14 @@ impl MessageIndex {
     }
 
     /// Takes out every message that is there.
+    #[tactic(auto, using(queue_core::proofs::SpendingLemmas::free_then, queue_core::proofs::SpendingLemmas::costs_none))]
     fn purge(&mut self, ticks: &mut Ticks)
         requires indices { HasIndices self.old }
         requires few { born_in self.old < 2 ^ 62 }
         ensures change { HasChanged (λ n. where_here (λ r. None)) self.old self.new }
         ensures receives { self.new.receives.items ≡ self.old.receives.items }
         ensures leaving { self.new.leaving.items ≡ self.old.leaving.items }
+        ensures cost { Costs 0 0 ticks.old self.old ticks.new self.new }
     {
         while let Some((_, number)) = self.indices.sent.first() {
             self.take_out(number, ticks);
@@ -221,6 +235,7 @@ impl MessageIndex {
         ensures change { HasChanged (among (number ∷ []) (where_left (ended_by retention at))) self.old self.new }
         ensures receives { self.new.receives.items ≡ self.old.receives.items }
         ensures leaving { self.new.leaving.items ≡ self.old.leaving.items }
+        ensures cost { Costs 0 0 ticks.old self.old ticks.new self.new }
     {
         let Some(kept) = self.records.get(&number) else {
             return;
@@ -238,12 +253,14 @@ impl MessageIndex {
     }
 
     /// Notes of every message that has left whether its retention in seconds has ended at a time.
+    #[tactic(auto, using(queue_core::proofs::SpendingLemmas::free_then, queue_core::proofs::SpendingLemmas::costs_none))]
     fn end_period(&mut self, retention: u32, at: Moment, ticks: &mut Ticks)
         requires indexed { IsIndexed self.old }
         requires few { born_in self.old < 2 ^ 62 }
         ensures change { HasChanged (λ n. where_left (ended_by retention at)) self.old self.new }
         ensures receives { self.new.receives.items ≡ self.old.receives.items }
         ensures leaving { self.new.leaving.items ≡ self.old.leaving.items }
+        ensures cost { Costs 0 0 ticks.old self.old ticks.new self.new }
     {
         for place in 0..self.leaving.len() {
             let number = self.leaving[place];
@@ -252,12 +269,14 @@ impl MessageIndex {
     }
 
     /// Lets the message of a number go, where it has left: the transfer is confirmed.
+    #[tactic(auto, using(queue_core::proofs::SpendingLemmas::free_then, queue_core::proofs::SpendingLemmas::costs_none))]
     fn confirm(&mut self, number: u64, ticks: &mut Ticks)
         requires indexed { IsIndexed self.old }
         requires few { born_in self.old < 2 ^ 62 }
         ensures change { HasChanged (among (number ∷ []) (where_left (λ target ran_out r. None))) self.old self.new }
         ensures receives { self.new.receives.items ≡ self.old.receives.items }
         ensures leaving { self.new.leaving.items ≡ filter (λ n. not (n == number)) self.old.leaving.items }
+        ensures cost { Costs 0 0 ticks.old self.old ticks.new self.new }
     {
         if remove_number(&mut self.leaving, number) {
             self.take_out(number, ticks);
@@ -272,6 +291,7 @@ impl MessageIndex {
         ensures change { HasChanged (among (number ∷ []) (where_left (returned_from lost at))) self.old self.new }
         ensures receives { self.new.receives.items ≡ self.old.receives.items }
         ensures leaving { self.new.leaving.items ≡ self.old.leaving.items }
+        ensures cost { Costs 0 (8 * one_if (is_left_for lost (slots_in self.old number))) ticks.old self.old ticks.new self.new }
     {
         let Some(slot) = self.slot_of(number) else {
             return;
@@ -301,6 +321,7 @@ impl MessageIndex {
         ensures change { HasChanged (λ n. where_left (returned_from lost at)) self.old self.new }
         ensures receives { self.new.receives.items ≡ self.old.receives.items }
         ensures leaving { self.new.leaving.items ≡ filter (λ n. is_left (slots_in self.new n)) self.old.leaving.items }
+        ensures cost { Costs 0 (8 * left_count self.old lost) ticks.old self.old ticks.new self.new }
     {
         for place in 0..self.leaving.len() {
             let number = self.leaving[place];
@@ -321,12 +342,14 @@ impl MessageIndex {
     }
 
     /// Takes out every message.
+    #[tactic(auto, using(queue_core::proofs::SpendingLemmas::free_then, queue_core::proofs::SpendingLemmas::costs_none))]
     fn close(&mut self, ticks: &mut Ticks)
         requires indexed { IsIndexed self.old }
         requires few { born_in self.old < 2 ^ 62 }
         ensures change { HasChanged (λ n r. None) self.old self.new }
         ensures receives { self.new.receives.items ≡ self.old.receives.items }
         ensures leaving { self.new.leaving.items ≡ [] }
+        ensures cost { Costs 0 0 ticks.old self.old ticks.new self.new }
     {
         self.purge(ticks);
         while let Some(number) = self.leaving.pop_front() {

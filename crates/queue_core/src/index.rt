@@ -10,6 +10,7 @@ ghost use Rattle.queue_core.specs.Ages.{IsFirstHere};
 ghost use Rattle.queue_core.specs.Slots.{one_if, is_hidden, is_here, is_left_for, IsReplaced};
 ghost use Rattle.queue_core.specs.Records.{records_in, slots_in, born_in, with_stay, with_parts, records_settled, HasIndices, IsIndexed, IsReady, HasSame};
 ghost use Rattle.queue_core.specs.Settling.{is_due, shown_at, was_sent_by, kept_since};
+ghost use Rattle.queue_core.specs.Spending.{added, Costs};
 
 use crate::indices::{Indices, is_left_for};
 use crate::record::Record;
@@ -33,7 +34,8 @@ pub(crate) struct MessageIndex {
 /// Puts a record in under a number, for which there is room.
 fn put_record(records: &mut IndexMap<u64, Record>, number: u64, kept: Record)
     requires { 1 ≤ spare records.old }
-    ensures { (n : ℕ) → get nat_eq records.new n ≡ (if nat_eq n number then Some kept else get nat_eq records.old n) }
+    ensures records { (n : ℕ) → get nat_eq records.new n ≡ (if nat_eq n number then Some kept else get nat_eq records.old n) }
+    ensures len { index_map_len records.new ≤ index_map_len records.old + 1 }
 {
     records.insert(number, kept).unwrap();
 }
@@ -140,6 +142,7 @@ impl MessageIndex {
             ≡ (if nat_eq n (born_in self.old) then Some kept else records_in self.old n) }
         ensures receives { self.new.receives.items ≡ self.old.receives.items ++ 0 ∷ [] }
         ensures leaving { self.new.leaving.items ≡ self.old.leaving.items }
+        ensures cost { Costs 1 8 ticks.old self.old ticks.new self.new }
     {
         let number = self.receives.len() as u64;
         self.indices.replace(number, None, Some(kept.slot), ticks);
@@ -167,6 +170,7 @@ impl MessageIndex {
         ensures leaving { self.new.leaving.items ≡ self.old.leaving.items }
         ensures len { index_map_len self.new.records ≡ index_map_len self.old.records }
         ensures replaced { IsReplaced number (slots_in self.old number) (Some slot) self.old.indices self.new.indices }
+        ensures cost { Costs 0 (added (slots_in self.old number) (Some slot)) ticks.old self.old ticks.new self.new }
     {
         let before = self.slot_of(number);
         self.indices.replace(number, before, Some(slot), ticks);
@@ -183,6 +187,7 @@ impl MessageIndex {
         ensures receives { self.new.receives.items ≡ self.old.receives.items }
         ensures leaving { self.new.leaving.items ≡ self.old.leaving.items }
         ensures len { index_map_len self.new.records + one_if (is_some (records_in self.old number)) ≡ index_map_len self.old.records }
+        ensures cost { Costs 0 0 ticks.old self.old ticks.new self.new }
     {
         if let Some(slot) = self.slot_of(number) {
             self.indices.replace(number, Some(slot), None, ticks);
@@ -199,6 +204,7 @@ impl MessageIndex {
             ≡ records_settled retention at (records_in self.old) n }
         ensures receives { self.new.receives.items ≡ self.old.receives.items }
         ensures leaving { self.new.leaving.items ≡ self.old.leaving.items }
+        ensures cost { Costs 0 0 ticks.old self.old ticks.new self.new }
     {
         let at = at.milliseconds();
         self.show_due(at, ticks);
@@ -208,6 +214,7 @@ impl MessageIndex {
     }
 
     /// Shows what is hidden and due by a time in milliseconds.
+    #[tactic(auto, using(queue_core::proofs::SpendingLemmas::free_then, queue_core::proofs::SpendingLemmas::costs_none))]
     fn show_due(&mut self, at: u64, ticks: &mut Ticks)
         requires indices { HasIndices self.old }
         requires few { born_in self.old < 2 ^ 62 }
@@ -215,6 +222,7 @@ impl MessageIndex {
         ensures records { (n : ℕ) → records_in self.new n ≡ option_map (shown_at at) (records_in self.old n) }
         ensures receives { self.new.receives.items ≡ self.old.receives.items }
         ensures leaving { self.new.leaving.items ≡ self.old.leaving.items }
+        ensures cost { Costs 0 0 ticks.old self.old ticks.new self.new }
     {
         while let Some(number) = self.due_by(at) {
             self.show(number, ticks);
@@ -222,6 +230,7 @@ impl MessageIndex {
     }
 
     /// Lets go what is there and was first sent by a time in milliseconds.
+    #[tactic(auto, using(queue_core::proofs::SpendingLemmas::free_then, queue_core::proofs::SpendingLemmas::costs_none))]
     fn let_go(&mut self, moment: u64, ticks: &mut Ticks)
         requires indices { HasIndices self.old }
         requires few { born_in self.old < 2 ^ 62 }
@@ -229,6 +238,7 @@ impl MessageIndex {
         ensures records { (n : ℕ) → records_in self.new n ≡ option_and_then (kept_since moment) (records_in self.old n) }
         ensures receives { self.new.receives.items ≡ self.old.receives.items }
         ensures leaving { self.new.leaving.items ≡ self.old.leaving.items }
+        ensures cost { Costs 0 0 ticks.old self.old ticks.new self.new }
     {
         while let Some(number) = self.sent_by(moment) {
             self.take_out(number, ticks);
@@ -267,6 +277,7 @@ impl MessageIndex {
         ensures receives { self.new.receives.items ≡ self.old.receives.items }
         ensures leaving { self.new.leaving.items ≡ self.old.leaving.items }
         ensures fewer { self.new.indices.delayed + self.new.indices.in_flight < self.old.indices.delayed + self.old.indices.in_flight }
+        ensures cost { Costs 0 0 ticks.old self.old ticks.new self.new }
     {
         let record = &self.records[&number];
         let (first_receive, last_receive) = (record.first_receive, record.last_receive);

@@ -1,11 +1,12 @@
 //! Indices of messages by their times and numbers, and counts of those that cannot be received yet.
 
-ghost use Rattle.std.specs.Prelude.{◌≡◌, ℕ, ◌+◌, ◌≤◌, true, false, nat_eq, if◌then◌else◌, None, is_some, AllPairs, OnOk};
+ghost use Rattle.std.specs.Prelude.{◌≡◌, ℕ, ◌+◌, ◌*◌, ◌<◌, ◌≤◌, ◌^◌, true, false, nat_eq, if◌then◌else◌, None, is_some, AllPairs, OnOk, length};
 ghost use Rattle.std.specs.FinMap as finite;
 ghost use Rattle.journal.specs.Order.{is_before};
 ghost use Rattle.visible_index.specs.Pairs.{has_pair};
 ghost use Rattle.queue_core.specs.Slots.{due_in, sent_in, is_here, is_left, is_left_for, is_delayed, is_in_flight, one_if, CanReplace, IsReplaced, AreIndexed};
 ghost use Rattle.queue_core.specs.Changes.{shown_in, is_at, IsReserved, HasRoom};
+ghost use Rattle.queue_core.specs.Spending.{spent, AreBelow, moved, added, KeepsSent};
 
 use crate::ages::Ages;
 use crate::slot::{Slot, Stay};
@@ -67,7 +68,9 @@ impl Indices {
         ticks: &mut Ticks,
     )
         requires { CanReplace number before after self.old }
-        ensures { IsReplaced number before after self.old self.new }
+        ensures replaced { IsReplaced number before after self.old self.new }
+        ensures cost { (c : ℕ) → AreBelow c self.old → KeepsSent before after
+            → spent c ticks.new self.new ≤ spent c ticks.old self.old + 2 * (c + 1) * added before after }
     {
         replace_moment(&mut self.due, number, due_in(before), due_in(after), ticks);
         replace_moment(
@@ -187,6 +190,7 @@ fn replace_moment(
     ensures moments { (n : ℕ) → finite.get heap.new.moments n
         ≡ (if nat_eq n number then after else finite.get heap.old.moments n) }
     ensures spare { heap.new.spare + one_if (is_some after) ≡ heap.old.spare + one_if (is_some before) }
+    ensures cost { (c : ℕ) → finite.len heap.old.moments < 2 ^ c → ticks.new ≤ ticks.old + 2 * (c + 1) * moved before after }
 {
     if before == after {
         return;
@@ -209,6 +213,8 @@ fn remove_pair(visible: &mut VisibleIndex, number: u64, before: Option<u64>, tic
         ≡ (if nat_eq n number then false else has_pair (moment, n) visible.old.pairs) }
     ensures strict { AllPairs (λ a b. is_before a b ≡ true) visible.new.pairs }
     ensures spare { visible.new.spare ≡ visible.old.spare + one_if (is_some before) }
+    ensures len { length visible.new.pairs + one_if (is_some before) ≡ length visible.old.pairs }
+    ensures cost { (c : ℕ) → length visible.old.pairs < 2 ^ c → ticks.new ≤ ticks.old + 2 * (c + 1) * (2 * one_if (is_some before)) }
 {
     if let Some(moment) = before {
         visible.remove(moment, number, ticks);
@@ -230,6 +236,9 @@ fn replace_pair(
         ≡ (if nat_eq n number then is_at after moment else has_pair (moment, n) visible.old.pairs) }
     ensures strict { AllPairs (λ a b. is_before a b ≡ true) visible.new.pairs }
     ensures spare { visible.new.spare + one_if (is_some after) ≡ visible.old.spare + one_if (is_some before) }
+    ensures len { length visible.new.pairs + one_if (is_some before) ≡ length visible.old.pairs + one_if (is_some after) }
+    ensures cost { (c : ℕ) → length visible.old.pairs < 2 ^ c
+        → ticks.new ≤ ticks.old + 2 * (c + 1) * (2 * (one_if (is_some before) + one_if (is_some after))) }
 {
     if before == after {
         return;

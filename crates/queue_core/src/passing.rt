@@ -10,6 +10,7 @@ ghost use Rattle.queue_core.specs.Legal.{IsLegal};
 ghost use Rattle.queue_core.specs.Records.{born_in, HasIndices};
 ghost use Rattle.queue_core.specs.Indexed.{IsIndexOf};
 ghost use Rattle.queue_core.specs.Watched.{IsWatchOf, IsPassing};
+ghost use Rattle.queue_core.specs.Spending.{Costs};
 
 use crate::index::MessageIndex;
 use crate::watch::Watch;
@@ -28,9 +29,10 @@ pub(crate) fn catch_up(
     requires indices { HasIndices index.old }
     requires few { born_in index.old < 2 ^ 62 }
     requires past { watch.old.window.minute ≤ minute_of clock }
-    ensures { (q : QueueHistory) → IsLegal q → q.clock ≤ clock → retention ≡ (settings_of q.lines).retention_seconds
+    ensures passed { (q : QueueHistory) → IsLegal q → q.clock ≤ clock → retention ≡ (settings_of q.lines).retention_seconds
         → IsIndexOf q.lines q.clock index.old → IsWatchOf q.lines (minute_of q.clock) q.rules watch.old
         → IsIndexOf q.lines clock index.new × IsWatchOf q.lines (minute_of clock) q.rules watch.new }
+    ensures cost { Costs 0 0 ticks.old index.old ticks.new index.new }
 {
     let end = minute_of(clock);
     let _most = clock.milliseconds();
@@ -53,6 +55,7 @@ fn go_on(index: &mut MessageIndex, watch: &mut Watch, retention: u32, end: u64, 
     ensures minute { watch.new.window.minute ≡ end }
     ensures passing { (q : QueueHistory) (first : ℕ) (before : List Row) → IsLegal q → retention ≡ (settings_of q.lines).retention_seconds
         → IsPassing q first before index.old watch.old → IsPassing q first before index.new watch.new }
+    ensures cost { Costs 0 0 ticks.old index.old ticks.new index.new }
 {
     for _ in watch.minute()..end {
         end_minute(index, watch, retention, ticks);
@@ -69,6 +72,7 @@ fn end_minute(index: &mut MessageIndex, watch: &mut Watch, retention: u32, ticks
     ensures minute { watch.new.window.minute ≡ watch.old.window.minute + 1 }
     ensures passing { (q : QueueHistory) (first : ℕ) (before : List Row) → IsLegal q → retention ≡ (settings_of q.lines).retention_seconds
         → IsPassing q first before index.old watch.old → IsPassing q first before index.new watch.new }
+    ensures cost { Costs 0 0 ticks.old index.old ticks.new index.new }
 {
     let last = last_moment(watch.minute());
     index.settle(retention, last, ticks);

@@ -109,6 +109,8 @@ impl QueueState {
     ghost use Rattle.queue_core.specs.Legal.{IsLegal, IsCausedIn};
     ghost use Rattle.queue_core.specs.Kept.{opened_queue};
     ghost use Rattle.queue_core.specs.Run.{AreAnswers, AreExact, after_all};
+    ghost use Rattle.queue_core.specs.Cost.{most_ticks, most_ticks_of_all};
+    ghost use Rattle.queue_core.specs.Spending.{HasCome};
 
     /// Opens a queue, with the rules of its alarms. `OutOfMemory` is the only refusal.
     pub fn open(
@@ -144,7 +146,8 @@ impl QueueState {
 
     /// Moves the clock to a moment, where that is later.
     fn move_to(&mut self, at: Moment, ticks: &mut Ticks)
-        ensures { self.new ≡ at_moment self.old at }
+        ensures state { self.new ≡ at_moment self.old at }
+        ensures come { HasCome ticks.old self.old ticks.new self.new }
     {
         // The journal has at most one entry more than this, a number of 25 bits.
         let _most = self.limits.max_lines;
@@ -187,6 +190,7 @@ impl QueueState {
         ensures state { self.new ≡ at_moment self.old at }
         ensures ok { OnOk result (first_refusal self.new ≡ None) }
         ensures refused { IfErr result (λ fault. first_refusal self.new ≡ Some fault) }
+        ensures come { HasCome ticks.old self.old ticks.new self.new }
     {
         self.move_to(at, ticks);
         match self.first_refusal() {
@@ -498,6 +502,7 @@ impl QueueState {
         ensures ok { OnOk result (self.new ≡ with_event self.old event) }
         ensures err { OnErr result (self.new ≡ self.old) }
         ensures errors { IfErr result (λ fault. fault ≡ OutOfMemory) }
+        ensures cost { (p : QueueHistory) (before : ℕ) → HasCome before p ticks.old self.old → ticks.new ≤ before + most_ticks p self.new }
     {
         let at = self.clock;
         let settings = self.tally.settings;
@@ -523,6 +528,7 @@ impl QueueState {
         requires refusal { fault ≢ OutOfMemory }
         ensures answer { Meets result (Err fault) }
         ensures state { self.new ≡ (if is_out_of_memory result then self.old else with_event self.old (Refused fault)) }
+        ensures cost { (p : QueueHistory) (before : ℕ) → HasCome before p ticks.old self.old → ticks.new ≤ before + most_ticks p self.new }
     {
         self.add(alloc, Event::Refused { fault }, ticks)?;
         Err(fault)
@@ -543,6 +549,7 @@ impl QueueState {
         ensures answer { Meets (as_reply Reply.Sent result) (outcome_at self.old at (Command.Send content delay)).reply }
         ensures exact { IsExact (outcome_at self.old at (Command.Send content delay)) (as_reply Reply.Sent result) }
         ensures state { self.new ≡ after_answer self.old at (Command.Send content delay) result }
+        ensures cost { ticks.new ≤ ticks.old + most_ticks self.old self.new }
     {
         self.begin(at, ticks)?;
         if self.is_too_large(&content) {
@@ -575,6 +582,7 @@ impl QueueState {
         ensures answer { Meets (as_reply Reply.Received result) (outcome_at self.old at (Command.Receive maximum timeout)).reply }
         ensures exact { IsExact (outcome_at self.old at (Command.Receive maximum timeout)) (as_reply Reply.Received result) }
         ensures state { self.new ≡ after_answer self.old at (Command.Receive maximum timeout) result }
+        ensures cost { ticks.new ≤ ticks.old + most_ticks self.old self.new }
     {
         self.begin(at, ticks)?;
         if self.is_at_in_flight_limit() {
@@ -604,6 +612,7 @@ impl QueueState {
         ensures answer { Meets result (outcome_at self.old at (Command.Receive maximum timeout)).reply }
         ensures exact { IsExact (outcome_at self.old at (Command.Receive maximum timeout)) result }
         ensures state { self.new ≡ after_answer self.old at (Command.Receive maximum timeout) result }
+        ensures cost { ticks.new ≤ ticks.old + most_ticks self.old self.new }
     {
         let timeout = timeout.map(|timeout| timeout.seconds());
         let offers = self.receive(alloc, at, maximum.messages(), timeout, ticks)?;
@@ -627,6 +636,7 @@ impl QueueState {
         ensures answer { Meets (as_reply (λ _. Reply.Done) result) (outcome_at self.old at (Command.Change handle timeout)).reply }
         ensures exact { IsExact (outcome_at self.old at (Command.Change handle timeout)) (as_reply (λ _. Reply.Done) result) }
         ensures state { self.new ≡ after_answer self.old at (Command.Change handle timeout) result }
+        ensures cost { ticks.new ≤ ticks.old + most_ticks self.old self.new }
     {
         self.begin(at, ticks)?;
         match self.change_refusal(&handle, timeout) {
@@ -670,6 +680,7 @@ impl QueueState {
         ensures answer { Meets (as_reply (λ _. Reply.Done) result) (outcome_at self.old at (Command.Delete handle)).reply }
         ensures exact { IsExact (outcome_at self.old at (Command.Delete handle)) (as_reply (λ _. Reply.Done) result) }
         ensures state { self.new ≡ after_answer self.old at (Command.Delete handle) result }
+        ensures cost { ticks.new ≤ ticks.old + most_ticks self.old self.new }
     {
         self.begin(at, ticks)?;
         if !self.is_valid_handle(&handle) {
@@ -698,6 +709,7 @@ impl QueueState {
         ensures answer { Meets (as_reply (λ _. Reply.Done) result) (outcome_at self.old at Command.Purge).reply }
         ensures exact { IsExact (outcome_at self.old at Command.Purge) (as_reply (λ _. Reply.Done) result) }
         ensures state { self.new ≡ after_answer self.old at Command.Purge result }
+        ensures cost { ticks.new ≤ ticks.old + most_ticks self.old self.new }
     {
         self.begin(at, ticks)?;
         self.add(alloc, Event::Purged, ticks)
@@ -717,6 +729,7 @@ impl QueueState {
         ensures answer { Meets (as_reply (λ _. Reply.Done) result) (outcome_at self.old at (Command.Set wish.now target)).reply }
         ensures exact { IsExact (outcome_at self.old at (Command.Set wish.now target)) (as_reply (λ _. Reply.Done) result) }
         ensures state { self.new ≡ after_answer self.old at (Command.Set wish.now target) result }
+        ensures cost { ticks.new ≤ ticks.old + most_ticks self.old self.new }
     {
         self.begin(at, ticks)?;
         let settings = self.settings_with(wish, target);
@@ -741,6 +754,7 @@ impl QueueState {
         ensures answer { Meets (as_reply (λ _. Reply.Done) result) (outcome_at self.old at Command.Close).reply }
         ensures exact { IsExact (outcome_at self.old at Command.Close) (as_reply (λ _. Reply.Done) result) }
         ensures state { self.new ≡ after_answer self.old at Command.Close result }
+        ensures cost { ticks.new ≤ ticks.old + most_ticks self.old self.new }
     {
         self.move_to(at, ticks);
         if self.is_closed() {
@@ -751,7 +765,8 @@ impl QueueState {
 
     /// Moves the clock to a moment, where that is later, and nothing else.
     pub fn advance(&mut self, at: Moment, ticks: &mut Ticks)
-        ensures { self.new ≡ at_moment self.old at }
+        ensures state { self.new ≡ at_moment self.old at }
+        ensures cost { ticks.new ≤ ticks.old + most_ticks self.old self.new }
     {
         self.move_to(at, ticks);
     }
@@ -761,6 +776,7 @@ impl QueueState {
     pub fn look(&mut self, at: Moment, ticks: &mut Ticks) -> Look
         ensures answer { result ≡ look_of (at_moment self.old at) }
         ensures state { self.new ≡ at_moment self.old at }
+        ensures cost { ticks.new ≤ ticks.old + most_ticks self.old self.new }
     {
         self.move_to(at, ticks);
         self.look_of()
@@ -801,6 +817,7 @@ impl QueueState {
         ensures answer { Meets result (outcome_at self.old at command.now).reply }
         ensures exact { IsExact (outcome_at self.old at command.now) result }
         ensures state { self.new ≡ after_answer self.old at command.now result }
+        ensures cost { ticks.new ≤ ticks.old + most_ticks self.old self.new }
     {
         match command {
             Command::Send { content, delay } => {
@@ -860,6 +877,8 @@ impl QueueState {
         ensures err { OnErr result (self.new ≡ self.old) }
         ensures errors { IfErr result (λ fault. fault ≡ OutOfMemory) }
         ensures wants { OnErr result (0 < length steps.now) }
+        ensures cost { IfOk result (λ answers. ticks.new ≤ ticks.old + most_ticks_of_all self.old steps.now answers.items) }
+        ensures calm { OnErr result (ticks.new ≡ ticks.old) }
     {
         let mut answers = Vec::with_capacity(alloc, steps.len())?;
         for step in steps {

@@ -1,6 +1,6 @@
 //! Dead letters: what a queue hands over, confirms, takes back and accepts.
 
-ghost use Rattle.std.specs.Prelude.{◌≡◌, ◌<◌, ◌^◌, None, Ok, IsTrue, option_map};
+ghost use Rattle.std.specs.Prelude.{◌≡◌, ◌+◌, ◌<◌, ◌≤◌, ◌^◌, None, Ok, IsTrue, option_map};
 ghost use Rattle.message.specs.Content.{is_content};
 ghost use Rattle.message.specs.Name.{is_queue_name};
 ghost use Rattle.message.specs.Fault.{Meets};
@@ -29,6 +29,7 @@ fn keep_parcel(parcel: &Parcel)
 
 impl QueueState {
     ghost use Rattle.queue_core.specs.Messages.{has_accepted};
+    ghost use Rattle.queue_core.specs.Cost.{most_ticks};
     ghost use Rattle.queue_core.specs.declared.facts.Message.{Message};
     ghost use Rattle.queue_core.specs.Recorded.{IsRecordOf};
     ghost use Rattle.queue_core.specs.Queue.{outcome_at, IsExact, after_answer, as_reply, is_pending, waiting_count, origin_of, first_transfer, first_parcel_of};
@@ -47,6 +48,7 @@ impl QueueState {
         ensures answer { Meets (as_reply Reply.Arrived result) (outcome_at self.old at (Command.Arrive parcel)).reply }
         ensures exact { IsExact (outcome_at self.old at (Command.Arrive parcel)) (as_reply Reply.Arrived result) }
         ensures state { self.new ≡ after_answer self.old at (Command.Arrive parcel) result }
+        ensures cost { ticks.new ≤ ticks.old + most_ticks self.old self.new }
     {
         self.begin(at, ticks)?;
         if self.has_accepted(&parcel.origin) {
@@ -72,6 +74,7 @@ impl QueueState {
         ensures answer { Meets (as_reply Reply.Arrived result) (outcome_at self.old at (Command.Arrive parcel.now)).reply }
         ensures exact { IsExact (outcome_at self.old at (Command.Arrive parcel.now)) (as_reply Reply.Arrived result) }
         ensures state { self.new ≡ after_answer self.old at (Command.Arrive parcel.now) result }
+        ensures cost { ticks.new ≤ ticks.old + most_ticks self.old self.new }
     {
         self.begin(at, ticks)?;
         if self.has_accepted(&parcel.origin) {
@@ -98,6 +101,7 @@ impl QueueState {
         ensures answer { Meets (as_reply Reply.Settled result) (outcome_at self.old at (Command.Settle number)).reply }
         ensures exact { IsExact (outcome_at self.old at (Command.Settle number)) (as_reply Reply.Settled result) }
         ensures state { self.new ≡ after_answer self.old at (Command.Settle number) result }
+        ensures cost { ticks.new ≤ ticks.old + most_ticks self.old self.new }
     {
         self.begin(at, ticks)?;
         if !self.is_pending(number) {
@@ -122,6 +126,7 @@ impl QueueState {
         ensures answer { Meets (as_reply Reply.Orphaned result) (outcome_at self.old at (Command.Orphan target)).reply }
         ensures exact { IsExact (outcome_at self.old at (Command.Orphan target)) (as_reply Reply.Orphaned result) }
         ensures state { self.new ≡ after_answer self.old at (Command.Orphan target) result }
+        ensures cost { ticks.new ≤ ticks.old + most_ticks self.old self.new }
     {
         self.begin(at, ticks)?;
         let count = self.waiting_count(target);

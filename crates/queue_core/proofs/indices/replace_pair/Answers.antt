@@ -1,4 +1,5 @@
 use Rattle.queue_core.proofs.VisibleLemmas.{pairs_given, strict_given, pairs_left}
+use Rattle.queue_core.proofs.SpendingLemmas.{len-put}
 use Rattle.queue_core.proofs.indices.replace_pair.Goals as goal
 
 pub returns-in-Some-clause-pairs : goal.returns-in-Some-clause-pairs
@@ -12,3 +13,7 @@ returns-in-Some-clause-strict c =
 pub returns-in_default-clause-pairs : goal.returns-in_default-clause-pairs
 returns-in_default-clause-pairs c =
     pairs_left c.args.number c.args.after c.args.visible.now.pairs c.remove_pair.new.visible.pairs c.remove_pair.ensures.pairs c.in_default.is
+
+pub returns-in-Some-clause-len : goal.returns-in-Some-clause-len
+returns-in-Some-clause-len c =
+    len-put c.args.number c.in-Some.moment c.args.before c.args.after c.args.visible.now.pairs c.remove_pair.new.visible.pairs c.put.new.self.pairs c.remove_pair.ensures.len c.in-Some.is c.put.ensures.pairs

@@ -4,6 +4,7 @@ use Rattle.std.specs.Prelude.{option_and_then}
 use Rattle.indexmap.specs.IndexMap.{index_map_len}
 use Rattle.queue_core.specs.Records.{records_in, HasIndices}
 use Rattle.queue_core.specs.Settling.{kept_since}
+use Rattle.queue_core.specs.Spending.{Costs}
 use Rattle.queue_core.proofs.index.MessageIndex.let_go.Given as goal
 
 abbrev pub invariant-loop-number : goal.invariant-loop-number
@@ -12,6 +13,7 @@ invariant-loop-number l = record {
   kept : (n : ℕ) → option_and_then (kept_since l.moment) (records_in l.self n) ≡ option_and_then (kept_since l.moment) (records_in l.fn.self n);
   receives : l.self.receives.items ≡ l.fn.self.receives.items;
   leaving : l.self.leaving.items ≡ l.fn.self.leaving.items;
+  cost : Costs 0 0 l.fn.ticks l.fn.self l.ticks l.self;
 }
 
 abbrev pub decreases-loop-number : goal.decreases-loop-number

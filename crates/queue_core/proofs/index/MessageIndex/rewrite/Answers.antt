@@ -1,6 +1,8 @@
 -- The slot before is that of a record that is there.
-use Rattle.std.proofs.Common.{refl, Some}
+use Rattle.std.proofs.Common.{refl, Some, arith}
 use Rattle.queue_core.proofs.KeptRecordLemmas.{can_change, has_rewritten}
+use Rattle.queue_core.specs.Records.{records_in, slots_in}
+use Rattle.queue_core.proofs.SpendingLemmas.{costs-changed, keeps-sent}
 use Rattle.queue_core.proofs.index.MessageIndex.rewrite.Goals as goal
 
 pub replace-requires : goal.replace-requires
@@ -9,4 +11,9 @@ replace-requires c = rw c.slot_of-before.ensures (can_change c.args.self.now c.a
 pub returns-clause-indices : goal.returns-clause-indices
 returns-clause-indices c =
     has_rewritten c.args.self.now c.args.number c.requires.indices c.requires.kept _ c.args.first_receive c.args.last_receive c.args.slot c.requires.sent
-    (rw c.slot_of-before.ensures at c.replace.ensures) c.write_parts.ensures.records refl
+    (rw c.slot_of-before.ensures at c.replace.ensures.replaced) c.write_parts.ensures.records refl
+
+pub returns-clause-cost : goal.returns-clause-cost
+returns-clause-cost c =
+    costs-changed _ _ c.args.self.now _ (slots_in c.args.self.now c.args.number) (Some c.args.slot) c.requires.indices (omega (arith, c.write_parts.ensures.len))
+    (keeps-sent (records_in c.args.self.now c.args.number) c.args.slot c.requires.sent) (rw c.slot_of-before.ensures at c.replace.ensures.cost)

@@ -5,13 +5,14 @@ use Rattle.visible_index.specs.Pairs.{has_pair}
 use Rattle.queue_core.specs.Slots.{is_hidden, is_shown, is_here, is_delayed, is_in_flight}
 use Rattle.queue_core.specs.Changes.{is_at}
 use Rattle.queue_core.proofs.SlotLemmas.{is_some-due_in, is_some-sent_in, is_some-shown_in, is_at-shown_in, same_rooms, recounted}
+use Rattle.queue_core.proofs.SpendingLemmas.{cost-replaced}
 use Rattle.queue_core.proofs.indices.Indices.replace.Goals as goal
 
 pub replace-requires : goal.replace-requires
 replace-requires c = rw c.is_here.ensures c.requires.ages
 
-pub returns : goal.returns
-returns c =
+pub returns-clause-replaced : goal.returns-clause-replaced
+returns-clause-replaced c =
     let x = c.args.self.now in
     let before = c.args.before in
     let after = c.args.after in
@@ -29,3 +30,18 @@ returns c =
       sent_spare = same_rooms c.sent_in.result c.sent_in-2.result (is_here before) (is_here after) x.sent.spare _ (ap is_some c.sent_in.ensures ∙ is_some-sent_in before) (ap is_some c.sent_in-2.ensures ∙ is_some-sent_in after) c.replace_moment-2.ensures.spare;
       ages = rw (c.is_here.ensures, c.is_here-2.ensures) at c.replace.ensures;
     }
+
+pub returns-clause-cost : goal.returns-clause-cost
+returns-clause-cost c =
+    λ k below keeps.
+    let x = c.args.self.now in
+    let before = c.args.before in
+    let after = c.args.after in
+    cost-replaced before after x _ _ _ k c.args.ticks.now c.replace_moment.new.ticks c.replace_moment-2.new.ticks c.replace_pair.new.ticks
+    (recounted x.delayed c.from.result c.from-2.result (is_delayed before) (is_delayed after) (c.from.ensures ∙ ap bool_byte c.is_delayed.ensures) (c.from-2.ensures ∙ ap bool_byte c.is_delayed-2.ensures) c.requires.delayed)
+    (recounted x.in_flight c.from-3.result c.from-4.result (is_in_flight before) (is_in_flight after) (c.from-3.ensures ∙ ap bool_byte c.is_in_flight.ensures) (c.from-4.ensures ∙ ap bool_byte c.is_in_flight-2.ensures) c.requires.in_flight)
+    (rw (c.shown_in.ensures, c.shown_in-2.ensures) at c.replace_pair.ensures.len)
+    (is_some-shown_in before) (is_some-shown_in after) keeps
+    (rw (c.due_in.ensures, c.due_in-2.ensures) at c.replace_moment.ensures.cost k below.due)
+    (rw (c.sent_in.ensures, c.sent_in-2.ensures) at c.replace_moment-2.ensures.cost k below.sent)
+    (rw (c.shown_in.ensures, c.shown_in-2.ensures) at c.replace_pair.ensures.cost k below.visible)
