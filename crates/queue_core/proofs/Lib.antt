@@ -40,3 +40,4 @@ mod ReceiveLemmas
 mod QuestionLemmas
 mod IndexLemmas
 mod AcceptedLemmas
+mod BoundLemmas
