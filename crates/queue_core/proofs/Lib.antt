@@ -42,3 +42,4 @@ mod ReceiveLemmas
 mod QuestionLemmas
 mod IndexLemmas
 mod AcceptedLemmas
+mod BoundLemmas
