@@ -35,6 +35,7 @@ mod KeptRecordLemmas
 mod DueLemmas
 mod NumberLemmas
 mod BoundLemmas
+mod StubLemmas
 mod SpendingLemmas
 mod ChangeLemmas
 mod AppliedLemmas

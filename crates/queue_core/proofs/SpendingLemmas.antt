@@ -1,6 +1,7 @@
 -- What a number's change of slots costs, and that changes one after another cost what they do together.
-use Rattle.std.proofs.Common.{◌≡◌, ℕ, ◌+◌, ◌*◌, ◌<◌, ◌≤◌, ◌^◌, Bool, true, false, cond, not, ◌==◌, ◌||◌, List, [], ◌∷◌, length, Option, Some, None, is_some, refl, sym, ap, subst, ◌∙◌, arith, eq-eqb}
-use Rattle.std.specs.Prelude.{option_map}
+use Rattle.std.proofs.Common.{◌≡◌, ℕ, ◌+◌, ◌*◌, ◌<◌, ◌≤◌, ◌^◌, Bool, true, false, cond, not, ◌==◌, ◌||◌, List, [], ◌∷◌, length, get_or, take, Option, Some, None, is_some, refl, sym, ap, subst, ◌∙◌, arith, eq-eqb}
+use Rattle.std.specs.Prelude.{option_map, count_by}
+use Rattle.std.proofs.lemmas.List.Sums.{sum_by_more, sum_by-take-le}
 use Rattle.std.proofs.Math.Nat.{mul-le-mul_left}
 use Rattle.indexmap.specs.IndexMap.{index_map_len}
 use Rattle.visible_index.specs.Pairs.{same_pair, has_pair, insert_pair, without}
@@ -11,12 +12,16 @@ use Rattle.queue_core.specs.declared.slot.Slot.{Slot}
 use Rattle.queue_core.specs.declared.record.Record.{Record}
 use Rattle.queue_core.specs.declared.indices.Indices.{Indices}
 use Rattle.queue_core.specs.declared.index.MessageIndex.{MessageIndex}
-use Rattle.queue_core.specs.Slots.{is_hidden_stay, is_left_stay, is_hidden, is_shown, is_here, is_delayed, is_in_flight, due_in, sent_in, one_if}
+use Rattle.queue_core.specs.Slots.{is_hidden_stay, is_left_stay, is_hidden, is_shown, is_here, is_delayed, is_in_flight, due_in, sent_in, is_left_for, one_if}
 use Rattle.queue_core.specs.Changes.{shown_in, is_at}
-use Rattle.queue_core.specs.Records.{HasIndices}
+use Rattle.queue_core.specs.Messages.{contains_number}
+use Rattle.queue_core.specs.Records.{slots_in, HasIndices}
+use Rattle.queue_core.specs.Applying.{HasChanged, among}
 use Rattle.queue_core.specs.Spending.{weight, spent, AreBelow, moved, added, KeepsSent, CostsBetween, Costs}
 use Rattle.queue_core.proofs.SlotLemmas.{counted}
-use Rattle.queue_core.proofs.BoundLemmas.{below-is}
+use Rattle.queue_core.proofs.NumberLemmas.{AreOnce, unseen}
+use Rattle.queue_core.proofs.ChangeLemmas.{outside}
+use Rattle.queue_core.proofs.StubLemmas.{below-is}
 
 -- ---- pairs
 
@@ -161,9 +166,10 @@ most_begun s Hidden = omega arith
 most_begun s Shown = omega arith
 most_begun s (Left target ran_out) = omega arith
 
-pub costs-begun : (t t' : ℕ) (x y : MessageIndex) (kept : Slot) → HasIndices x → index_map_len y.records ≤ index_map_len x.records + 1
-    → ((c : ℕ) → AreBelow c x.indices → KeepsSent None (Some kept) → spent c t' y.indices ≤ spent c t x.indices + 2 * (c + 1) * added None (Some kept)) → Costs 1 8 t x t' y
-costs-begun t t' x y kept has records cost = record {
+pub costs-begun : (t t' n' : ℕ) (x : MessageIndex) (y : Indices) (kept : Slot) → HasIndices x → n' ≤ index_map_len x.records + 1
+    → ((c : ℕ) → AreBelow c x.indices → KeepsSent None (Some kept) → spent c t' y ≤ spent c t x.indices + 2 * (c + 1) * added None (Some kept))
+    → CostsBetween 1 8 t (index_map_len x.records) x.indices t' n' y
+costs-begun t t' n' x y kept has records cost = record {
   kept = records;
   spent = λ c below.
       let was = cost c (below-is x c has (omega (arith, below))) (λ none here. absurd cc) in
@@ -171,9 +177,10 @@ costs-begun t t' x y kept has records cost = record {
       omega (arith, was, all);
 }
 
-pub costs-changed : (t t' : ℕ) (x y : MessageIndex) (before after : Option Slot) → HasIndices x → index_map_len y.records ≤ index_map_len x.records → KeepsSent before after
-    → ((c : ℕ) → AreBelow c x.indices → KeepsSent before after → spent c t' y.indices ≤ spent c t x.indices + 2 * (c + 1) * added before after) → Costs 0 (added before after) t x t' y
-costs-changed t t' x y before after has records keeps cost = record {
+pub costs-changed : (t t' n' : ℕ) (x : MessageIndex) (y : Indices) (before after : Option Slot) → HasIndices x → n' ≤ index_map_len x.records → KeepsSent before after
+    → ((c : ℕ) → AreBelow c x.indices → KeepsSent before after → spent c t' y ≤ spent c t x.indices + 2 * (c + 1) * added before after)
+    → CostsBetween 0 (added before after) t (index_map_len x.records) x.indices t' n' y
+costs-changed t t' n' x y before after has records keeps cost = record {
   kept = omega (arith, records);
   spent = λ c below. cost c (below-is x c has (omega (arith, below))) keeps;
 }
@@ -201,20 +208,60 @@ keeps-none o here here' = absurd (cc)
 pub added-none : (o : Option Slot) → added o None ≡ 0
 added-none o = refl
 
-shown_adds : (s : Slot) (stay : Stay) → is_hidden_stay stay ≡ true → (t : Slot) → added (Some (record s { stay = stay })) (Some (record t { stay = Shown })) ≡ 0
-shown_adds s Hidden h t = refl
-shown_adds s Shown h t = absurd (cc)
-shown_adds s (Left target ran_out) h t = absurd (cc)
+-- a slot of a kind: when it is due and was sent adds nothing
+abbrev pub slot_of : Stay → Slot
+slot_of stay = record { stay = stay; due = 0; sent = 0; is_fresh = false }
 
-pub added-shown : (o : Option Slot) (t : Slot) → is_hidden o ≡ true → added o (Some (record t { stay = Shown })) ≡ 0
-added-shown None t h = absurd (cc)
-added-shown (Some s) t h = shown_adds s s.stay h t
+shown_adds : (s : Slot) (stay : Stay) → is_hidden_stay stay ≡ true → added (Some (record s { stay = stay })) (Some (slot_of Shown)) ≡ 0
+shown_adds s Hidden h = refl
+shown_adds s Shown h = absurd (cc)
+shown_adds s (Left target ran_out) h = absurd (cc)
 
-hidden_adds : (s : Slot) (stay : Stay) → not (is_left_stay stay) ≡ true → (t : Slot) → added (Some (record s { stay = stay })) (Some (record t { stay = Hidden })) ≤ 6
-hidden_adds s Hidden h t = omega arith
-hidden_adds s Shown h t = omega arith
-hidden_adds s (Left target ran_out) h t = absurd (cc)
+added_shown : (o : Option Slot) → is_hidden o ≡ true → added o (Some (slot_of Shown)) ≡ 0
+added_shown None h = absurd (cc)
+added_shown (Some s) h = shown_adds s s.stay h
 
-pub added-hidden : (o : Option Slot) (t : Slot) → is_here o ≡ true → added o (Some (record t { stay = Hidden })) ≤ 6
-added-hidden None t h = absurd (cc)
-added-hidden (Some s) t h = hidden_adds s s.stay h t
+-- what is hidden is shown for nothing
+pub shown-free : (o : Option Slot) (begun at n at' n' : ℕ) (x y : Indices) → is_hidden o ≡ true → CostsBetween begun (added o (Some (slot_of Shown))) at n x at' n' y → CostsBetween begun 0 at n x at' n' y
+shown-free o begun at n at' n' x y h a = subst (λ (more : ℕ). CostsBetween begun more at n x at' n' y) (added_shown o h) a
+
+hidden_adds : (s : Slot) (stay : Stay) → not (is_left_stay stay) ≡ true → added (Some (record s { stay = stay })) (Some (slot_of Hidden)) ≤ 6
+hidden_adds s Hidden h = omega arith
+hidden_adds s Shown h = omega arith
+hidden_adds s (Left target ran_out) h = absurd (cc)
+
+added_hidden : (o : Option Slot) → is_here o ≡ true → added o (Some (slot_of Hidden)) ≤ 6
+added_hidden None h = absurd (cc)
+added_hidden (Some s) h = hidden_adds s s.stay h
+
+-- what is there is hidden for 6
+pub hidden-costs : (o : Option Slot) (begun at n at' n' : ℕ) (x y : Indices) → is_here o ≡ true → CostsBetween begun (added o (Some (slot_of Hidden))) at n x at' n' y → CostsBetween begun 6 at n x at' n' y
+hidden-costs o begun at n at' n' x y h a = costs_within begun (added o (Some (slot_of Hidden))) 6 at n at' n' x y (added_hidden o h) a
+
+stay_adds : (s : Slot) (stay : Stay) → added (Some (record s { stay = stay })) (Some (slot_of Hidden)) ≤ 8
+stay_adds s Hidden = omega arith
+stay_adds s Shown = omega arith
+stay_adds s (Left target ran_out) = omega arith
+
+back_adds : (o : Option Slot) → added o (Some (slot_of Hidden)) ≤ 8
+back_adds None = omega arith
+back_adds (Some s) = stay_adds s s.stay
+
+-- and whatever is not there for 8
+pub back-costs : (o : Option Slot) (begun at n at' n' : ℕ) (x y : Indices) → CostsBetween begun (added o (Some (slot_of Hidden))) at n x at' n' y → CostsBetween begun 8 at n x at' n' y
+back-costs o begun at n at' n' x y a = costs_within begun (added o (Some (slot_of Hidden))) 8 at n at' n' x y (back_adds o) a
+
+-- ---- what has left, number by number
+
+pub back-counted : (lost : ℕ) (change : Record → Option Record) (xs : List ℕ) (i m : ℕ) (x y : MessageIndex) → AreOnce xs → i < length xs → m ≡ get_or xs i 0 → HasChanged (among (take i xs) change) x y
+    → 8 * count_by (λ n. is_left_for lost (slots_in x n)) (take i xs) + 8 * one_if (is_left_for lost (slots_in y m)) ≤ 8 * count_by (λ n. is_left_for lost (slots_in x n)) (take (i + 1) xs)
+back-counted lost change xs i m x y once h read a =
+    let new : contains_number m (take i xs) ≡ false = subst (λ (k : ℕ). contains_number k (take i xs) ≡ false) (sym read) (unseen xs i once h) in
+    let same : one_if (is_left_for lost (slots_in y m)) ≡ one_if (is_left_for lost (slots_in x m)) =
+    ap (λ (o : Option Record). one_if (is_left_for lost (option_map (λ r. r.slot) o))) (outside change (take i xs) m x y a new) in
+    let at : one_if (is_left_for lost (slots_in x m)) ≡ one_if (is_left_for lost (slots_in x (get_or xs i 0))) = ap (λ (n : ℕ). one_if (is_left_for lost (slots_in x n))) read in
+    let more = sum_by_more (λ (n : ℕ). one_if (is_left_for lost (slots_in x n))) xs i 0 h in
+    omega (arith, same, at, more)
+
+pub back-all : (lost place : ℕ) (xs : List ℕ) (x : MessageIndex) → 8 * count_by (λ n. is_left_for lost (slots_in x n)) (take place xs) ≤ 8 * count_by (λ n. is_left_for lost (slots_in x n)) xs
+back-all lost place xs x = omega (arith, sum_by-take-le (λ (n : ℕ). one_if (is_left_for lost (slots_in x n))) xs place)

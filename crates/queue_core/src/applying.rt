@@ -151,7 +151,7 @@ impl MessageIndex {
     }
 
     /// Lets the messages of these numbers leave for the dead-letter queue of a uid.
-    #[tactic(auto, using(queue_core::proofs::SpendingLemmas::free_then, queue_core::proofs::SpendingLemmas::costs_none))]
+    #[tactic(auto, using(crate::proofs::SpendingLemmas::free_then, crate::proofs::SpendingLemmas::costs_none))]
     fn depart_all(&mut self, numbers: &[u64], target: u64, ticks: &mut Ticks)
         requires indices { HasIndices self.old }
         requires here { (n : ℕ) → contains_number n numbers.now ≡ true → is_here (slots_in self.old n) ≡ true }
@@ -195,7 +195,7 @@ impl MessageIndex {
     }
 
     /// Takes the message of a number out, where it is there.
-    #[tactic(auto, using(queue_core::proofs::SpendingLemmas::free_then, queue_core::proofs::SpendingLemmas::costs_none))]
+    #[tactic(auto, using(crate::proofs::SpendingLemmas::free_then, crate::proofs::SpendingLemmas::costs_none))]
     fn delete(&mut self, number: u64, ticks: &mut Ticks)
         requires indices { HasIndices self.old }
         requires few { born_in self.old < 2 ^ 62 }
@@ -214,7 +214,7 @@ impl MessageIndex {
     }
 
     /// Takes out every message that is there.
-    #[tactic(auto, using(queue_core::proofs::SpendingLemmas::free_then, queue_core::proofs::SpendingLemmas::costs_none))]
+    #[tactic(auto, using(crate::proofs::SpendingLemmas::free_then, crate::proofs::SpendingLemmas::costs_none))]
     fn purge(&mut self, ticks: &mut Ticks)
         requires indices { HasIndices self.old }
         requires few { born_in self.old < 2 ^ 62 }
@@ -253,7 +253,7 @@ impl MessageIndex {
     }
 
     /// Notes of every message that has left whether its retention in seconds has ended at a time.
-    #[tactic(auto, using(queue_core::proofs::SpendingLemmas::free_then, queue_core::proofs::SpendingLemmas::costs_none))]
+    #[tactic(auto, using(crate::proofs::SpendingLemmas::free_then, crate::proofs::SpendingLemmas::costs_none))]
     fn end_period(&mut self, retention: u32, at: Moment, ticks: &mut Ticks)
         requires indexed { IsIndexed self.old }
         requires few { born_in self.old < 2 ^ 62 }
@@ -269,7 +269,7 @@ impl MessageIndex {
     }
 
     /// Lets the message of a number go, where it has left: the transfer is confirmed.
-    #[tactic(auto, using(queue_core::proofs::SpendingLemmas::free_then, queue_core::proofs::SpendingLemmas::costs_none))]
+    #[tactic(auto, using(crate::proofs::SpendingLemmas::free_then, crate::proofs::SpendingLemmas::costs_none))]
     fn confirm(&mut self, number: u64, ticks: &mut Ticks)
         requires indexed { IsIndexed self.old }
         requires few { born_in self.old < 2 ^ 62 }
@@ -342,7 +342,7 @@ impl MessageIndex {
     }
 
     /// Takes out every message.
-    #[tactic(auto, using(queue_core::proofs::SpendingLemmas::free_then, queue_core::proofs::SpendingLemmas::costs_none))]
+    #[tactic(auto, using(crate::proofs::SpendingLemmas::free_then, crate::proofs::SpendingLemmas::costs_none))]
     fn close(&mut self, ticks: &mut Ticks)
         requires indexed { IsIndexed self.old }
         requires few { born_in self.old < 2 ^ 62 }

@@ -16,4 +16,4 @@ returns-clause-indices c =
     has_begun c.args.self.now _ c.len-number.result c.args.kept c.requires.indices c.requires.ready next c.requires.sent c.replace.ensures.replaced c.put_record.ensures.records c.push_reserved.ensures.items
 
 pub returns-clause-cost : goal.returns-clause-cost
-returns-clause-cost c = costs-begun _ _ c.args.self.now _ c.args.kept.slot c.requires.indices c.put_record.ensures.len c.replace.ensures.cost
+returns-clause-cost c = costs-begun _ _ _ c.args.self.now c.replace.new.self c.args.kept.slot c.requires.indices c.put_record.ensures.len c.replace.ensures.cost

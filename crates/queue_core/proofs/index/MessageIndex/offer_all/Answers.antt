@@ -1,9 +1,10 @@
-use Rattle.std.proofs.Common.{◌≡◌, get_or, take, refl, ap, ◌∙◌, Some, arith}
+use Rattle.std.proofs.Common.{◌≡◌, ◌+◌, ◌*◌, get_or, take, refl, ap, ◌∙◌, Some, arith}
 use Rattle.queue_core.specs.Messages.{contains_number}
 use Rattle.queue_core.specs.Slots.{one_if}
 use Rattle.queue_core.specs.Records.{hidden_until, received_at}
 use Rattle.queue_core.proofs.NumberLemmas.{contains-at, unseen}
 use Rattle.queue_core.proofs.ChangeLemmas.{changed-more, counted-more, here-below, here-outside}
+use Rattle.queue_core.proofs.SpendingLemmas.{costs_within, costs_then}
 use Rattle.queue_core.proofs.index.MessageIndex.offer_all.Goals as goal
 
 pub offer-requires-clause-here : goal.offer-requires-clause-here
@@ -30,4 +31,5 @@ loop-number-preserved c =
       counted = rw c.offer.ensures.receives
           (counted-more xs c.args.self.now.receives.items c.loop-number.self.receives.items i (get_or xs i 0) c.requires.once c.loop-number-test.true refl below c.loop-number.invariant.counted);
       leaving = c.offer.ensures.leaving ∙ c.loop-number.invariant.leaving;
+      cost = costs_within 0 (6 * i + 6) (6 * (i + 1)) _ _ _ _ _ _ (omega arith) (costs_then 0 (6 * i) 0 6 _ _ _ _ _ _ _ _ _ c.loop-number.invariant.cost c.offer.ensures.cost);
     }

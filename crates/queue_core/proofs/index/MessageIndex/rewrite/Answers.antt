@@ -15,5 +15,5 @@ returns-clause-indices c =
 
 pub returns-clause-cost : goal.returns-clause-cost
 returns-clause-cost c =
-    costs-changed _ _ c.args.self.now _ (slots_in c.args.self.now c.args.number) (Some c.args.slot) c.requires.indices (omega (arith, c.write_parts.ensures.len))
+    costs-changed c.args.ticks.now c.replace.new.ticks _ c.args.self.now c.replace.new.self (slots_in c.args.self.now c.args.number) (Some c.args.slot) c.requires.indices (omega (arith, c.write_parts.ensures.len))
     (keeps-sent (records_in c.args.self.now c.args.number) c.args.slot c.requires.sent) (rw c.slot_of-before.ensures at c.replace.ensures.cost)

@@ -13,7 +13,7 @@ returns-in-Some-clause-indices c =
 
 pub returns-in-Some-clause-cost : goal.returns-in-Some-clause-cost
 returns-in-Some-clause-cost c =
-    costs-changed _ _ c.args.self.now _ (Some c.in-Some.slot) None c.requires.indices (omega (arith, c.take_record.ensures.len)) (keeps-none (Some c.in-Some.slot)) c.replace.ensures.cost
+    costs-changed c.args.ticks.now c.replace.new.ticks _ c.args.self.now c.replace.new.self (Some c.in-Some.slot) None c.requires.indices (omega (arith, c.take_record.ensures.len)) (keeps-none (Some c.in-Some.slot)) c.replace.ensures.cost
 
 pub returns-in_default-clause-cost : goal.returns-in_default-clause-cost
 returns-in_default-clause-cost c = costs_none _ _ c.args.self.now.indices
