@@ -9,7 +9,7 @@ use Rattle.std.specs.Ordering.{eq_by_cmp, nat_cmp}
 use Rattle.std.specs.Int.Digits.{digits_of}
 use Rattle.std.specs.FinMap as finite
 use Rattle.std.proofs.Math.Nat.{mul-add, mul_assoc, mul-mul-mul_comm}
-use Rattle.std.proofs.lemmas.Bool.{false≢true, cases_Bool, cases_lt, eqb-true, eq-eqb, ne_eqb, false_from_ne_true, and_parts, and_from, and_left, and_right, or_cases, or_left, or_right}
+use Rattle.std.proofs.lemmas.Bool.{false≢true, cases_lt, eqb-true, eq-eqb, ne_eqb, false_from_ne_true, and_parts, and_from, and_left, and_right, or_cases, or_left, or_right}
 use Rattle.std.proofs.lemmas.Bool.Decides.{Decides-eqb, nat_tests}
 use Rattle.std.proofs.lemmas.Cmp.{nat_eq_equiv, nat_cmp_total}
 use Rattle.std.proofs.lemmas.Int.Digits.{number_lt, number_digits_of, all_below_base_digits_of}
@@ -27,7 +27,7 @@ use Rattle.indexmap.specs.IndexMap.{IsUnique, index_map_len}
 use Rattle.message.specs.Content.{ContentText}
 use Rattle.journal.specs.Order.{is_before}
 use Rattle.journal.specs.declared.entry.Event.{Event}
-use Rattle.journal.specs.declared.entry.Event.TheVariants.{Opened, Sent, Arrived, Received, Changed, Deleted, DeletedAgain, Purged, Set, Settled, Orphaned, Refused, Closed}
+use Rattle.journal.specs.declared.entry.Event.TheVariants.{Sent, Arrived, Received, Changed, Orphaned}
 use Rattle.visible_index.specs.Pairs.{same_pair, has_pair}
 use Rattle.queue_core.specs.declared.facts.Course.{Course}
 use Rattle.queue_core.specs.declared.facts.Message.{Message}
