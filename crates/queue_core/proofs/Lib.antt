@@ -35,7 +35,6 @@ mod KeptRecordLemmas
 mod DueLemmas
 mod NumberLemmas
 mod BoundLemmas
-mod StubLemmas
 mod SpendingLemmas
 mod ChangeLemmas
 mod AppliedLemmas
@@ -43,4 +42,3 @@ mod ReceiveLemmas
 mod QuestionLemmas
 mod IndexLemmas
 mod AcceptedLemmas
-mod BoundLemmas

@@ -21,7 +21,7 @@ use Rattle.queue_core.specs.Spending.{weight, spent, AreBelow, moved, added, Kee
 use Rattle.queue_core.proofs.SlotLemmas.{counted}
 use Rattle.queue_core.proofs.NumberLemmas.{AreOnce, unseen}
 use Rattle.queue_core.proofs.ChangeLemmas.{outside}
-use Rattle.queue_core.proofs.StubLemmas.{below-is}
+use Rattle.queue_core.proofs.BoundLemmas.{below-is}
 
 -- ---- pairs
 

@@ -306,10 +306,13 @@ abbrev pub with_optional_event : QueueHistory → Option (Event ContentText) →
 with_optional_event q None = q
 with_optional_event q (Some event) = with_event q event
 
--- what a command leaves: where memory ran out, the queue that it came to and no entry more
+-- what an outcome makes of the queue that a command has come to: where memory ran out, no entry more
+abbrev pub after_outcome : {T : Type 0} → QueueHistory → Outcome → Result T Fault → QueueHistory
+after_outcome q outcome answer = if is_out_of_memory answer then q else with_optional_event q outcome.event
+
+-- what a command leaves
 abbrev pub after_answer : {T : Type 0} → QueueHistory → ℕ → Command → Result T Fault → QueueHistory
-after_answer q at command answer =
-    if is_out_of_memory answer then reached q at command else with_optional_event (reached q at command) (outcome_at q at command).event
+after_answer q at command answer = after_outcome (reached q at command) (outcome_at q at command) answer
 
 -- the reply that a part of it stands for
 abbrev pub as_reply : {T : Type 0} → (T → Reply) → Result T Fault → Result Reply Fault

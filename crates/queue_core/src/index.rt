@@ -1,7 +1,7 @@
 //! The messages of a queue by number.
 
 ghost use Rattle.std.specs.Prelude.{◌≡◌, ℕ, ◌+◌, ◌<◌, ◌≤◌, ◌^◌, nat_eq, true, false, None, Some, Ok, [], ◌∷◌, ◌++◌, length, if◌then◌else◌, is_some, IsSome, IfSome, IfNone, OnOk, IfErr, option_map, option_and_then, count_by};
-ghost use Rattle.indexmap.specs.IndexMap.{index_map_len, spare, get};
+ghost use Rattle.indexmap.specs.IndexMap.{index_map_len, spare, get, IsUnique};
 ghost use Rattle.message.specs.declared.fault.Fault.TheVariants.{OutOfMemory};
 ghost use Rattle.queue_core.specs.declared.slot.Stay.TheVariants.{Shown};
 ghost use Rattle.std.specs.VecDeque.{deque_capacity};
@@ -81,6 +81,14 @@ impl MessageIndex {
             leaving: VecDeque::new(alloc),
             indices: Indices::new(alloc),
         }
+    }
+
+    /// How many messages are kept. That none of them is kept twice bounds what going through them costs.
+    pub(crate) fn len(&self) -> usize
+        ensures count { result ≡ index_map_len self.now.records }
+        ensures unique { IsUnique nat_eq self.now.records }
+    {
+        self.records.len()
     }
 
     /// Where the message of a number stands, where it is kept.

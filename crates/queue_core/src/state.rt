@@ -104,7 +104,7 @@ impl QueueState {
     ghost use Rattle.queue_core.specs.declared.facts.Candidate.{Candidate};
     ghost use Rattle.queue_core.specs.declared.facts.Message.{Message};
     ghost use Rattle.queue_core.specs.Recorded.{IsRecordOf};
-    ghost use Rattle.queue_core.specs.Queue.{at_moment, is_full, first_refusal, in_flight_count, offer_limit, offered_candidates, leaving_candidates, numbers_of, policy_target, offer_of, offers_of, is_valid_handle, is_latest_handle, holds_in_flight, holds_live, passes_twelve_hours, change_refusal, look_of, outcome_at, IsExact, with_event, after_answer, as_reply};
+    ghost use Rattle.queue_core.specs.Queue.{QueueHistory, at_moment, is_full, first_refusal, in_flight_count, offer_limit, offered_candidates, leaving_candidates, numbers_of, policy_target, offer_of, offers_of, is_valid_handle, is_latest_handle, holds_in_flight, holds_live, passes_twelve_hours, change_refusal, look_of, outcome_of, outcome_at, IsExact, with_event, after_outcome, after_answer, as_reply};
     ghost use Rattle.queue_core.specs.Ranges.{IsDelay, IsTimeout, IsMaximum};
     ghost use Rattle.queue_core.specs.Legal.{IsLegal, IsCausedIn};
     ghost use Rattle.queue_core.specs.Kept.{opened_queue};
@@ -151,6 +151,7 @@ impl QueueState {
     {
         // The journal has at most one entry more than this, a number of 25 bits.
         let _most = self.limits.max_lines;
+        let _kept = self.index.len();
         let clock = self.clock.later(at);
         let retention = self.tally.settings.retention_seconds;
         catch_up(&mut self.index, &mut self.watch, retention, clock, ticks);
@@ -191,6 +192,7 @@ impl QueueState {
         ensures ok { OnOk result (first_refusal self.new ≡ None) }
         ensures refused { IfErr result (λ fault. first_refusal self.new ≡ Some fault) }
         ensures come { HasCome ticks.old self.old ticks.new self.new }
+        ensures cost { ticks.new ≤ ticks.old + most_ticks self.old self.new }
     {
         self.move_to(at, ticks);
         match self.first_refusal() {
@@ -511,6 +513,7 @@ impl QueueState {
         self.index.make_room(alloc, &event)?;
         self.accepted.make_place(&event)?;
         self.journal.reserve(alloc, 1)?;
+        let _kept = self.index.len();
         self.index.apply(settings, at, &event, born, ticks);
         let retention = tally.settings.retention_seconds;
         self.index.settle(retention, at, ticks);
@@ -552,6 +555,24 @@ impl QueueState {
         ensures cost { ticks.new ≤ ticks.old + most_ticks self.old self.new }
     {
         self.begin(at, ticks)?;
+        self.send_now(alloc, content, delay, ticks)
+    }
+
+    /// The same at the queue's clock, where nothing refuses it before anything of it is asked.
+    fn send_now(
+        &mut self,
+        alloc: Global,
+        content: Content,
+        delay: Option<u16>,
+        ticks: &mut Ticks,
+    ) -> Result<Posted, Fault>
+        requires open { first_refusal self.old ≡ None }
+        requires delay { ForSome delay (λ seconds. IsDelay seconds) }
+        ensures answer { Meets (as_reply Reply.Sent result) (outcome_of self.old (Command.Send content delay)).reply }
+        ensures exact { IsExact (outcome_of self.old (Command.Send content delay)) (as_reply Reply.Sent result) }
+        ensures state { self.new ≡ after_outcome self.old (outcome_of self.old (Command.Send content delay)) result }
+        ensures cost { (p : QueueHistory) (before : ℕ) → HasCome before p ticks.old self.old → ticks.new ≤ before + most_ticks p self.new }
+    {
         if self.is_too_large(&content) {
             return self.refuse(alloc, Fault::InvalidParameterValue, ticks);
         }
@@ -824,7 +845,7 @@ impl QueueState {
                 self.begin(at, ticks)?;
                 let content = content.share()?;
                 let delay = delay.map(|delay| delay.seconds());
-                Ok(Reply::Sent(self.send(alloc, at, content, delay, ticks)?))
+                Ok(Reply::Sent(self.send_now(alloc, content, delay, ticks)?))
             }
             Command::Receive { maximum, timeout } => {
                 self.receive_checked(alloc, at, *maximum, *timeout, ticks)

@@ -1,6 +1,6 @@
 //! Dead letters: what a queue hands over, confirms, takes back and accepts.
 
-ghost use Rattle.std.specs.Prelude.{◌≡◌, ◌+◌, ◌<◌, ◌≤◌, ◌^◌, None, Ok, IsTrue, option_map};
+ghost use Rattle.std.specs.Prelude.{◌≡◌, ◌+◌, ◌<◌, ◌≤◌, ◌^◌, ℕ, false, None, Ok, IsTrue, option_map};
 ghost use Rattle.message.specs.Content.{is_content};
 ghost use Rattle.message.specs.Name.{is_queue_name};
 ghost use Rattle.message.specs.Fault.{Meets};
@@ -30,9 +30,10 @@ fn keep_parcel(parcel: &Parcel)
 impl QueueState {
     ghost use Rattle.queue_core.specs.Messages.{has_accepted};
     ghost use Rattle.queue_core.specs.Cost.{most_ticks};
+    ghost use Rattle.queue_core.specs.Spending.{HasCome};
     ghost use Rattle.queue_core.specs.declared.facts.Message.{Message};
     ghost use Rattle.queue_core.specs.Recorded.{IsRecordOf};
-    ghost use Rattle.queue_core.specs.Queue.{outcome_at, IsExact, after_answer, as_reply, is_pending, waiting_count, origin_of, first_transfer, first_parcel_of};
+    ghost use Rattle.queue_core.specs.Queue.{QueueHistory, first_refusal, outcome_of, outcome_at, IsExact, after_outcome, after_answer, as_reply, is_pending, waiting_count, origin_of, first_transfer, first_parcel_of};
 
     /// Accepts a dead letter of another queue. It comes now, and keeps its id and the time at which it
     /// was first sent; it was received 0 times here. A transfer that this queue has accepted before is
@@ -54,6 +55,19 @@ impl QueueState {
         if self.has_accepted(&parcel.origin) {
             return Ok(Arrival::Again);
         }
+        self.accept(alloc, parcel, ticks)
+    }
+
+    /// The same at the queue's clock, for a transfer that the queue has not accepted before, where nothing refuses it
+    /// before anything of it is asked.
+    fn accept(&mut self, alloc: Global, parcel: Parcel, ticks: &mut Ticks) -> Result<Arrival, Fault>
+        requires open { first_refusal self.old ≡ None }
+        requires new { has_accepted self.old.lines parcel.origin.uid parcel.origin.number ≡ false }
+        ensures answer { Meets (as_reply Reply.Arrived result) (outcome_of self.old (Command.Arrive parcel)).reply }
+        ensures exact { IsExact (outcome_of self.old (Command.Arrive parcel)) (as_reply Reply.Arrived result) }
+        ensures state { self.new ≡ after_outcome self.old (outcome_of self.old (Command.Arrive parcel)) result }
+        ensures cost { (p : QueueHistory) (before : ℕ) → HasCome before p ticks.old self.old → ticks.new ≤ before + most_ticks p self.new }
+    {
         keep_parcel(&parcel);
         let event = Event::Arrived {
             origin: parcel.origin,
@@ -85,7 +99,7 @@ impl QueueState {
             target: parcel.target,
             content: parcel.content.share()?,
         };
-        self.arrive(alloc, at, parcel, ticks)
+        self.accept(alloc, parcel, ticks)
     }
 
     /// Confirms that the dead-letter queue has accepted the message of a number. The answer is whether

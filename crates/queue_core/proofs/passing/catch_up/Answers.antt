@@ -6,11 +6,12 @@ use Rattle.queue_core.specs.declared.watch.Watch.{Watch}
 use Rattle.queue_core.specs.Watched.{first_shown, rows_before, IsPassing}
 use Rattle.queue_core.proofs.IndexLemmas.{IsSettling, later-index}
 use Rattle.queue_core.proofs.WatchLemmas.{passing-from, passing-behind, watch-passed, watch-jumped}
+use Rattle.queue_core.proofs.SpendingLemmas.{free_then}
 use Rattle.queue_core.proofs.passing.catch_up.Goals.{then-is_far, else-is_far}
 use Rattle.queue_core.proofs.passing.catch_up.Goals as goal
 
-pub returns : goal.returns
-returns c =
+pub returns-clause-passed : goal.returns-clause-passed
+returns-clause-passed c =
     λ q legal later same index is.
     let clock : ℕ = c.args.clock in
     let end : c.minute_of-end.result ≡ minute_of clock = c.minute_of-end.ensures in
@@ -37,3 +38,6 @@ returns c =
             watch-passed q legal c.args.index.now c.args.watch.now index is (minute_of clock) c.go_on.new.index c.go_on.new.watch (omega (arith, later)) passed (c.go_on.ensures.minute ∙ end),
           )
     ]
+
+pub returns-clause-cost : goal.returns-clause-cost
+returns-clause-cost c = free_then _ _ _ _ _ _ _ _ _ c.go_on.ensures.cost c.settle.ensures.cost

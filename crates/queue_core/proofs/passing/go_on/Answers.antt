@@ -1,4 +1,5 @@
 use Rattle.std.proofs.Common.{ℕ, ◌+◌, ap, ◌∙◌, arith}
+use Rattle.queue_core.proofs.SpendingLemmas.{free_then}
 use Rattle.queue_core.proofs.passing.go_on.Goals as goal
 
 pub end_minute-requires-clause-indices : goal.end_minute-requires-clause-indices
@@ -17,6 +18,7 @@ loop-preserved c = record {
   minute = c.end_minute.ensures.minute ∙ ap (λ (n : ℕ). n + 1) c.loop.invariant.minute;
   within = omega (arith, c.loop-test.true);
   passing = λ q first before legal same passing. c.end_minute.ensures.passing q first before legal same (c.loop.invariant.passing q first before legal same passing);
+  cost = free_then _ _ _ _ _ _ _ _ _ c.loop.invariant.cost c.end_minute.ensures.cost;
 }
 
 pub returns-clause-indices : goal.returns-clause-indices
@@ -30,3 +32,6 @@ returns-clause-minute c = omega (arith, c.loop.invariant.minute, c.loop.invarian
 
 pub returns-clause-passing : goal.returns-clause-passing
 returns-clause-passing c = c.loop.invariant.passing
+
+pub returns-clause-cost : goal.returns-clause-cost
+returns-clause-cost c = c.loop.invariant.cost

@@ -5,6 +5,7 @@ use Rattle.queue_core.specs.Queue.{QueueHistory}
 use Rattle.queue_core.specs.Legal.{IsLegal}
 use Rattle.queue_core.specs.Records.{born_in, HasIndices}
 use Rattle.queue_core.specs.Watched.{IsPassing}
+use Rattle.queue_core.specs.Spending.{Costs}
 use Rattle.queue_core.proofs.passing.go_on.Given as goal
 
 abbrev pub invariant-loop : goal.invariant-loop
@@ -15,4 +16,5 @@ invariant-loop l = record {
   within : l.counter ≤ l.end;
   passing : (q : QueueHistory) (first : ℕ) (before : List Row) → IsLegal q → l.retention ≡ (settings_of q.lines).retention_seconds
       → IsPassing q first before l.fn.index l.fn.watch → IsPassing q first before l.index l.watch;
+  cost : Costs 0 0 l.fn.ticks l.fn.index l.ticks l.index;
 }

@@ -1,4 +1,4 @@
-use Rattle.std.proofs.Common.{◌≡◌, ℕ, ◌+◌, ◌*◌, ◌++◌, false, Some, List, [], ◌∷◌, length, sym, ap, ◌∙◌, subst, inl, inr}
+use Rattle.std.proofs.Common.{◌≡◌, ℕ, ◌+◌, ◌*◌, ◌++◌, false, Some, List, [], ◌∷◌, length, sym, ap, ◌∙◌, subst, inl, inr, arith}
 use Rattle.message.specs.Content.{ContentText}
 use Rattle.journal.specs.declared.entry.Event.{Event}
 use Rattle.journal.specs.declared.entry.Event.TheVariants.{Received}
@@ -9,7 +9,7 @@ use Rattle.queue_core.proofs.AppliedLemmas.{IsApplied, received-applied, changed
 use Rattle.queue_core.specs.Tally.{births}
 use Rattle.queue_core.specs.Spending.{event_adds, left_count, Costs}
 use Rattle.indexmap.specs.IndexMap.{index_map_len}
-use Rattle.queue_core.proofs.SpendingLemmas.{costs_none, costs_then}
+use Rattle.queue_core.proofs.SpendingLemmas.{costs_none, costs_within, costs_then}
 use Rattle.queue_core.proofs.index.MessageIndex.apply.Goals as goal
 
 pub returns-in-Some : goal.returns-in-Some
@@ -66,7 +66,8 @@ returns-in-Received c =
     (received-applied s at timeout target offered leaving x mid y c.requires.indexed about first second counted queue) in
     let spent : Costs (births c.args.event.now) (event_adds (left_count x) c.args.event.now) c.args.ticks.now x c.offer_all.new.ticks y = subst (λ (event : Event ContentText). Costs (births event) (event_adds (left_count x) event) c.args.ticks.now x c.offer_all.new.ticks y) (sym c.in-Received.is)
     (subst (λ (numbers : List ℕ). Costs 0 (6 * length numbers) c.args.ticks.now x c.offer_all.new.ticks y) c.as_slice-in-Received.ensures
-    (costs_then 0 0 0 (6 * length c.as_slice-in-Received.result.now) _ _ _ _ _ _ _ _ _ c.depart_all.ensures.cost c.offer_all.ensures.cost)) in
+    (costs_within 0 (0 + 6 * length c.as_slice-in-Received.result.now) (6 * length c.as_slice-in-Received.result.now) _ _ _ _ _ _ (omega arith)
+    (costs_then 0 0 0 (6 * length c.as_slice-in-Received.result.now) _ _ _ _ _ _ _ _ _ c.depart_all.ensures.cost c.offer_all.ensures.cost))) in
     record { indexed = done.indexed; records = done.records; receives = done.receives; leaving = done.leaving; cost = spent }
 
 pub returns-in-Changed : goal.returns-in-Changed

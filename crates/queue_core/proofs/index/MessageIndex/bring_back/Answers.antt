@@ -1,4 +1,4 @@
-use Rattle.std.proofs.Common.{rules, ◌≡◌, ◌<◌, ◌≤◌, ◌+◌, ◌*◌, length, get_or, ap, arith}
+use Rattle.std.proofs.Common.{rules, ◌≡◌, ◌<◌, ◌≤◌, ◌+◌, ◌*◌, ℕ, List, length, get_or, ap, ◌∙◌, arith}
 use Rattle.queue_core.specs.Applying.{where_left, returned_from}
 use Rattle.queue_core.proofs.ChangeLemmas.{changed-more, changed-all, changed-beside, left-all}
 use Rattle.queue_core.proofs.SpendingLemmas.{costs_within, costs_then, back-counted, back-all}
@@ -19,7 +19,7 @@ loop-place-preserved c =
     let i = c.loop-place.place in
     let change = where_left (returned_from c.args.lost c.args.at) in
     let inside : i < length xs = search rules in
-    let read : c.index-number.result.now ≡ get_or xs i 0 = search rules in
+    let read : c.index-number.result.now ≡ get_or xs i 0 = c.index-number.ensures ∙ ap (λ (v : List ℕ). get_or v i 0) c.loop-place.invariant.leaving in
     record {
       changed = changed-more change xs i c.index-number.result.now x c.loop-place.self c.return_one.new.self c.requires.indexed.once inside read c.loop-place.invariant.changed c.return_one.ensures.change;
       receives = search rules;
