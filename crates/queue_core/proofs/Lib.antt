@@ -40,4 +40,5 @@ mod ReceiveLemmas
 mod QuestionLemmas
 mod IndexLemmas
 mod AcceptedLemmas
+mod TouchLemmas
 mod BoundLemmas
