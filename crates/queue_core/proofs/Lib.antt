@@ -34,6 +34,7 @@ mod AgeRoomLemmas
 mod KeptRecordLemmas
 mod DueLemmas
 mod NumberLemmas
+mod TouchLemmas
 mod BoundLemmas
 mod SpendingLemmas
 mod ChangeLemmas
