@@ -41,5 +41,6 @@ mod ChangeLemmas
 mod AppliedLemmas
 mod ReceiveLemmas
 mod QuestionLemmas
+mod CostLemmas
 mod IndexLemmas
 mod AcceptedLemmas

@@ -155,6 +155,16 @@ costs_then begun more begun' more' t n t' n' t'' n'' x y z a b = record {
       omega (arith, first, second);
 }
 
+-- one that adds nothing behind another
+pub costs_behind : (begun more t n t' n' t'' n'' : ℕ) (x y z : Indices) → CostsBetween begun more t n x t' n' y → CostsBetween 0 0 t' n' y t'' n'' z → CostsBetween begun more t n x t'' n'' z
+costs_behind begun more t n t' n' t'' n'' x y z a b = record {
+  kept = omega (arith, a.kept, b.kept);
+  spent = λ c below.
+      let first = a.spent c below in
+      let second = b.spent c (omega (arith, below, a.kept)) in
+      omega (arith, first, second);
+}
+
 -- changes that add nothing
 pub free_then : (t n t' n' t'' n'' : ℕ) (x y z : Indices) → CostsBetween 0 0 t n x t' n' y → CostsBetween 0 0 t' n' y t'' n'' z → CostsBetween 0 0 t n x t'' n'' z
 free_then t n t' n' t'' n'' x y z a b = costs_then 0 0 0 0 t n t' n' t'' n'' x y z a b

@@ -1,4 +1,5 @@
 use Rattle.std.proofs.Common.{rules, ◌≡◌, ◌<◌, ◌≤◌, ◌+◌, ◌*◌, ℕ, List, length, get_or, ap, ◌∙◌, arith}
+use Rattle.std.proofs.lemmas.Grind.{get_or_default_zero}
 use Rattle.queue_core.specs.Applying.{where_left, returned_from}
 use Rattle.queue_core.proofs.ChangeLemmas.{changed-more, changed-all, changed-beside, left-all}
 use Rattle.queue_core.proofs.SpendingLemmas.{costs_within, costs_then, back-counted, back-all}
@@ -19,7 +20,8 @@ loop-place-preserved c =
     let i = c.loop-place.place in
     let change = where_left (returned_from c.args.lost c.args.at) in
     let inside : i < length xs = search rules in
-    let read : c.index-number.result.now ≡ get_or xs i 0 = c.index-number.ensures ∙ ap (λ (v : List ℕ). get_or v i 0) c.loop-place.invariant.leaving in
+    let inside' : i < length c.loop-place.self.leaving.items = omega (arith, inside, ap (λ (v : List ℕ). length v) c.loop-place.invariant.leaving) in
+    let read : c.index-number.result.now ≡ get_or xs i 0 = c.index-number.ensures ∙ get_or_default_zero c.loop-place.self.leaving.items i _ inside' ∙ ap (λ (v : List ℕ). get_or v i 0) c.loop-place.invariant.leaving in
     record {
       changed = changed-more change xs i c.index-number.result.now x c.loop-place.self c.return_one.new.self c.requires.indexed.once inside read c.loop-place.invariant.changed c.return_one.ensures.change;
       receives = search rules;

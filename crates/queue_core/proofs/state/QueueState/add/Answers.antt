@@ -1,4 +1,4 @@
-use Rattle.std.proofs.Common.{◌≡◌, ℕ, ◌+◌, ◌++◌, [], ◌∷◌, List, length, Ok, refl, subst, sym, ap, ◌∙◌, arith}
+use Rattle.std.proofs.Common.{◌≡◌, ◌≤◌, ℕ, ◌+◌, ◌++◌, [], ◌∷◌, List, length, Ok, refl, subst, sym, ap, ◌∙◌, arith}
 use Rattle.message.specs.Content.{ContentText}
 use Rattle.journal.specs.declared.entry.Entry.{Entry}
 use Rattle.journal.specs.Journal.{Lines}
@@ -17,6 +17,11 @@ use Rattle.queue_core.proofs.TallyLemmas.{tallies-push, GoesOn}
 use Rattle.queue_core.proofs.IndexLemmas.{same-index, few_born, few-more, can_apply, event-index}
 use Rattle.queue_core.proofs.WatchLemmas.{watch-pushed}
 use Rattle.queue_core.proofs.AcceptedLemmas.{accepted-same, accepted-noted}
+use Rattle.queue_core.specs.Cost.{most_ticks}
+use Rattle.queue_core.specs.Spending.{event_adds, left_count, HasCome}
+use Rattle.queue_core.proofs.BoundLemmas.{bound-later, bound-added}
+use Rattle.queue_core.proofs.SpendingLemmas.{costs_behind}
+use Rattle.queue_core.proofs.CostLemmas.{has_added}
 use Rattle.queue_core.proofs.state.QueueState.add.Goals as goal
 
 pub make_room-requires-clause-few : goal.make_room-requires-clause-few
@@ -120,3 +125,48 @@ push_reserved-requires-clause-place c =
     let lines = ap (λ (j : Lines). length j.lines) c.reserve.ensures.lines in
     let limit = ap (λ (j : Lines). j.limit) c.reserve.ensures.lines in
     omega (arith, place, lines, limit)
+
+-- ---- what it costs
+
+pub returns-in_err-born-clause-cost : goal.returns-in_err-born-clause-cost
+returns-in_err-born-clause-cost c = λ p before come. bound-later before c.args.ticks.now p _ come
+
+pub returns-in_err-make_room-clause-cost : goal.returns-in_err-make_room-clause-cost
+returns-in_err-make_room-clause-cost c = λ p before come. bound-later before c.args.ticks.now p _ (subst (λ (q : QueueHistory). HasCome before p c.args.ticks.now q) (sym c.self.view_is) come)
+
+pub returns-in_err-make_place-clause-cost : goal.returns-in_err-make_place-clause-cost
+returns-in_err-make_place-clause-cost c = λ p before come. bound-later before c.args.ticks.now p _ (subst (λ (q : QueueHistory). HasCome before p c.args.ticks.now q) (sym c.self.view_is) come)
+
+pub returns-in_err-reserve-clause-cost : goal.returns-in_err-reserve-clause-cost
+returns-in_err-reserve-clause-cost c =
+    λ p before come.
+    let lines = ap (λ (j : Lines). j.lines) c.reserve.ensures.lines in
+    rw lines (bound-later before c.args.ticks.now p _ (subst (λ (q : QueueHistory). HasCome before p c.args.ticks.now q) (sym c.self.view_is) come))
+
+pub returns-clause-cost : goal.returns-clause-cost
+returns-clause-cost c =
+    λ p before come.
+    let q : QueueHistory = record { uid = c.self.inside.uid; name = c.self.inside.name; limits = c.self.inside.limits; rules = c.self.inside.rules.items; clock = c.self.inside.clock; lines = c.self.inside.journal.lines } in
+    let entry : Entry ContentText = record { at = q.clock; event = c.args.event } in
+    let caused = subst (λ (q : QueueHistory). IsCausedIn q c.args.event) (sym c.self.view_is) c.requires in
+    let index = same-index q.lines q.clock c.self.inside.index c.self.invariant.2 c.make_room.new.self c.make_room.ensures.same c.make_room.ensures.indexed in
+    let old : c.reserve.new.self.lines ≡ q.lines = ap (λ (j : Lines). j.lines) c.reserve.ensures.lines in
+    let pushed : c.push_reserved.new.self.lines ≡ c.reserve.new.self.lines ++ entry ∷ [] = ap (λ (j : Lines). j.lines) c.push_reserved.ensures in
+    let lines : c.push_reserved.new.self.lines ≡ q.lines ++ entry ∷ [] = pushed ∙ ap (λ (es : List (Entry ContentText)). es ++ entry ∷ []) old in
+    let goes : GoesOn c.self.inside.tally c.after-tally.result (message_count q.lines) entry = record {
+      settings = c.after-tally.ensures.settings;
+      created = c.after-tally.ensures.created;
+      modified = c.after-tally.ensures.modified;
+      closed = c.after-tally.ensures.closed;
+      messages = c.after-tally.ensures.messages ∙ ap (λ n. n + births c.args.event) (c.messages_so_far.ensures.count ∙ sym (ap (λ (q : QueueHistory). message_count q.lines) c.self.view_is));
+    } in
+    let tallies = tallies-push q q.lines entry c.self.inside.tally c.after-tally.result c.self.invariant.0.legal.caused c.self.invariant.1 goes in
+    let behind =
+    event-index q c.args.event c.self.inside.tally.settings _ c.make_room.new.self c.apply.new.self c.settle.new.self c.self.invariant.0.legal caused index c.self.invariant.1.settings
+    (record { indexed = c.apply.ensures.indexed; records = c.apply.ensures.records; receives = c.apply.ensures.receives; leaving = c.apply.ensures.leaving })
+    (ap (λ t. t.settings.retention_seconds) c.tally.view_is ∙ ap (λ s. s.retention_seconds) tallies.settings)
+    (record { indices = c.settle.ensures.indices; records = c.settle.ensures.records; receives = c.settle.ensures.receives; leaving = c.settle.ensures.leaving }) in
+    let costs = costs_behind (births c.args.event) (event_adds (left_count c.make_room.new.self) c.args.event) _ _ _ _ _ _ _ _ _ c.apply.ensures.cost c.settle.ensures.cost in
+    let has = has_added q c.make_room.new.self index c.len-kept.ensures.unique c.args.event c.args.ticks.now c.settle.new.ticks c.settle.new.self behind costs in
+    subst (λ (ls : List (Entry ContentText)). c.settle.new.ticks ≤ before + most_ticks p (record q { lines = ls })) (sym lines)
+    (bound-added before c.args.ticks.now c.settle.new.ticks p q c.args.event c.self.invariant.0.legal caused (subst (λ (q : QueueHistory). HasCome before p c.args.ticks.now q) (sym c.self.view_is) come) has)
