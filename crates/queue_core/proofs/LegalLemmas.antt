@@ -22,7 +22,7 @@ use Rattle.queue_core.specs.declared.reply.Reply.TheVariants as replies
 use Rattle.metric_window.specs.declared.gauges.Gauges.{Gauges}
 use Rattle.queue_core.specs.Messages.{settings_of, created_time, modified_time, closes, is_closed, has_accepted}
 use Rattle.queue_core.specs.States.{gauges_of}
-use Rattle.queue_core.specs.Queue.{QueueHistory, Outcome, at_moment, is_full, first_refusal, with_room, done, send_outcome, receive_outcome, change_outcome, delete_outcome, close_outcome, arrive_outcome, is_pending, settle_outcome, orphan_outcome, in_flight_count, offered_candidates, offers_of, received_event, change_refusal, is_valid_handle, holds_live, outcome_of, with_event, with_optional_event, look_of}
+use Rattle.queue_core.specs.Queue.{QueueHistory, Outcome, at_moment, is_full, first_refusal, with_room, done, send_outcome, receive_outcome, change_outcome, delete_outcome, close_outcome, arrive_outcome, is_pending, settle_outcome, orphan_outcome, waiting_count, in_flight_count, offered_candidates, offers_of, received_event, change_refusal, is_valid_handle, holds_live, outcome_of, with_event, with_optional_event, look_of}
 use Rattle.queue_core.specs.Legal.{IsOrdered, IsCausedIn, AreCaused, BeginsAndFollows}
 use Rattle.queue_core.specs.Kept.{IsKept}
 use Rattle.queue_core.proofs.PushLemmas.{closed-push}
@@ -194,6 +194,9 @@ module _ (q : QueueHistory) (room : first_refusal q ≡ None) where
 
   pub event-orphaned : (target : ℕ) → (outcome_of q (commands.Orphan target)).event ≡ Some (Orphaned target)
   event-orphaned target = rw room refl
+
+  pub answer-orphaned : (there : QueueHistory) (target count : ℕ) → q ≡ there → count ≡ waiting_count q target → Ok (replies.Orphaned count) ≡ (outcome_of there (commands.Orphan target)).reply
+  answer-orphaned there target count is e = subst (λ (r : QueueHistory). Ok (replies.Orphaned count) ≡ (outcome_of r (commands.Orphan target)).reply) is (rw (room, e) refl)
 
 pub event-closed : (q : QueueHistory) → is_closed q.lines ≡ false → (outcome_of q commands.Close).event ≡ Some Closed
 event-closed q unclosed = rw unclosed refl
