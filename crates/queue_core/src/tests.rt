@@ -50,6 +50,7 @@ const READINGS: &str = r#"open 99 125000 DelaySeconds 0
 queue => (2, "jobs", true)
 span => ((2, 2), 0)
 minute 2 => None
+advance 240000
 240000 send 1 text => Sent(Posted { number: 0, id: MessageId { uid: 2, number: 0 } })
 now => (Gauges { visible: 1, delayed: 0, in_flight: 0, age: 0 }, Flows { sent: 1, sent_size: 4, received: 0, empty_receives: 0, deleted: 0, refused: 0, dead_letters_arrived: 0 })
 name 0 => "deep"
@@ -74,9 +75,9 @@ const LOOKED: &str =
 /// A list of two commands.
 const STEPS: [&str; 2] = ["5 purge", "7 look"];
 
-/// Calls whose allocation is refused answer `OutOfMemory`, move the clock and nothing else, and give
-/// their answers when asked again, which is forgiven once. All is asked twice from the start: with ample memory,
-/// as the gate runs this, a call that gave up would do so twice. `rt try --test --fail-alloc N -- refused_memory`
+/// Calls whose allocation is refused answer `OutOfMemory`, move the clock and nothing else of all that the queue
+/// tells, and give their answers when asked again, which is forgiven once. All is asked twice from the start: with ample
+/// memory, as the gate runs this, a call that gave up would do so twice. `rt try --test --fail-alloc N -- refused_memory`
 /// refuses the Nth allocation.
 #[test]
 fn refused_memory(rt: HostRuntime) -> Result<(), Fail> {

@@ -45,17 +45,21 @@ fn handle(text: &str) -> Handle {
     }
 }
 
-/// The dead letter `d` of another queue, that was sent there at a time.
-fn dead_letter(alloc: Global, sent: &str) -> Result<Parcel, Fault> {
-    let origin = Origin {
+/// Where the dead letter comes from that was sent to another queue at a time.
+fn origin(sent: &str) -> Result<Origin, Fault> {
+    Ok(Origin {
         uid: 7,
         number: 5,
         name: QueueName::read("other")?,
         id: MessageId { uid: 6, number: 4 },
         sent: known_moment(sent)?,
-    };
+    })
+}
+
+/// The dead letter `d` of another queue, that was sent there at a time.
+fn dead_letter(alloc: Global, sent: &str) -> Result<Parcel, Fault> {
     Ok(Parcel {
-        origin,
+        origin: origin(sent)?,
         target: 2,
         content: content(alloc, "1", "d")?,
     })
@@ -244,6 +248,41 @@ fn tell_reading(text: &mut String, queue: &QueueState, call: &str) -> Result<(),
     }
 }
 
+/// Tells every line of the journal.
+fn tell_lines(text: &mut String, queue: &QueueState, ticks: &mut Ticks) -> Result<(), Fault> {
+    let journal = queue.journal();
+    for place in 0..journal.len() {
+        tell(text, &journal.line(place, ticks))?;
+    }
+    Ok(())
+}
+
+/// Tells every row, what has happened since, and the states of the first two alarms.
+fn tell_rows(text: &mut String, queue: &QueueState) -> Result<(), Fault> {
+    let (first, end) = queue.span();
+    for minute in first..end {
+        tell(text, &queue.row(minute))?;
+    }
+    tell(
+        text,
+        &(queue.current(), queue.alarm_state(0), queue.alarm_state(1)),
+    )
+}
+
+/// Tells everything that a queue tells but its clock: its uid, name and settings, its counts, lines, rows and alarms,
+/// the dead letter that waits first, and whether that of `dead_letter` was accepted. It takes no memory while the
+/// text has room.
+fn tell_all(text: &mut String, queue: &QueueState, ticks: &mut Ticks) -> Result<(), Fault> {
+    text.clear();
+    tell_reading(text, queue, "queue")?;
+    tell_reading(text, queue, "messages")?;
+    tell_reading(text, queue, "waiting")?;
+    tell(text, &queue.has_accepted(&origin("0")?))?;
+    tell(text, &(queue.settings(), queue.gauges(), queue.span()))?;
+    tell_lines(text, queue, ticks)?;
+    tell_rows(text, queue)
+}
+
 /// How many of these rows are of minutes in which nothing happened and nothing was there.
 fn quiet_rows(rows: &[Row]) -> usize {
     let nothing = Gauges {
@@ -265,12 +304,16 @@ fn same(line: &str, told: &str, wanted: &str) -> Result<(), Fail> {
     Err(Fail::new(format_args!("{line}: {told}, not {wanted}")))
 }
 
-/// A queue, what its calls take, what was told last, and how many calls found no memory.
+/// A queue, what its calls take, what was told last, what the queue told before a call and behind it, the
+/// operations of telling that, and how many calls found no memory.
 pub(super) struct Talk {
     pub(super) alloc: Global,
     pub(super) queue: QueueState,
     pub(super) ticks: Ticks,
     text: String,
+    before: String,
+    behind: String,
+    aside: Ticks,
     refused: u32,
 }
 
@@ -282,6 +325,9 @@ impl Drop for Talk {
             queue: _queue,
             ticks: _ticks,
             text: _text,
+            before: _before,
+            behind: _behind,
+            aside: _aside,
             refused: _refused,
         } = self;
     }
@@ -289,16 +335,21 @@ impl Drop for Talk {
 
 impl Talk {
     /// A conversation with a queue to begin with. What is told has its memory from the beginning, so that a call
-    /// can be made again where memory is refused.
+    /// can be made again where memory is refused, and that to tell the queue's own state takes none.
     fn open(rt: &HostRuntime) -> Result<Talk, Fault> {
         let (alloc, ticks) = (rt.alloc(), Ticks::new(rt));
         let text = String::with_capacity(alloc, 1000)?;
+        let before = String::with_capacity(alloc, 10_000)?;
+        let behind = String::with_capacity(alloc, 10_000)?;
         let queue = open(alloc, "99 0 DelaySeconds 0")?;
         Ok(Talk {
             alloc,
             queue,
             ticks,
             text,
+            before,
+            behind,
+            aside: Ticks::new(rt),
             refused: 0,
         })
     }
@@ -313,9 +364,21 @@ impl Talk {
         self.queue.look(Moment::zero(), &mut self.ticks)
     }
 
+    /// Notes all that the queue tells but its clock.
+    fn note(&mut self) -> Result<(), Fault> {
+        tell_all(&mut self.before, &self.queue, &mut self.aside)
+    }
+
+    /// Whether the queue tells what was noted.
+    fn is_as_noted(&mut self) -> Result<bool, Fault> {
+        tell_all(&mut self.behind, &self.queue, &mut self.aside)?;
+        Ok(self.behind.as_str() == self.before.as_str())
+    }
+
     /// Performs a command, and tells the answer. Where memory is refused and the clock alone has moved, it
     /// comes again.
     fn perform(&mut self, at: Moment, command: &Command) -> Result<(), Fault> {
+        self.note()?;
         let old = self.look();
         let answer = self.queue.perform(self.alloc, at, command, &mut self.ticks);
         match answer {
@@ -324,9 +387,10 @@ impl Talk {
         }
     }
 
-    /// Performs a command at the clock, where a look sees what it has to see, and tells the answer.
+    /// Performs a command at the clock, where a look sees what it has to see and the queue tells what was noted, and
+    /// tells the answer.
     fn perform_again(&mut self, wanted: Look, command: &Command) -> Result<(), Fault> {
-        if self.look() != wanted {
+        if self.look() != wanted || !self.is_as_noted()? {
             return Err(Fault::UnsupportedOperation);
         }
         self.refused = self.refused.saturating_add(1);
@@ -422,9 +486,10 @@ impl Talk {
     /// no memory for their answers, nothing has changed, the clock neither, and they are run again.
     pub(super) fn list(&mut self, texts: [&str; 2]) -> Result<(), Fail> {
         let steps = [step(self.alloc, texts[0])?, step(self.alloc, texts[1])?];
+        self.note()?;
         let before = self.look();
         let is_done = match self.run(&steps) {
-            Err(Fault::OutOfMemory) if self.look() == before => {
+            Err(Fault::OutOfMemory) if self.look() == before && self.is_as_noted()? => {
                 self.refused = self.refused.saturating_add(1);
                 self.run(&steps)?
             }
