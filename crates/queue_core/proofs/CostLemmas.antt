@@ -1,7 +1,7 @@
 -- What a queue's index costs, said of the queue: as time passes, and behind an event.
-use Rattle.std.proofs.Common.{◌≡◌, ℕ, ◌+◌, ◌*◌, ◌<◌, ◌≤◌, ◌^◌, max, refl, sym, ap, subst, ◌∙◌, arith}
+use Rattle.std.proofs.Common.{◌≡◌, ℕ, ◌+◌, ◌*◌, max, refl, ap, arith}
 use Rattle.std.specs.Prelude.{nat_eq}
-use Rattle.indexmap.specs.IndexMap.{index_map_len, IsUnique}
+use Rattle.indexmap.specs.IndexMap.{IsUnique}
 use Rattle.message.specs.Content.{ContentText}
 use Rattle.journal.specs.declared.entry.Event.{Event}
 use Rattle.queue_core.specs.declared.index.MessageIndex.{MessageIndex}

@@ -1,5 +1,5 @@
 -- What a number's change of slots costs, and that changes one after another cost what they do together.
-use Rattle.std.proofs.Common.{◌≡◌, ℕ, ◌+◌, ◌*◌, ◌<◌, ◌≤◌, ◌^◌, Bool, true, false, cond, not, ◌==◌, ◌||◌, List, [], ◌∷◌, length, get_or, take, Option, Some, None, is_some, refl, sym, ap, subst, ◌∙◌, arith, eq-eqb}
+use Rattle.std.proofs.Common.{◌≡◌, ℕ, ◌+◌, ◌*◌, ◌<◌, ◌≤◌, Bool, true, false, cond, not, ◌==◌, ◌||◌, List, [], ◌∷◌, length, get_or, take, Option, Some, None, is_some, refl, sym, ap, subst, ◌∙◌, arith, eq-eqb}
 use Rattle.std.specs.Prelude.{option_map, count_by}
 use Rattle.std.proofs.lemmas.List.Sums.{sum_by_more, sum_by-take-le}
 use Rattle.std.proofs.Math.Nat.{mul-le-mul_left}
@@ -17,7 +17,7 @@ use Rattle.queue_core.specs.Changes.{shown_in, is_at}
 use Rattle.queue_core.specs.Messages.{contains_number}
 use Rattle.queue_core.specs.Records.{slots_in, HasIndices}
 use Rattle.queue_core.specs.Applying.{HasChanged, among}
-use Rattle.queue_core.specs.Spending.{weight, spent, AreBelow, moved, added, KeepsSent, CostsBetween, Costs}
+use Rattle.queue_core.specs.Spending.{weight, spent, AreBelow, moved, added, KeepsSent, CostsBetween}
 use Rattle.queue_core.proofs.SlotLemmas.{counted}
 use Rattle.queue_core.proofs.NumberLemmas.{AreOnce, unseen}
 use Rattle.queue_core.proofs.ChangeLemmas.{outside}

@@ -32,7 +32,7 @@ use Rattle.queue_core.specs.declared.index.MessageIndex.{MessageIndex}
 use Rattle.queue_core.specs.declared.watch.Watch.{Watch}
 use Rattle.queue_core.specs.Messages.{opens, created_time}
 use Rattle.queue_core.specs.States.{gauges_of}
-use Rattle.queue_core.specs.Metrics.{minute_end, entries_until, metric_row, current_flows, row_of, complete_minutes, alarm_state_in}
+use Rattle.queue_core.specs.Metrics.{minute_end, entries_until, metric_row, row_of, complete_minutes, alarm_state_in}
 use Rattle.queue_core.specs.Queue.{QueueHistory}
 use Rattle.queue_core.specs.Legal.{IsOrdered, IsLegal}
 use Rattle.queue_core.specs.Indexed.{IsIndexOf}

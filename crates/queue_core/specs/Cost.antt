@@ -30,19 +30,19 @@ abbrev pub alike : Bool → Bool → Bool
 alike true b = b
 alike false b = not b
 
--- whether a message's state, the time at which it is due or the count of its receives differs between two queues; that it waits for a
--- dead-letter queue is a state too, and that it is gone
+-- whether a message's state, the time at which it is due or the count of its receives differs between two queues; waiting for a
+-- dead-letter queue is a state too, and so is being gone
 abbrev pub is_touched : QueueHistory → QueueHistory → Message → Bool
 is_touched q r m = not (same_standing (state_of q.lines q.clock m) (state_of r.lines r.clock m)
     && alike (awaits_transfer q.lines m) (awaits_transfer r.lines m)
     && (due_time q.lines m == due_time r.lines m)
     && (receive_count q.lines m.number == receive_count r.lines m.number))
 
--- how many of the messages that a queue had are touched by what makes another queue of it
+-- how many of the messages that a queue had are touched by what makes another queue of it; those that begin are not among them
 abbrev pub touched_count : QueueHistory → QueueHistory → ℕ
 touched_count q r = count_by (λ m. is_touched q r m) (messages q.lines)
 
--- the most that a call may cost which makes another queue of one
+-- the most that a call may cost which makes another queue of one: the one in (w + 1) pays for a message that begins, or a change that leaves its message as it was
 abbrev pub most_ticks : QueueHistory → QueueHistory → ℕ
 most_ticks q r = 24 * (binary_digits (kept_count q.lines q.clock + 1) + 1) * (touched_count q r + 1)
 

@@ -1,9 +1,8 @@
 -- What changes of the indices cost. An operation counter and a weight are taken together: time makes the indices lighter by what it costs, so that what is to be paid for is what events add.
-use Rattle.std.specs.Prelude.{◌≡◌, ℕ, ◌+◌, ◌*◌, ◌<◌, ◌≤◌, ◌^◌, ◌==◌, true, if◌then◌else◌, List, length, sum_by, count_by, Option, Some, None}
+use Rattle.std.specs.Prelude.{◌≡◌, ℕ, ◌+◌, ◌*◌, ◌<◌, ◌≤◌, ◌^◌, ◌==◌, true, if◌then◌else◌, length, sum_by, count_by, Option, Some, None}
 use Rattle.std.specs.FinMap as finite
 use Rattle.indexmap.specs.IndexMap.{index_map_len}
 use Rattle.message.specs.Content.{ContentText}
-use Rattle.journal.specs.declared.entry.Entry.{Entry}
 use Rattle.journal.specs.declared.entry.Event.{Event}
 use Rattle.journal.specs.declared.entry.Event.TheVariants.{Sent, Arrived, Received, Changed, Orphaned}
 use Rattle.queue_core.specs.declared.facts.MessageState.{MessageState}

@@ -11,6 +11,8 @@
 //! - `States`: which messages are visible, delayed or in flight, the counts and the age;
 //! - `Metrics`: the row of each minute, and the states of alarms;
 //! - `Queue`: the outcome of each command;
+//! - `Run`: a queue over a list of commands;
+//! - `Cost`: how many operations a call may count;
 //! - `Ranges`, `Legal`: what commands carry, and which journals a queue can have.
 //!
 //! Want of memory of a command moves the clock and nothing else, and a command that adds no entry, but

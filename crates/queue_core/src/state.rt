@@ -46,6 +46,10 @@ struct Scan {
 /// clock, which it leaves there; `FirstParcel` leaves the clock as it is. A closed queue answers each
 /// command but a look and `FirstParcel` with `QueueDoesNotExist`, before anything else is judged, also
 /// before `JournalFull`; only its clock moves.
+///
+/// Each call that is handed a counter of operations counts at most `most_ticks` of the queue before and behind it, also
+/// where it is refused or finds no memory; `run` at most the sum of that over its commands. An operation is a
+/// comparison of two pairs of a time and a number, or a line of the journal that is read.
 #[derive(Debug)]
 pub struct QueueState {
     uid: u64,
@@ -826,8 +830,9 @@ impl QueueState {
         self.index.gauges(self.clock)
     }
 
-    /// Does what the call that the command names does. A send shares the content, where the queue is
-    /// open and its journal has room, and a share that is refused is `OutOfMemory`.
+    /// Does what the call that the command names does. A send and an arrival share the content, where the
+    /// queue is open and its journal has room, and a share that is refused is `OutOfMemory`; an arrival
+    /// that was accepted before shares nothing.
     pub fn perform(
         &mut self,
         alloc: Global,
@@ -885,7 +890,7 @@ impl QueueState {
     }
 
     /// Performs commands one after another, and gives their answers in order. Where the list of
-    /// answers finds no memory, nothing is performed; that of no commands wants none.
+    /// answers finds no memory, nothing is performed and nothing counted; that of no commands wants none.
     pub fn run(
         &mut self,
         alloc: Global,
