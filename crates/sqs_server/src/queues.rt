@@ -1,7 +1,7 @@
 //! How a queue comes to be served: it gets a uid, a desk, a mailbox, and an actor in a thread of its own.
 //! Queues that clients create are made by one thread, so that no poll has to start a thread.
 
-ghost use Rattle.std.specs.Prelude.{◌≡◌, nat_le, IfErr, IfOk};
+ghost use Rattle.std.specs.Prelude.{◌≡◌, nat_le, [], IfErr, IfOk};
 ghost use Rattle.std.specs.Arc.{arc_value};
 ghost use Rattle.desk.specs.Views.{first_knowledge};
 ghost use Rattle.message.specs.declared.fault.Fault.TheVariants.{OutOfMemory};
@@ -191,7 +191,7 @@ fn open_desk(
     limits: Limits,
     at: Moment,
 ) -> Result<(Desk<NoPress>, Pass<NoPress>), Fault>
-    ensures ok { IfOk result (λ made. made.1 ≡ first_knowledge made.0 (opened_queue uid new.name new.settings limits new.rules.items at)) }
+    ensures ok { IfOk result (λ made. made.1 ≡ first_knowledge made.0 (opened_queue uid new.name new.settings limits new.rules.items at) []) }
     ensures errors { IfErr result (λ fault. fault ≡ OutOfMemory) }
 {
     let state = QueueState::open(alloc, uid, new.name, new.settings, limits, new.rules, at)?;
