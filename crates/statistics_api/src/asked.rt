@@ -18,8 +18,15 @@ pub enum Asked<'p> {
     Queue(&'p str),
 }
 
-/// Of which queues a path asks for statistics, where the method is `GET`.
-fn asked_by(path: &str) -> Asked<'_> {
+/// Of which queues a request asks for statistics. Those of others do not change what [`respond`](crate::respond)
+/// answers.
+#[tactic(auto, using(crate::proofs::AskedLemmas::enough_named, crate::proofs::AskedLemmas::enough_none, crate::proofs::AskedLemmas::enough_refused))]
+pub fn asked_for<'p>(method: &str, path: &'p str) -> Asked<'p>
+    ensures enough { (sheets : List Statistics) → response_of method.now path.now sheets ≡ response_of method.now path.now (taken result sheets) }
+{
+    if method != "GET" {
+        return Asked::Nothing;
+    }
     if path == "/metrics" {
         return Asked::Queues;
     }
@@ -27,17 +34,5 @@ fn asked_by(path: &str) -> Asked<'_> {
         None => Asked::Nothing,
         Some(target) if target.route == Route::Queues => Asked::Queues,
         Some(target) => Asked::Queue(target.name),
-    }
-}
-
-/// Of which queues a request asks for statistics. Those of others do not change what [`respond`](crate::respond)
-/// answers.
-pub fn asked_for<'p>(method: &str, path: &'p str) -> Asked<'p>
-    ensures enough { (sheets : List Statistics) → response_of method.now path.now sheets ≡ response_of method.now path.now (taken result sheets) }
-{
-    if method == "GET" {
-        asked_by(path)
-    } else {
-        Asked::Nothing
     }
 }
