@@ -1,8 +1,10 @@
+pub mod AskedLemmas
 pub mod EscapeLemmas
 pub mod ItemLemmas
 pub mod JoinLemmas
 pub mod NameLemmas
 pub mod OrderLemmas
+pub mod PlainLemmas
 pub mod RouteLemmas
 pub mod TextLemmas
 pub mod SortLemmas

@@ -1,4 +1,6 @@
 pub mod Answer
+pub mod Asked
+pub mod Cut
 pub mod Metrics
 pub mod Puts
 pub mod Response

@@ -1,13 +1,14 @@
 //! What the port of the statistics answers.
 
-ghost use Rattle.std.specs.Prelude.{◌≡◌, ◌⊎◌, false, codes, string_bytes};
+ghost use Rattle.std.specs.Prelude.{◌≡◌, ◌≢◌, ◌⊎◌, false, codes, string_bytes};
 ghost use Rattle.statistics_api.specs.Text.{is_written, shown};
 ghost use Rattle.statistics_api.specs.Answer.{out_of_memory};
 ghost use Rattle.statistics_api.specs.Response.{told_by, as_json, page, for_prometheus, metrics, if_get, response_of};
 
 use crate::metrics::metrics_text;
 use crate::page::PAGE;
-use crate::replies::{answer, method_not_allowed, out_of_memory};
+use crate::replies;
+use crate::replies::{answer, method_not_allowed};
 use crate::text::Text;
 use board::Sheet;
 use std::alloc::Global;
@@ -72,6 +73,14 @@ fn for_prometheus(text: String) -> Response
     }
 }
 
+/// Want of memory, which is told without any.
+pub fn out_of_memory() -> Response
+    ensures told { told_by result ≡ as_json out_of_memory }
+    ensures constant { is_written result.text ≡ false }
+{
+    as_json(replies::out_of_memory())
+}
+
 /// The metrics, or want of memory.
 fn metrics(alloc: Global, sheets: &[Sheet]) -> Response
     ensures told { (told_by result ≡ metrics sheets.now) ⊎ (told_by result ≡ as_json out_of_memory) }
@@ -79,13 +88,14 @@ fn metrics(alloc: Global, sheets: &[Sheet]) -> Response
 {
     match metrics_text(alloc, sheets) {
         Ok(text) => for_prometheus(text),
-        Err(_) => as_json(out_of_memory()),
+        Err(_) => out_of_memory(),
     }
 }
 
 /// The metrics, where the method is `GET`, or want of memory.
 fn metrics_to(alloc: Global, method: &str, sheets: &[Sheet]) -> Response
     ensures told { (told_by result ≡ if_get method.now (metrics sheets.now)) ⊎ (told_by result ≡ as_json out_of_memory) }
+    ensures exact { (if_get method.now (metrics sheets.now)).0 ≢ 200 → told_by result ≡ if_get method.now (metrics sheets.now) }
     ensures constant { (result.status ≡ 200) ⊎ (is_written result.text ≡ false) }
 {
     if method != "GET" {
@@ -96,11 +106,12 @@ fn metrics_to(alloc: Global, method: &str, sheets: &[Sheet]) -> Response
 
 /// What the port of the statistics answers (this project's own): to `GET /` the page, which takes no
 /// memory; to `GET /metrics` the numbers of all queues for Prometheus; to every other path what
-/// [`answer`] says. Another method on these two paths is 405. 500 may stand in the place of any answer
-/// but of the page's, for want of memory.
+/// [`answer`] says. Another method on these two paths is 405. 500 may stand in the place of a 200 for
+/// want of memory, but not of the page's, and of no other answer.
 pub fn respond(alloc: Global, method: &str, path: &str, sheets: &[Sheet]) -> Response
     ensures response { (told_by result ≡ response_of method.now path.now sheets.now) ⊎ (told_by result ≡ as_json out_of_memory) }
     ensures page { path.now ≡ codes "/" → told_by result ≡ response_of method.now path.now sheets.now }
+    ensures exact { (response_of method.now path.now sheets.now).0 ≢ 200 → told_by result ≡ response_of method.now path.now sheets.now }
     ensures constant { (result.status ≡ 200) ⊎ (is_written result.text ≡ false) }
 {
     match path {

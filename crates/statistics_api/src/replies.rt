@@ -1,13 +1,13 @@
 //! What a request for statistics is answered.
 
-ghost use Rattle.std.specs.Prelude.{◌≡◌, ◌⊎◌, false, Ok, IfOk, option_map, string_bytes};
+ghost use Rattle.std.specs.Prelude.{◌≡◌, ◌≢◌, ◌⊎◌, false, Ok, IfOk, option_map, string_bytes};
 ghost use Rattle.message.specs.Fault.{Meets};
 ghost use Rattle.statistics_api.specs.Steps.{result_map};
 ghost use Rattle.statistics_api.specs.Router.{router_rows};
 ghost use Rattle.statistics_api.specs.Text.{is_written, shown};
 ghost use Rattle.statistics_api.specs.Answer.{answer_of, told, text_of, not_found, method_not_allowed, out_of_memory, queue_named};
 
-use crate::routes::{Route, routes, target_of};
+use crate::routes::{Route, routes, target_of, target_without_memory};
 use crate::text::Text;
 use crate::texts::{alarms_text, rows_text, sheet_text, sheets_text};
 use board::Sheet;
@@ -101,17 +101,43 @@ fn answer_in_memory(
     }
 }
 
+/// What a path tells where it takes no memory, and want of memory where it takes some.
+fn told_without_memory(route: Route, name: &str, sheets: &[Sheet]) -> (u16, Text)
+    ensures answer { (shown result ≡ told route name.now sheets.now) ⊎ (shown result ≡ out_of_memory) }
+    ensures exact { (told route name.now sheets.now).0 ≢ 200 → shown result ≡ told route name.now sheets.now }
+    ensures constant { is_written result.1 ≡ false }
+{
+    match queue_named(name, sheets) {
+        None if route != Route::Queues => not_found(),
+        _ => out_of_memory(),
+    }
+}
+
+/// The answer where it takes no memory, and want of memory where it takes some.
+fn answer_without_memory(method: &str, path: &str, sheets: &[Sheet]) -> (u16, Text)
+    ensures answer { (shown result ≡ answer_of method.now path.now sheets.now) ⊎ (shown result ≡ out_of_memory) }
+    ensures exact { (answer_of method.now path.now sheets.now).0 ≢ 200 → shown result ≡ answer_of method.now path.now sheets.now }
+    ensures constant { is_written result.1 ≡ false }
+{
+    match target_without_memory(path) {
+        None => not_found(),
+        Some(_) if method != "GET" => method_not_allowed(),
+        Some(target) => told_without_memory(target.route, target.name, sheets),
+    }
+}
+
 /// The answer to a request for statistics (this project's own resource): a status and a text. There
 /// are four paths, under `/statistics/queues`; every other is 404, and so is a queue that is not among
 /// the sheets. A method other than `GET` on one of these paths is 405, whatever queue it names. 500,
-/// which takes no memory itself, may stand in the place of any answer for want of memory. The sheets
-/// come in any order; of two of one name the first is found.
+/// which takes no memory itself, may stand in the place of a 200 for want of memory, and of no other
+/// answer. The sheets come in any order; of two of one name the first is found.
 pub fn answer(alloc: Global, method: &str, path: &str, sheets: &[Sheet]) -> (u16, Text)
     ensures answer { (shown result ≡ answer_of method.now path.now sheets.now) ⊎ (shown result ≡ out_of_memory) }
+    ensures exact { (answer_of method.now path.now sheets.now).0 ≢ 200 → shown result ≡ answer_of method.now path.now sheets.now }
     ensures constant { (result.0 ≡ 200) ⊎ (is_written result.1 ≡ false) }
 {
     match answer_in_memory(alloc, method, path, sheets) {
         Ok(answer) => answer,
-        Err(_) => out_of_memory(),
+        Err(_) => answer_without_memory(method, path, sheets),
     }
 }

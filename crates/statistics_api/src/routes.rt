@@ -1,8 +1,9 @@
 //! The paths.
 
-ghost use Rattle.std.specs.Prelude.{◌≡◌, IfOk, option_map};
+ghost use Rattle.std.specs.Prelude.{◌≡◌, ℕ, List, ◌∷◌, Some, IfOk, option_map, codes};
 ghost use Rattle.statistics_api.specs.Router.{router_rows};
-ghost use Rattle.statistics_api.specs.Routes.{target_of};
+ghost use Rattle.statistics_api.specs.Routes.{slash, after, until_slash, from_slash, queue_route, queue_target, target_of};
+ghost use Rattle.statistics_api.specs.Cut.{IsCut};
 
 use matchit::{InsertError, Router};
 use std::alloc::Global;
@@ -51,4 +52,64 @@ pub(crate) fn target_of<'p>(router: &Router<Route>, path: &'p str) -> Option<Tar
         }),
         Err(_) => None,
     }
+}
+
+/// What stands behind the part of a path that all queues have in common.
+fn behind_queues(path: &str) -> Option<&str>
+    ensures { option_map (λ s. s.now) result ≡ after (codes "/statistics/queues/") path.now }
+{
+    path.strip_prefix("/statistics/queues/")
+}
+
+/// A text up to its first slash, and what stands behind that.
+fn cut(text: &str) -> Option<(&str, &str)>
+    ensures { IsCut text.now result }
+{
+    text.split_once('/')
+}
+
+/// What is asked for of a queue, by what stands behind its name and a slash.
+fn route_behind(text: &str) -> Option<Route>
+    ensures { result ≡ queue_route (slash ∷ text.now) }
+{
+    match text {
+        "rows" => Some(Route::Rows),
+        "alarms" => Some(Route::Alarms),
+        _ => None,
+    }
+}
+
+/// What is asked for of a queue of a name. A name has at least one byte.
+#[tactic(auto, using(crate::proofs::PlainLemmas::empty_name, crate::proofs::PlainLemmas::some_route))]
+fn queue_target(name: &str, route: Route) -> Option<Target<'_>>
+    ensures { (rest : List ℕ) → queue_route rest ≡ Some route → option_map (λ t. (t.route, t.name.now)) result ≡ queue_target name.now rest }
+{
+    if name.is_empty() {
+        return None;
+    }
+    Some(Target { route, name })
+}
+
+/// What is asked for of a queue, by a text that begins with its name.
+fn target_in(text: &str) -> Option<Target<'_>>
+    ensures { option_map (λ t. (t.route, t.name.now)) result ≡ queue_target (until_slash text.now) (from_slash text.now) }
+{
+    match cut(text) {
+        None => queue_target(text, Route::Queue),
+        Some((name, behind)) => queue_target(name, route_behind(behind)?),
+    }
+}
+
+/// What a path asks for, or `None` where there is no such path: the same as [`target_of`], without the
+/// router, which takes memory.
+pub(crate) fn target_without_memory(path: &str) -> Option<Target<'_>>
+    ensures { option_map (λ t. (t.route, t.name.now)) result ≡ target_of path.now }
+{
+    if path == "/statistics/queues" {
+        return Some(Target {
+            route: Route::Queues,
+            name: "",
+        });
+    }
+    target_in(behind_queues(path)?)
 }

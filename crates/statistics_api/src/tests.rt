@@ -156,7 +156,21 @@ fn cases(rt: HostRuntime) -> Result<(), Fail> {
     Ok(())
 }
 
-/// With ample memory each path answers, and where memory was refused it answers 500, and then its text.
+/// What is refused, with its status.
+const REFUSALS: &str = r#"GET /statistics/queues/none => 404
+GET /statistics/queues/jobs/ => 404
+GET /statistics/queues//rows => 404
+GET /statistics/queues/jobs/row => 404
+POST /statistics/queues => 405
+POST /statistics/queues/none => 405
+POST /statistics/queues/jobs/rows => 405
+POST /statistics/queues/jobs/alarms => 405
+POST /metrics => 405
+POST / => 405
+"#;
+
+/// With ample memory each path answers, and where memory was refused it answers 500, and then its text. What is
+/// refused takes no memory, so that no such call is made again.
 #[test]
 fn refused_memory(rt: HostRuntime) -> Result<(), Fail> {
     let sheets = match queues(rt.alloc()) {
@@ -165,6 +179,12 @@ fn refused_memory(rt: HostRuntime) -> Result<(), Fail> {
     };
     for line in CALLS.lines() {
         hold(&rt, rt.alloc(), sheets.as_slice(), line)?;
+    }
+    for line in REFUSALS.lines() {
+        let (call, status) = line.split_once(" => ").ok_or("a status")?;
+        let (method, path) = call.split_once(' ').ok_or("a method")?;
+        let response = respond(rt.alloc(), method, path, sheets.as_slice());
+        assert_eq!(rt; Some(response.status), status.parse::<u16>().ok(), "{call}");
     }
     Ok(())
 }
