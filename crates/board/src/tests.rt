@@ -52,31 +52,6 @@ fn told(sheet: &Sheet) -> (u64, u64, u64) {
     )
 }
 
-#[test]
-fn a_turn_is_read_that_nobody_was_told_of(rt: HostRuntime) -> Result<(), Fail> {
-    let alloc = rt.alloc();
-    let queue = open(alloc)?;
-    let sheet = first_sheet(alloc, &queue);
-    let (publisher, mut readers) = board(alloc, &rt, &sheet, 2)?;
-    let (desk, mut pass) = Desk::new(&rt, alloc, queue, publisher)?;
-    for reader in readers.iter_mut() {
-        assert_eq!(rt; told(&reader.read(alloc)?), (1, 0, 0));
-    }
-    let (first, second) = (send(alloc, "a")?, send(alloc, "b")?);
-    let at = Moment::new(1000).ok_or(Fault::InvalidParameterValue)?;
-    let asked = desk.ask(&rt, alloc, &mut pass, at, &first, &NoGate);
-    assert!(rt; asked.reply.is_ok() && asked.told.is_some());
-    for reader in readers.iter_mut() {
-        assert_eq!(rt; told(&reader.read(alloc)?), (2, 1000, 1));
-    }
-    let asked = desk.ask(&rt, alloc, &mut pass, at, &second, &NoGate);
-    assert!(rt; asked.reply.is_ok() && asked.told.is_some());
-    for reader in readers.iter_mut() {
-        assert_eq!(rt; told(&reader.read(alloc)?), (3, 1000, 2));
-    }
-    Ok(())
-}
-
 /// A desk whose turns are printed on a board, its pass, and a reader of the board.
 struct Talk<R: Wait + Drop> {
     desk: Desk<Publisher<R>>,
@@ -97,7 +72,7 @@ impl<R: Wait + Drop> Drop for Talk<R> {
     }
 }
 
-impl<R: Wait + Drop> Talk<R> {
+impl<R: Wait + Copy + Drop> Talk<R> {
     /// A desk with a queue to which no call was made.
     fn open(host: &HostRuntime, rt: R) -> Result<Talk<R>, Fault> {
         let alloc = host.alloc();
@@ -111,8 +86,22 @@ impl<R: Wait + Drop> Talk<R> {
         Ok(Talk { desk, pass, reader })
     }
 
-    /// Asks a command at 1000, and has the reader learn what is told. False where nothing was told.
-    fn ask<W: Wait>(&mut self, rt: &W, alloc: Global, command: &Command) -> Result<bool, Fault> {
+    /// The same, begun once more where it finds no memory.
+    fn open_twice(host: &HostRuntime, rt: R) -> Result<Talk<R>, Fault> {
+        match Talk::open(host, rt) {
+            Err(Fault::OutOfMemory) => Talk::open(host, rt),
+            made => made,
+        }
+    }
+
+    /// Asks a command at 1000. True where something is told of it, which the reader learns if it is to.
+    fn ask<W: Wait>(
+        &mut self,
+        rt: &W,
+        alloc: Global,
+        command: &Command,
+        learns: bool,
+    ) -> Result<bool, Fault> {
         let at = Moment::new(1000).ok_or(Fault::InvalidParameterValue)?;
         let asked = self
             .desk
@@ -121,9 +110,45 @@ impl<R: Wait + Drop> Talk<R> {
         let Some(told) = asked.told else {
             return Ok(false);
         };
-        self.reader.learn(told);
+        if learns {
+            self.reader.learn(told);
+        }
         Ok(true)
     }
+
+    /// Asks a command that the reader learns of, once more where it finds no memory.
+    fn ask_twice<W: Wait>(
+        &mut self,
+        rt: &W,
+        alloc: Global,
+        command: &Command,
+    ) -> Result<bool, Fault> {
+        match self.ask(rt, alloc, command, true) {
+            Err(Fault::OutOfMemory) => self.ask(rt, alloc, command, true),
+            told => told,
+        }
+    }
+
+    /// What is read, once more where it finds no memory.
+    fn read_twice(&mut self, alloc: Global) -> Result<Sheet, Fault> {
+        match self.reader.read(alloc) {
+            Err(Fault::OutOfMemory) => self.reader.read(alloc),
+            sheet => sheet,
+        }
+    }
+}
+
+#[test]
+fn a_turn_is_read_that_nobody_was_told_of(rt: HostRuntime) -> Result<(), Fail> {
+    let alloc = rt.alloc();
+    let mut talk = Talk::open(&rt, &rt)?;
+    let (first, second) = (send(alloc, "a")?, send(alloc, "b")?);
+    assert_eq!(rt; told(&talk.reader.read(alloc)?), (1, 0, 0));
+    assert!(rt; talk.ask(&rt, alloc, &first, false)?);
+    assert_eq!(rt; told(&talk.reader.read(alloc)?), (2, 1000, 1));
+    assert!(rt; talk.ask(&rt, alloc, &second, false)?);
+    assert_eq!(rt; told(&talk.reader.read(alloc)?), (3, 1000, 2));
+    Ok(())
 }
 
 /// What a reader learnt is what it reads, also where a turn could not be printed and comes with the next one.
@@ -132,20 +157,10 @@ impl<R: Wait + Drop> Talk<R> {
 #[test]
 fn refused_memory(rt: HostRuntime) -> Result<(), Fail> {
     let alloc = rt.alloc();
-    let mut talk = match Talk::open(&rt, &rt) {
-        Ok(talk) => talk,
-        Err(_) => Talk::open(&rt, &rt)?,
-    };
+    let mut talk = Talk::open_twice(&rt, &rt)?;
     let first = send(alloc, "a").or_else(|_| send(alloc, "a"))?;
-    let printed = match talk.ask(&rt, alloc, &first) {
-        Ok(printed) => printed,
-        Err(_) => talk.ask(&rt, alloc, &first)?,
-    };
-    assert!(rt; printed || talk.ask(&rt, alloc, &Command::Look)?);
-    let sheet = match talk.reader.read(alloc) {
-        Ok(sheet) => sheet,
-        Err(_) => talk.reader.read(alloc)?,
-    };
-    assert_eq!(rt; told(&sheet), (2, 1000, 1));
+    let printed = talk.ask_twice(&rt, alloc, &first)?;
+    assert!(rt; printed || talk.ask(&rt, alloc, &Command::Look, true)?);
+    assert_eq!(rt; told(&talk.read_twice(alloc)?), (2, 1000, 1));
     Ok(())
 }
