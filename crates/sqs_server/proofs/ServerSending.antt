@@ -56,6 +56,7 @@ use Rattle.sqs_server.specs.contracts.front.Front as front
 use Rattle.sqs_server.specs.contracts.queues.Maker as maker
 use Rattle.sqs_server.specs.contracts.queues.Queue as queue
 use Rattle.sqs_server.specs.contracts.queues.Serving as serving
+use Rattle.sqs_server.specs.contracts.serving.Showing as showing
 use Rattle.sqs_server.specs.contracts.stage.Exchange as exchange
 use Rattle.sqs_server.specs.contracts.stage.Stage as stage
 use Rattle.sqs_server.specs.contracts.statistics.StatisticsFront as statistics
@@ -225,3 +226,9 @@ maker_send T s =
     let one = directory_send T s in
     let both = directory_sync T s in
     search (order.the_send, channel.the_send, sendable, crosses) depth 40 fits 100000
+
+pub showing_send : (T : RattleType) → IsSend T → IsSend (showing.the_row T)
+showing_send T s =
+    let one = statistics_send T s in
+    let other = timer.the_send T s in
+    search (sendable, crosses) depth 40 fits 100000
