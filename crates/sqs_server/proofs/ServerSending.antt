@@ -21,7 +21,7 @@ use Rattle.desk.specs.declared.printing.Press.{Ghosts}
 use Rattle.futures.specs.contracts.channel.oneshot.Sender as slot
 use Rattle.futures.specs.contracts.future.made.ready.Ready as ready
 use Rattle.queue_actor.proofs.Sending.{future_sends, mail_sends}
-use Rattle.queue_actor.proofs.ActorSending.{actor_sends, directory_sends, directory_syncs}
+use Rattle.queue_actor.proofs.ActorSending.{directory_sends, directory_syncs}
 use Rattle.queue_actor.specs.contracts.actor.Actor as actor
 use Rattle.queue_actor.specs.contracts.answer.Answer as answer
 use Rattle.queue_actor.specs.contracts.directory.Directory as directory
@@ -90,8 +90,9 @@ module _ (T : RattleType) (s : IsSend T) where
   future_send : IsSend (future.the_row Prints told.the_row g)
   future_send = future_sends Prints told.the_row g prints_send
 
-  actor_send : IsSend (actor.the_row Prints told.the_row g)
-  actor_send = actor_sends Prints told.the_row g prints_send
+  -- part by part, as a field of what goes with it
+  actor_field_send : IsSend (actor.the_field Prints told.the_row g).row
+  actor_field_send = search (desk_send, desk_sync, pass_send, sendable, crosses) depth 40 fits 100000
 
   pub directory_send : IsSend (directory.the_row Prints Slots told.the_row g)
   directory_send = directory_sends Prints told.the_row g prints_send
@@ -211,7 +212,7 @@ serving_send T s =
       (
         global.the_field_send,
         (
-          (let one = actor_send T s in search sendable),
+          actor_field_send T s,
           (
             (let one = mail_send T s in search (channel.the_send, sendable, crosses) depth 40 fits 100000),
             ((let one = directory_send T s in let both = directory_sync T s in search (sendable, crosses) depth 40 fits 100000), tt),
