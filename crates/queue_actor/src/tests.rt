@@ -125,11 +125,12 @@ fn policy(alloc: Global, target: &str) -> Result<(Wish, u64), Fault> {
     Ok((wish, target))
 }
 
-/// The moment that a text asks at, the command's text, and the moment until which it may wait, behind `until`.
-fn times(text: &str) -> Result<(Moment, &str, Moment), Fault> {
-    let (at, rest) = text.split_once(' ').ok_or(Fault::UnsupportedOperation)?;
+/// The moment that a text asks at, the command's text, and the moment until which it may wait, behind `until`; all as
+/// texts.
+fn parts(text: &str) -> (&str, &str, &str) {
+    let (at, rest) = text.split_once(' ').unwrap_or((text, ""));
     let (call, until) = rest.split_once(" until ").unwrap_or((rest, at));
-    Ok((moment(at)?, call, moment(until)?))
+    (at, call, until)
 }
 
 /// Tells an answer. An offered message has its number, its receipt, its body and when it was sent.
@@ -180,7 +181,8 @@ fn begin<R: Wait>(
     queue: Client,
     text: &str,
 ) -> Result<AskFuture<NoPress>, Fault> {
-    let (at, call, until) = times(text)?;
+    let (at, call, until) = parts(text);
+    let (at, until) = (moment(at)?, moment(until)?);
     let command = command(alloc, call)?;
     let Served {
         mailbox,

@@ -222,7 +222,8 @@ impl Stage {
         if let Some(at) = text.strip_prefix("tick ") {
             return Ok(Mail::Tick(moment(at)?));
         }
-        let (at, call, until) = times(text)?;
+        let (at, call, until) = parts(text);
+        let (at, until) = (moment(at)?, moment(until)?);
         let command = command(self.host.alloc(), call)?;
         let Served { desk, pass, .. } = self.client(rt, uid)?;
         Ok(Mail::Ask(Ask::new(desk, pass, at, command, until, slot)))
@@ -356,7 +357,8 @@ impl Stage {
 
     /// Asks a queue's desk without its actor.
     fn call<R: Wait>(&mut self, rt: &R, uid: &str, text: &str) -> Result<(), Fault> {
-        let (alloc, (at, call, _)) = (self.host.alloc(), times(text)?);
+        let (at, call, _) = parts(text);
+        let (alloc, at) = (self.host.alloc(), moment(at)?);
         let command = command(alloc, call)?;
         let answer = self.client(rt, uid)?.ask(rt, alloc, at, command, &NoGate);
         tell(&mut self.text, answer.reply())
