@@ -233,6 +233,9 @@ fn open_board<R: Wait + Copy + Drop>(
     queue: &QueueState,
     at: Moment,
 ) -> Result<(Printer<R>, Reader), Fault>
+    ensures none { IfOk result (λ made. made.0.turns ≡ []) }
+    ensures book { IfOk result (λ made. made.1.book ≡ made.0.book) }
+    ensures name { IfOk result (λ made. made.1.given.name ≡ queue.now.name) }
     ensures errors { IfErr result (λ fault. fault ≡ OutOfMemory) }
 {
     let sheet = first_sheet(alloc, queue, at)?;
