@@ -2,16 +2,17 @@
 # replay and runs it on its stored example; `make try` runs the same with no proof. `make install` puts both programs into PREFIX/bin.
 # `make test` is what each commit must pass: the edits can be applied, each crate has a verdict that holds, and all tests pass. It takes
 # minutes where the verdicts hold. `make prove` proves everything from nothing, and writes every verdict anew. `make verdicts` says which
-# hold. `make clients` tours the server that `make run` built, with boto3 and the AWS command line; `make rate` times it, and `make many` with
-# 1,000 queues. `make wrong-bodies` tries the edits that the gate leaves out; with CRATE=name those of one crate. `make refuse` runs the tests of refused
-# memory once for each allocation. `make page` shows the statistics page with numbers that were made up, and `make page-test` tries it in a
-# browser. `make bench` times the replay that `make replay` built. `make table` puts what the verdicts say into docs/PROOFS.md.
-.PHONY: run replay try install test prove verdicts table clients rate many wrong-bodies refuse bench page page-test
+# hold. `make clients` tours the server that `make run` built, with boto3 and the AWS command line; `make rate` times it, `make many` with
+# 1,000 queues, and `make watched` while its statistics are read. `make wrong-bodies` tries the edits that the gate leaves out; with
+# CRATE=name those of one crate. `make refuse` runs the tests of refused memory once for each allocation. `make page` shows the statistics
+# page with numbers that were made up, and `make page-test` tries it in a browser, and behind it that of the server, where it is built.
+# `make bench` times the replay that `make replay` built. `make table` puts what the verdicts say into docs/PROOFS.md.
+.PHONY: run replay try install test prove verdicts table clients rate many watched wrong-bodies refuse bench page page-test
 PREFIX ?= /usr/local
 
 run:
 	@echo 'The server is proved and built first, where it has changed: up to an hour at its first run.'
-	@echo 'Then it listens at http://localhost:9324 until Ctrl-C ends it.'
+	@echo 'Then it listens at http://localhost:9324, and at http://localhost:9325 for statistics, until Ctrl-C ends it.'
 	cd crates/sqs_server && rt run -- example.toml
 
 replay:
@@ -43,6 +44,9 @@ rate:
 
 many:
 	clients/run.sh many
+
+watched:
+	clients/run.sh watched
 
 wrong-bodies:
 	tools/wrong-bodies $(CRATE)

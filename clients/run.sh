@@ -1,7 +1,8 @@
 #!/bin/sh
 # Starts the server that `make run` has built, has clients call it, and ends it.
-# Usage: run.sh [rate | many]. Without an argument the tours of boto3 and of the AWS command line; with `rate` how many sends a second it
-# answers, beside the replay and, where it is installed, nginx; with `many` how long requests take where there are 1,000 queues.
+# Usage: run.sh [rate | many | watched]. Without an argument the tours of boto3 and of the AWS command line; with `rate` how many sends a second it
+# answers, beside the replay and, where it is installed, nginx; with `many` how long requests take where there are 1,000 queues; with
+# `watched` how long a send takes while statistics are read.
 set -eu
 cd "$(dirname "$0")/.."
 
@@ -40,6 +41,8 @@ if [ "${1:-tours}" = tours ]; then
     clients/tour.sh
 elif [ "$1" = rate ]; then
     clients/rate.py
+elif [ "$1" = watched ]; then
+    clients/watched.py
 else
     clients/many.py
 fi

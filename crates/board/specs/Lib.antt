@@ -1,1 +1,5 @@
 pub mod Sheet
+pub mod Numbers
+pub mod Printed
+pub mod Shown
+pub mod Rule

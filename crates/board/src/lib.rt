@@ -2,8 +2,23 @@
 //!
 //! [`Sheet`] has the statistics of one queue at one moment. Its fields are public: whoever has read
 //! them from a queue makes a sheet of them. Contracts see rows and alarms as lists.
+//!
+//! [`board`] puts such a sheet where readers see it. A [`Publisher`] is a press of a desk: it prints each
+//! turn on the board. A [`Reader`] reads what was printed last, takes no turn of the queue, and waits for
+//! nobody. What it has seen or learnt of is never followed by something older.
 #![tactic(auto)]
 
+mod numbers;
+mod place;
+mod publisher;
+mod reader;
+mod rule;
 mod sheet;
+#[cfg(test)]
+mod tests;
+mod told;
 
+pub use publisher::{Publisher, board};
+pub use reader::Reader;
 pub use sheet::Sheet;
+pub use told::Told;

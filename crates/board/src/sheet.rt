@@ -1,9 +1,13 @@
 //! A queue's statistics.
 
+ghost use Rattle.std.specs.Prelude.{◌≡◌, IfOk, IfErr};
+ghost use Rattle.message.specs.declared.fault.Fault.TheVariants.{OutOfMemory};
+
 use alarm::AlarmState;
 use journal::Moment;
-use message::QueueName;
+use message::{Fault, QueueName};
 use metric_window::{Flows, Gauges, Row};
+use std::alloc::Global;
 use std::marker::Model;
 
 /// The statistics of a queue at a moment. Contracts see its parts, rows and alarms as lists.
@@ -30,4 +34,22 @@ impl Model for Sheet {
     ghost Value = { Statistics };
 
     ghost view = { λ s. record { name = s.name; lines = s.lines; clock = s.clock; gauges = s.gauges; current = s.current; rows = s.rows.items; alarms = s.alarms.items } };
+}
+
+impl Sheet {
+    /// The same again. `OutOfMemory` is the only refusal.
+    pub(crate) fn copy(&self, alloc: Global) -> Result<Sheet, Fault>
+        ensures ok { IfOk result (λ sheet. sheet ≡ self.now) }
+        ensures errors { IfErr result (λ fault. fault ≡ OutOfMemory) }
+    {
+        Ok(Sheet {
+            name: self.name,
+            lines: self.lines,
+            clock: self.clock,
+            gauges: self.gauges,
+            current: self.current,
+            rows: Vec::from_slice(alloc, self.rows.as_slice())?,
+            alarms: Vec::from_slice(alloc, self.alarms.as_slice())?,
+        })
+    }
 }

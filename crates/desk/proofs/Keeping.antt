@@ -41,7 +41,7 @@ not_turn : (stage : Stage) (t u : ℕ) → stage ≡ Drawn t → stage ≢ Turn 
 not_turn stage t u drawn turn = suc-ne-zero 0 (ap turn_code (sym turn ∙ drawn))
 
 -- more tickets
-stage_more : (start : QueueHistory) (log : List Call) (t u n : ℕ) (v : View) (stage : Stage) → t ≤ u → FitsStage start log t n v stage → FitsStage start log u n v stage
+stage_more : (start : Lying) (log : List Call) (t u n : ℕ) (v : View) (stage : Stage) → t ≤ u → FitsStage start log t n v stage → FitsStage start log u n v stage
 stage_more start log t u n v Fresh le f = f
 stage_more start log t u n v Idle le f = f
 stage_more start log t u n v (Drawn k) le f = (f.0, f.1, f.2, lt_of_lt_of_le f.3 le)
@@ -49,21 +49,21 @@ stage_more start log t u n v (Turn k) le f = (f.0, f.1, f.2, lt_of_lt_of_le f.3 
 stage_more start log t u n v Ended le f = tt
 
 -- a pass that holds a ticket holds one that was drawn
-ticket_drawn : (start : QueueHistory) (log : List Call) (t n k : ℕ) (v : View) (stage : Stage) → ticket_of stage ≡ Some k → FitsStage start log t n v stage → k < t
+ticket_drawn : (start : Lying) (log : List Call) (t n k : ℕ) (v : View) (stage : Stage) → ticket_of stage ≡ Some k → FitsStage start log t n v stage → k < t
 ticket_drawn start log t n k v Fresh is f = absurd cc
 ticket_drawn start log t n k v Idle is f = absurd cc
 ticket_drawn start log t n k v (Drawn j) is f = subst (λ (z : ℕ). z < t) (ap ticket_or_zero is) f.3
 ticket_drawn start log t n k v (Turn j) is f = subst (λ (z : ℕ). z < t) (ap ticket_or_zero is) f.3
 ticket_drawn start log t n k v Ended is f = absurd cc
 
-follows_after : (start : QueueHistory) (log : List Call) (v : View) (c : Call) → Follows start log v → Follows start (log ++ c ∷ []) v
-follows_after start log v c f = record { opened = f.opened; seen = goes_on v.seen log c f.seen; heard = goes_on v.heard log c f.heard }
+follows_after : (start : Lying) (log : List Call) (v : View) (c : Call) → Follows start log v → Follows start (log ++ c ∷ []) v
+follows_after start log v c f = record { opened = f.opened; placed = f.placed; seen = goes_on v.seen log c f.seen; heard = goes_on v.heard log c f.heard }
 
 own_after : (log : List Call) (n : ℕ) (v : View) (c : Call) → c.by ≢ n → IsOwn log n v → IsOwn (log ++ c ∷ []) n v
 own_after log n v c other o = (o.0, other_call n log v.mine c other o.1, o.2)
 
 -- one call more, of another pass
-stage_after : (start : QueueHistory) (log : List Call) (t n : ℕ) (v : View) (c : Call) (stage : Stage) → c.by ≢ n → ticket_of stage ≢ Some (length log) → FitsStage start log t n v stage
+stage_after : (start : Lying) (log : List Call) (t n : ℕ) (v : View) (c : Call) (stage : Stage) → c.by ≢ n → ticket_of stage ≢ Some (length log) → FitsStage start log t n v stage
     → FitsStage start (log ++ c ∷ []) t n v stage
 stage_after start log t n v c Fresh other held f = (follows_after start log v c f.0, other_call n log [] c other f.1, f.2, f.3)
 stage_after start log t n v c Idle other held f = (follows_after start log v c f.0, own_after log n v c other f.1)
@@ -84,11 +84,11 @@ held_snoc : (views : List View) (w : View) → held_tickets (views ++ w ∷ []) 
 held_snoc [] w = omega arith
 held_snoc (x ∷ xs) w = let others = held_snoc xs w in omega (arith, others)
 
-served : (start : QueueHistory) (s : Desk) (r : IsInTurn start s) → length r.log ≤ r.tickets
+served : (start : Lying) (s : Desk) (r : IsInTurn start s) → length r.log ≤ r.tickets
 served start s r = let all : length r.log + held_tickets s.views ≡ r.tickets = r.all in omega (arith, all)
 
 -- a pass holds as many tickets as before
-still_held : (start : QueueHistory) (s : Desk) (r : IsInTurn start s) (id : ℕ) (v w : View) → get_elem? s.views id ≡ some v → tickets_of v.stage ≡ tickets_of w.stage
+still_held : (start : Lying) (s : Desk) (r : IsInTurn start s) (id : ℕ) (v w : View) → get_elem? s.views id ≡ some v → tickets_of v.stage ≡ tickets_of w.stage
     → length r.log + held_tickets (set s.views id w) ≡ r.tickets
 still_held start s r id v w at same =
     let views = held_set s.views id v w at in let all : length r.log + held_tickets s.views ≡ r.tickets = r.all in omega (arith, views, same, all)
@@ -109,9 +109,9 @@ apart_set views id w apart alone j k t a b at bt h g =
     (λ (y : (k ≢ id) × (get_elem? views k ≡ some b)). apart j k t a b x.1 y.1 h g) (at_set views id k w b bt))
     (at_set views id j w a at)
 
-stands : (start : QueueHistory) (s : Desk) (r : IsInTurn start s) (id tickets : ℕ) (w : View) (words : List ℕ) (homes : Homes)
+stands : (start : Lying) (s : Desk) (r : IsInTurn start s) (id tickets : ℕ) (w : View) (words : List ℕ) (homes : Homes)
     → words ≡ length r.log ∷ tickets ∷ [] → r.tickets ≤ tickets → tickets ≤ most_tickets
-    → Fits start r.log tickets id w → w.begun ≤ tickets → HoldsAlone s.views id w.stage → IsHome (state_of start r.log) homes ⊎ IsOut homes (set s.views id w)
+    → Fits start r.log tickets id w → w.begun ≤ tickets → HoldsAlone s.views id w.stage → IsHome start r.log homes ⊎ IsOut homes (set s.views id w)
     → length r.log + held_tickets (set s.views id w) ≡ tickets
     → IsInTurn start (record { words = words; homes = homes; views = set s.views id w })
 stands start s r id tickets w words homes is more within fits begun alone home held = record {
@@ -131,10 +131,10 @@ stands start s r id tickets w words homes is more within fits begun alone home h
 }
 
 -- where the queue was, it is
-home_stays : (queue : QueueHistory) (homes : Homes) (views : List View) (id : ℕ) (v w : View) → get_elem? views id ≡ some v → ((t : ℕ) → v.stage ≢ Turn t)
-    → IsHome queue homes ⊎ IsOut homes views → IsHome queue homes ⊎ IsOut homes (set views id w)
-home_stays queue homes views id v w at idle (inl h) = inl h
-home_stays queue homes views id v w at idle (inr o) =
+home_stays : (start : Lying) (log : List Call) (homes : Homes) (views : List View) (id : ℕ) (v w : View) → get_elem? views id ≡ some v → ((t : ℕ) → v.stage ≢ Turn t)
+    → IsHome start log homes ⊎ IsOut homes views → IsHome start log homes ⊎ IsOut homes (set views id w)
+home_stays start log homes views id v w at idle (inl h) = inl h
+home_stays start log homes views id v w at idle (inr o) =
     let k : ℕ = o.1.0 in let t : ℕ = o.1.1 in let u : View = o.1.2 in
     let other : k ≢ id = λ e. idle t (ap (λ (z : View). z.stage) (some-injective v u (sym at ∙ ap (λ (z : ℕ). get_elem? views z) (sym e) ∙ o.1.3)) ∙ o.1.4) in
     inr (o.0, (k, t, u, set_else views id k w other ∙ o.1.3, o.1.4))
@@ -157,26 +157,26 @@ idle_holds_none stage t idle holds = absurd cc
 idle_is_not_turn : (v : View) → v.stage ≡ Idle → (t : ℕ) → v.stage ≢ Turn t
 idle_is_not_turn v idle t turn = suc-ne-zero 0 (ap turn_code (sym turn ∙ idle))
 
-of_idle : (start : QueueHistory) (log : List Call) (t n : ℕ) (v : View) (stage : Stage) → stage ≡ Idle → FitsStage start log t n v stage → Follows start log v × IsOwn log n v
+of_idle : (start : Lying) (log : List Call) (t n : ℕ) (v : View) (stage : Stage) → stage ≡ Idle → FitsStage start log t n v stage → Follows start log v × IsOwn log n v
 of_idle start log t n v stage is f = let g : FitsStage start log t n v Idle = subst (FitsStage start log t n v) is f in g
 
-follows_at : (start : QueueHistory) (log : List Call) (v : View) (stage : Stage) → Follows start log v → Follows start log (at_stage v stage)
-follows_at start log v stage f = record { opened = f.opened; seen = f.seen; heard = f.heard }
+follows_at : (start : Lying) (log : List Call) (v : View) (stage : Stage) → Follows start log v → Follows start log (at_stage v stage)
+follows_at start log v stage f = record { opened = f.opened; placed = f.placed; seen = f.seen; heard = f.heard }
 
-follows_counting : (start : QueueHistory) (log : List Call) (v : View) (tickets : ℕ) → Follows start log v → Follows start log (counting v tickets)
-follows_counting start log v tickets f = record { opened = f.opened; seen = f.seen; heard = f.heard }
+follows_counting : (start : Lying) (log : List Call) (v : View) (tickets : ℕ) → Follows start log v → Follows start log (counting v tickets)
+follows_counting start log v tickets f = record { opened = f.opened; placed = f.placed; seen = f.seen; heard = f.heard }
 
 -- a pass that holds no ticket counts those that were drawn
-stays_counted : (start : QueueHistory) (s : Desk) (r : IsInTurn start s) (id : ℕ) (v : View) → get_elem? s.views id ≡ some v → v.stage ≡ Idle
+stays_counted : (start : Lying) (s : Desk) (r : IsInTurn start s) (id : ℕ) (v : View) → get_elem? s.views id ≡ some v → v.stage ≡ Idle
     → IsInTurn start (record { words = set s.words 1 (slice_index s.words 1); homes = s.homes; views = set s.views id (counting v (slice_index s.words 1)) })
 stays_counted start s r id v at idle =
     let y : ℕ = slice_index s.words 1 in let found : y ≡ r.tickets = ap (λ (ws : List ℕ). slice_index ws 1) r.words in
     let fit = of_idle start r.log r.tickets id v v.stage idle (r.fits id v at) in let w : View = counting v y in
     stands start s r id r.tickets w (set s.words 1 y) s.homes (ap (λ (ws : List ℕ). set ws 1 y) r.words ∙ ap (λ (z : ℕ). length r.log ∷ z ∷ []) found) (le_refl r.tickets) r.within
     (subst (FitsStage start r.log r.tickets id w) (sym idle) (follows_counting start r.log v y fit.0, fit.1)) (omega (arith, found)) (λ ticket is. absurd (idle_holds_none v.stage ticket idle is))
-    (home_stays (state_of start r.log) s.homes s.views id v w at (idle_is_not_turn v idle) r.home) (still_held start s r id v w at refl)
+    (home_stays start r.log s.homes s.views id v w at (idle_is_not_turn v idle) r.home) (still_held start s r id v w at refl)
 
-pub draws : (start : QueueHistory) (slots id old : ℕ) (me : Holder) → me.0.stage ≡ Idle → old < most_tickets
+pub draws : (start : Lying) (slots id old : ℕ) (me : Holder) → me.0.stage ≡ Idle → old < most_tickets
     → Allows (IsInTurn start) slots id me 1 (λ n. either (eqb n old) (old + 1) n) (has_drawn (step slots 1 old (old + 1) none) me)
 draws start slots id old me idle room s r wide at _ =
     let v : View = me.0 in let y : ℕ = slice_index s.words 1 in let found : y ≡ r.tickets = ap (λ (ws : List ℕ). slice_index ws 1) r.words in
@@ -192,7 +192,7 @@ draws start slots id old me idle room s r wide at _ =
           (let b : v.begun ≤ r.tickets = r.counted id v at in omega (arith, found, hit))
           (λ ticket is j u other there holds.
           let same : y ≡ ticket = ap ticket_or_zero is in let drawn : ticket < r.tickets = ticket_drawn start r.log r.tickets j ticket u u.stage holds (r.fits j u there) in absurd (omega (arith, found)))
-          (home_stays (state_of start r.log) s.homes s.views id v w at (idle_is_not_turn v idle) r.home)
+          (home_stays start r.log s.homes s.views id v w at (idle_is_not_turn v idle) r.home)
           (let views : held_tickets (set s.views id w) + tickets_of v.stage ≡ held_tickets s.views + 1 = held_set s.views id v w at in let empty : tickets_of v.stage ≡ 0 = ap tickets_of idle in
           let all : length r.log + held_tickets s.views ≡ r.tickets = r.all in omega (arith, views, empty, all, found, hit)),
       (
@@ -212,7 +212,7 @@ draws start slots id old me idle room s r wide at _ =
       ),
     ))
 
-pub counts : (start : QueueHistory) (slots id : ℕ) (me : Holder) → me.0.stage ≡ Idle → Allows (IsInTurn start) slots id me 1 (λ n. n) (has_counted (step slots 1 0 0 none) me)
+pub counts : (start : Lying) (slots id : ℕ) (me : Holder) → me.0.stage ≡ Idle → Allows (IsInTurn start) slots id me 1 (λ n. n) (has_counted (step slots 1 0 0 none) me)
 counts start slots id me idle s r wide at _ =
     let y : ℕ = slice_index s.words 1 in let found : y ≡ r.tickets = ap (λ (ws : List ℕ). slice_index ws 1) r.words in (
       counting me.0 y,
@@ -224,11 +224,11 @@ counts start slots id me idle s r wide at _ =
 
 -- ---- a turn is waited for
 
-of_drawn : (start : QueueHistory) (log : List Call) (t n k : ℕ) (v : View) (stage : Stage) → stage ≡ Drawn k → FitsStage start log t n v stage
+of_drawn : (start : Lying) (log : List Call) (t n k : ℕ) (v : View) (stage : Stage) → stage ≡ Drawn k → FitsStage start log t n v stage
     → Follows start log v × IsOwn log n v × (length log ≤ k) × (k < t)
 of_drawn start log t n k v stage is f = let g : FitsStage start log t n v (Drawn k) = subst (FitsStage start log t n v) is f in g
 
-of_turn : (start : QueueHistory) (log : List Call) (t n k : ℕ) (v : View) (stage : Stage) → stage ≡ Turn k → FitsStage start log t n v stage
+of_turn : (start : Lying) (log : List Call) (t n k : ℕ) (v : View) (stage : Stage) → stage ≡ Turn k → FitsStage start log t n v stage
     → Follows start log v × IsOwn log n v × (k ≡ length log) × (k < t) × (v.seen ≡ log)
 of_turn start log t n k v stage is f = let g : FitsStage start log t n v (Turn k) = subst (FitsStage start log t n v) is f in g
 
@@ -240,9 +240,10 @@ alone views id t v stage apart at has is ticket same j u other there holds = oth
 abbrev seeing : View → List Call → Stage → View
 seeing v log stage = record v { seen = log; stage = stage }
 
-has_seen : (start : QueueHistory) (log : List Call) (id : ℕ) (v : View) (stage : Stage) → Follows start log v → IsOwn log id v → IsLegalHistory start log → HasSeen v (seeing v log stage)
+has_seen : (start : Lying) (log : List Call) (id : ℕ) (v : View) (stage : Stage) → Follows start log v → IsOwn log id v → IsLegalHistory start.queue log → HasSeen v (seeing v log stage)
 has_seen start log id v stage fit own legal = record {
   start = refl;
+  place = refl;
   number = refl;
   begun = refl;
   mine = refl;
@@ -255,23 +256,22 @@ has_seen start log id v stage fit own legal = record {
   other = refl;
 }
 
-follows_whole : (start : QueueHistory) (log : List Call) (v : View) (stage : Stage) → Follows start log v → Follows start log (seeing v log stage)
-follows_whole start log v stage fit = record { opened = fit.opened; seen = goes_whole log; heard = fit.heard }
+follows_whole : (start : Lying) (log : List Call) (v : View) (stage : Stage) → Follows start log v → Follows start log (seeing v log stage)
+follows_whole start log v stage fit = record { opened = fit.opened; placed = fit.placed; seen = goes_whole log; heard = fit.heard }
 
-pub waits : (start : QueueHistory) (slots id t : ℕ) (me : Holder) → me.0.stage ≡ Drawn t → me.1 ≡ [] → Allows (IsInTurn start) slots id me 0 (λ n. n) (has_waited (step slots 0 0 0 none) me)
+pub waits : (start : Lying) (slots id t : ℕ) (me : Holder) → me.0.stage ≡ Drawn t → me.1 ≡ [] → Allows (IsInTurn start) slots id me 0 (λ n. n) (has_waited (step slots 0 0 0 none) me)
 waits start slots id t me drawn empty s r wide at _ =
     let v : View = me.0 in let y : ℕ = slice_index s.words 0 in let found : y ≡ length r.log = ap (λ (ws : List ℕ). slice_index ws 0) r.words in
     let own = of_drawn start r.log r.tickets id t v v.stage drawn (r.fits id v at) in let fit : Follows start r.log v = own.0 in let calls : IsOwn r.log id v = own.1 in
     let holds : ticket_of v.stage ≡ Some t = ap ticket_of drawn in
     let mine : drawn_ticket me ≡ t = ap (λ (z : Stage). unwrap_or (ticket_of z) 0) drawn in
-    let queue : QueueHistory = state_of start r.log in
     let words : set s.words 0 y ≡ length r.log ∷ r.tickets ∷ [] = ap (λ (ws : List ℕ). set ws 0 y) r.words ∙ ap (λ (z : ℕ). z ∷ r.tickets ∷ []) found in
     dite (ℕ_discrete y t)
     (λ hit. let w : View = seeing v r.log (Turn y) in
     let fits : Fits start r.log r.tickets id w = (follows_whole start r.log v (Turn y) fit, calls, found, (let g : y < r.tickets = omega (arith, hit, own.3) in g), refl) in
     let only : HoldsAlone s.views id (Turn y) = alone s.views id t v (Turn y) r.apart at holds (ap Some hit) in
     ⊎_elim
-    (λ (h : IsHome queue s.homes). let x : Lying = h.0 in (
+    (λ (h : IsHome start r.log s.homes). let x : Lying = h.0 in (
       w,
       takes 0 (Some x),
       ap (λ (hs : Homes). get_elem? hs 0) h.1,
@@ -280,7 +280,7 @@ waits start slots id t me drawn empty s r wide at _ =
       (
         has_seen start r.log id v (Turn y) fit calls r.legal,
         subst (λ b. MatchBool b (HasTurn (w, (0, Some x) ∷ me.1) y) ((w.stage ≡ v.stage) × ((0, Some x) ∷ me.1 ≡ []))) (sym (eq-eqb y (drawn_ticket me) (hit ∙ sym mine)))
-            (refl, sym found, (x, ap (λ (c : List (ℕ × Option Lying)). (0, Some x) ∷ c) empty, h.2 ∙ ap (λ (q : QueueHistory). state_of q r.log) (sym fit.opened))),
+            (refl, sym found, (x, ap (λ (c : List (ℕ × Option Lying)). (0, Some x) ∷ c) empty, h.2 ∙ ap (λ (q : QueueHistory). state_of q r.log) (sym fit.opened), h.3 ∙ sym fit.placed)),
       ),
     ))
     (λ (o : IsOut s.homes s.views).
@@ -296,7 +296,7 @@ waits start slots id t me drawn empty s r wide at _ =
       tt,
       stands start s r id r.tickets w (set s.words 0 y) s.homes words (le_refl r.tickets) r.within
           (subst (FitsStage start r.log r.tickets id w) (sym drawn) (follows_whole start r.log v v.stage fit, calls, own.2, own.3)) (r.counted id v at)
-          (alone s.views id t v v.stage r.apart at holds holds) (home_stays queue s.homes s.views id v w at (λ u. not_turn v.stage t u drawn) r.home) (still_held start s r id v w at refl),
+          (alone s.views id t v v.stage r.apart at holds holds) (home_stays start r.log s.homes s.views id v w at (λ u. not_turn v.stage t u drawn) r.home) (still_held start s r id v w at refl),
       (
         has_seen start r.log id v v.stage fit calls r.legal,
         subst (λ b. MatchBool b (HasTurn (w, me.1) y) ((w.stage ≡ v.stage) × (me.1 ≡ []))) (sym (ne_eqb y (drawn_ticket me) (λ e. miss (e ∙ mine)))) (refl, empty),
@@ -305,17 +305,17 @@ waits start slots id t me drawn empty s r wide at _ =
 
 -- ---- a turn ends
 
-pub ends : (start : QueueHistory) (slots id t : ℕ) (me : Holder) (x : Lying) (made : Made) → slots ≡ 1 → me.0.stage ≡ Turn t → me.1 ≡ (0, Some x) ∷ [] → x.made ≡ Some made
-    → x.queue ≡ after_call (state_of me.0.start me.0.seen) (call_of me.0.number made) → IsAnswered (state_of me.0.start me.0.seen) made.at made.command.value made.reply.value
+pub ends : (start : Lying) (slots id t : ℕ) (me : Holder) (x : Lying) (made : Made) → slots ≡ 1 → me.0.stage ≡ Turn t → me.1 ≡ (0, Some x) ∷ [] → x.made ≡ Some made
+    → x.queue ≡ after_call (state_of me.0.start me.0.seen) (call_of me.0.number made) → x.place ≡ me.0.place → IsAnswered (state_of me.0.start me.0.seen) made.at made.command.value made.reply.value
     → Allows (IsInTurn start) slots id me 0 (λ n. (n + 1) % 2 ^ 64) (has_ended (step slots 0 1 0 none) me)
-ends start slots id t me x made one turn carried last after answered s r wide at _ =
+ends start slots id t me x made one turn carried last after placed answered s r wide at _ =
     let v : View = me.0 in let y : ℕ = slice_index s.words 0 in let found : y ≡ length r.log = ap (λ (ws : List ℕ). slice_index ws 0) r.words in
     let own = of_turn start r.log r.tickets id t v v.stage turn (r.fits id v at) in let fit : Follows start r.log v = own.0 in
     let number : v.number ≡ id = own.1.0 in let calls : calls_by id r.log ≡ v.mine = own.1.1 in let whole : v.seen ≡ r.log = own.4 in
     let c : Call = call_of v.number made in let log : List Call = r.log ++ c ∷ [] in
     let holds : ticket_of v.stage ≡ Some t = ap ticket_of turn in
     let w : View = with_call v (Some made) in
-    let queue : state_of v.start v.seen ≡ state_of start r.log = ap (λ (q : QueueHistory). state_of q v.seen) fit.opened ∙ ap (λ (l : List Call). state_of start l) whole in
+    let queue : state_of v.start v.seen ≡ state_of start.queue r.log = ap (λ (q : QueueHistory). state_of q v.seen) fit.opened ∙ ap (λ (l : List Call). state_of start.queue l) whole in
     let here : id < length s.views = within s.views id v at in
     let longer : length log ≡ length r.log + 1 = length-append r.log (c ∷ []) in
     let drawn : length r.log < r.tickets = subst (λ (z : ℕ). z < r.tickets) own.2 own.3 in
@@ -330,13 +330,14 @@ ends start slots id t me x made one turn carried last after answered s r wide at
         all = (let views : held_tickets (set s.views id w) + tickets_of v.stage ≡ held_tickets s.views + 0 = held_set s.views id v w at in let one : tickets_of v.stage ≡ 1 = ap tickets_of turn in
             let all : length r.log + held_tickets s.views ≡ r.tickets = r.all in omega (arith, views, one, all, longer));
         within = r.within;
-        legal = legal_snoc start r.log c r.legal (subst (λ q. IsAnswered q made.at made.command.value made.reply.value) queue answered);
-        home = inl (x, ap (λ (carry : List (ℕ × Option Lying)). put_back s.homes carry) carried ∙ one_slot s.homes (some (Some x)) (wide ∙ one), after ∙ ap (λ (q : QueueHistory). after_call q c) queue ∙ sym (state_snoc start r.log c));
+        legal = legal_snoc start.queue r.log c r.legal (subst (λ q. IsAnswered q made.at made.command.value made.reply.value) queue answered);
+        home = inl (x, ap (λ (carry : List (ℕ × Option Lying)). put_back s.homes carry) carried ∙ one_slot s.homes (some (Some x)) (wide ∙ one), after ∙ ap (λ (q : QueueHistory). after_call q c) queue ∙ sym (state_snoc start.queue r.log c), placed ∙ fit.placed);
         fits = λ k u there.
             ⊎_elim
             (λ (z : (k ≡ id) × (w ≡ u)). subst (λ (n : View). Fits start log r.tickets k n) z.1 (subst (λ (n : ℕ). Fits start log r.tickets n w) (sym z.0) (
               record {
                 opened = fit.opened;
+                placed = fit.placed;
                 seen = ([], ap (λ (l : List Call). l ++ c ∷ []) (sym whole) ∙ sym (append-nil (v.seen ++ c ∷ [])));
                 heard = goes_on v.heard r.log c fit.heard;
               },
@@ -354,11 +355,11 @@ ends start slots id t me x made one turn carried last after answered s r wide at
 
 -- ---- a desk is made
 
-only_first : (start : QueueHistory) (n : ℕ) (v : View) → get_elem? (first_view start ∷ []) n ≡ some v → (n ≡ 0) × (first_view start ≡ v)
+only_first : (start : Lying) (n : ℕ) (v : View) → get_elem? (first_view start ∷ []) n ≡ some v → (n ≡ 0) × (first_view start ≡ v)
 only_first start zero v at = (refl, some-injective (first_view start) v at)
 only_first start (suc n) v at = absurd (some-ne-none v (sym at))
 
-pub opens : (start : QueueHistory) (x : Lying) → x.queue ≡ start → IsInTurn start (opening (0 ∷ 0 ∷ []) (Some x ∷ []) (first_view start))
+pub opens : (start x : Lying) → x ≡ start → IsInTurn start (opening (0 ∷ 0 ∷ []) (Some x ∷ []) (first_view start))
 opens start x is = record {
   log = [];
   tickets = 0;
@@ -366,9 +367,9 @@ opens start x is = record {
   all = refl;
   within = zero-le;
   legal = tt;
-  home = inl (x, refl, is);
+  home = inl (x, refl, ap (λ (l : Lying). l.queue) is, ap (λ (l : Lying). l.place) is);
   fits = λ n v at. let f = only_first start n v at in subst (λ (z : View). Fits start [] 0 n z) f.1
-      (record { opened = refl; seen = ([], refl); heard = ([], refl) }, (sym f.0, refl, (λ e. suc-ne-zero 0 (e ∙ f.0))));
+      (record { opened = refl; placed = refl; seen = ([], refl); heard = ([], refl) }, (sym f.0, refl, (λ e. suc-ne-zero 0 (e ∙ f.0))));
   counted = λ n v at. subst (λ (z : View). z.begun ≤ 0) (only_first start n v at).1 zero-le;
   apart = λ j k t v w a b. (λ _ _. (only_first start j v a).0 ∙ sym (only_first start k w b).0);
   unborn = λ k le. refl;
@@ -377,7 +378,7 @@ opens start x is = record {
 -- ---- passes that are cut off, joined and told
 
 -- a look: the history so far is seen, and the turns that have ended are its calls
-pub looks : (start : QueueHistory) (slots id : ℕ) (me : Holder) → me.0.stage ≡ Idle → Allows (IsInTurn start) slots id me 0 (λ n. n) (has_looked (step slots 0 0 0 none) me)
+pub looks : (start : Lying) (slots id : ℕ) (me : Holder) → me.0.stage ≡ Idle → Allows (IsInTurn start) slots id me 0 (λ n. n) (has_looked (step slots 0 0 0 none) me)
 looks start slots id me idle s r wide at _ =
     let v : View = me.0 in let y : ℕ = slice_index s.words 0 in let found : y ≡ length r.log = ap (λ (ws : List ℕ). slice_index ws 0) r.words in
     let own = of_idle start r.log r.tickets id v v.stage idle (r.fits id v at) in let w : View = seeing v r.log v.stage in
@@ -387,18 +388,18 @@ looks start slots id me idle s r wide at _ =
       tt,
       stands start s r id r.tickets w (set s.words 0 y) s.homes words (le_refl r.tickets) r.within
           (subst (FitsStage start r.log r.tickets id w) (sym idle) (follows_whole start r.log v v.stage own.0, own.1)) (r.counted id v at) (λ ticket is. absurd (idle_holds_none v.stage ticket idle is))
-          (home_stays (state_of start r.log) s.homes s.views id v w at (idle_is_not_turn v idle) r.home) (still_held start s r id v w at refl),
+          (home_stays start r.log s.homes s.views id v w at (idle_is_not_turn v idle) r.home) (still_held start s r id v w at refl),
       (has_seen start r.log id v v.stage own.0 own.1 r.legal, found, refl, refl),
     )
 
-of_fresh : (start : QueueHistory) (log : List Call) (t n : ℕ) (v : View) (stage : Stage) → stage ≡ Fresh → FitsStage start log t n v stage → Follows start log v × (calls_by n log ≡ []) × (v.mine ≡ []) × (v.other < n)
+of_fresh : (start : Lying) (log : List Call) (t n : ℕ) (v : View) (stage : Stage) → stage ≡ Fresh → FitsStage start log t n v stage → Follows start log v × (calls_by n log ≡ []) × (v.mine ≡ []) × (v.other < n)
 of_fresh start log t n v stage is f = let g : FitsStage start log t n v Fresh = subst (FitsStage start log t n v) is f in g
 
 fresh_is_not_turn : (v : View) → v.stage ≡ Fresh → (t : ℕ) → v.stage ≢ Turn t
 fresh_is_not_turn v fresh t turn = suc-ne-zero 0 (ap turn_code (sym turn ∙ fresh))
 
 -- a pass that was cut off gets the number of its seat
-pub enters : (start : QueueHistory) (slots id : ℕ) (me : Holder) → me.0.stage ≡ Fresh → Allows (IsInTurn start) slots id me 0 (λ n. n) (has_entered (step slots 0 0 0 none) me)
+pub enters : (start : Lying) (slots id : ℕ) (me : Holder) → me.0.stage ≡ Fresh → Allows (IsInTurn start) slots id me 0 (λ n. n) (has_entered (step slots 0 0 0 none) me)
 enters start slots id me fresh s r wide at _ =
     let v : View = me.0 in let y : ℕ = slice_index s.words 0 in let found : y ≡ length r.log = ap (λ (ws : List ℕ). slice_index ws 0) r.words in
     let own = of_fresh start r.log r.tickets id v v.stage fresh (r.fits id v at) in let fit : Follows start r.log v = own.0 in
@@ -408,11 +409,12 @@ enters start slots id me fresh s r wide at _ =
       keeps,
       tt,
       stands start s r id r.tickets w (set s.words 0 y) s.homes words (le_refl r.tickets) r.within
-          (record { opened = fit.opened; seen = goes_whole r.log; heard = fit.heard }, (refl, own.1 ∙ sym own.2, (λ e. let below : v.other < id = own.3 in absurd (omega (arith, e))))) (r.counted id v at) (λ ticket is. absurd cc)
-          (home_stays (state_of start r.log) s.homes s.views id v w at (fresh_is_not_turn v fresh) r.home) (still_held start s r id v w at (ap tickets_of fresh)),
+          (record { opened = fit.opened; placed = fit.placed; seen = goes_whole r.log; heard = fit.heard }, (refl, own.1 ∙ sym own.2, (λ e. let below : v.other < id = own.3 in absurd (omega (arith, e))))) (r.counted id v at) (λ ticket is. absurd cc)
+          (home_stays start r.log s.homes s.views id v w at (fresh_is_not_turn v fresh) r.home) (still_held start s r id v w at (ap tickets_of fresh)),
       (
         record {
           start = refl;
+          place = refl;
           mine = own.2;
           seen = fit.seen;
           legal = subst (λ q. IsLegalHistory q r.log) (sym fit.opened) r.legal;
@@ -431,9 +433,9 @@ apart_more views w apart holds j k t a b at bt h g =
     (λ (x : get_elem? views j ≡ some a). ⊎_elim (λ (y : get_elem? views k ≡ some b). apart j k t a b x y h g) (λ (y : w ≡ b). absurd (holds t (ap (λ (z : View). ticket_of z.stage) y ∙ g))) (at_snoc views w b k bt))
     (λ (x : w ≡ a). absurd (holds t (ap (λ (z : View). ticket_of z.stage) x ∙ h))) (at_snoc views w a j at)
 
-out_more : (queue : QueueHistory) (homes : Homes) (views : List View) (w : View) → IsHome queue homes ⊎ IsOut homes views → IsHome queue homes ⊎ IsOut homes (views ++ w ∷ [])
-out_more queue homes views w (inl h) = inl h
-out_more queue homes views w (inr o) = inr (o.0, (o.1.0, o.1.1, o.1.2, at_longer views (w ∷ []) o.1.0 o.1.2 o.1.3, o.1.4))
+out_more : (start : Lying) (log : List Call) (homes : Homes) (views : List View) (w : View) → IsHome start log homes ⊎ IsOut homes views → IsHome start log homes ⊎ IsOut homes (views ++ w ∷ [])
+out_more start log homes views w (inl h) = inl h
+out_more start log homes views w (inr o) = inr (o.0, (o.1.0, o.1.1, o.1.2, at_longer views (w ∷ []) o.1.0 o.1.2 o.1.3, o.1.4))
 
 -- the last seat of a longer list
 at_end : (views : List View) (w u : View) (k : ℕ) → get_elem? (views ++ w ∷ []) k ≡ some u → (get_elem? views k ≡ some u) ⊎ ((k ≡ length views) × (w ≡ u))
@@ -443,7 +445,7 @@ at_end (x ∷ xs) w u zero at = inl at
 at_end (x ∷ xs) w u (suc k) at = ⊎_elim (λ e. inl e) (λ (e : (k ≡ length xs) × (w ≡ u)). inr ((let same : k ≡ length xs = e.0 in omega arith), e.1)) (at_end xs w u k at)
 
 -- a pass is cut off from another, which stays as it is
-pub splits : (start : QueueHistory) (id : ℕ) (v : View) → v.stage ≡ Idle → Splits (IsInTurn start) id v v (cut_off v)
+pub splits : (start : Lying) (id : ℕ) (v : View) → v.stage ≡ Idle → Splits (IsInTurn start) id v v (cut_off v)
 splits start id v idle s r at =
     let own = of_idle start r.log r.tickets id v v.stage idle (r.fits id v at) in let fit : Follows start r.log v = own.0 in
     let same : set s.views id v ≡ s.views = set_again s.views id v at in let w : View = cut_off v in
@@ -456,11 +458,11 @@ splits start id v idle s r at =
       all = (let views : held_tickets (s.views ++ w ∷ []) ≡ held_tickets s.views + 0 = held_snoc s.views w in let all : length r.log + held_tickets s.views ≡ r.tickets = r.all in omega (arith, views, all));
       within = r.within;
       legal = r.legal;
-      home = out_more (state_of start r.log) s.homes s.views w r.home;
+      home = out_more start r.log s.homes s.views w r.home;
       fits = λ k u there. ⊎_elim (λ (e : get_elem? s.views k ≡ some u). r.fits k u e)
           (λ (e : (k ≡ length s.views) × (w ≡ u)). subst (λ (z : View). Fits start r.log r.tickets k z) e.1
           (let last : k ≡ length s.views = e.0 in
-          (record { opened = fit.opened; seen = fit.seen; heard = (r.log, refl) }, r.unborn k (omega (arith, last)), refl, (let g : v.number < k = omega (arith, last, number, here) in g)))) (at_end s.views w u k there);
+          (record { opened = fit.opened; placed = fit.placed; seen = fit.seen; heard = (r.log, refl) }, r.unborn k (omega (arith, last)), refl, (let g : v.number < k = omega (arith, last, number, here) in g)))) (at_end s.views w u k there);
       counted = λ k u there. ⊎_elim (λ (e : get_elem? s.views k ≡ some u). r.counted k u e) (λ (e : (k ≡ length s.views) × (w ≡ u)). subst (λ (x : View). x.begun ≤ r.tickets) e.1 (r.counted id v at)) (at_end s.views w u k there);
       apart = apart_more s.views w r.apart (λ t is. absurd cc);
       unborn = λ k le. r.unborn k (let longer : length (s.views ++ w ∷ []) ≡ length s.views + 1 = length-append s.views (w ∷ []) in let le' : length (s.views ++ w ∷ []) ≤ k = le in omega arith);
@@ -469,17 +471,17 @@ splits start id v idle s r at =
 -- ---- two passes become one
 
 -- a seat is given up
-gives_up : (start : QueueHistory) (s : Desk) (r : IsInTurn start s) (id : ℕ) (v : View) → get_elem? s.views id ≡ some v → ((t : ℕ) → v.stage ≢ Turn t) → tickets_of v.stage ≡ 0
+gives_up : (start : Lying) (s : Desk) (r : IsInTurn start s) (id : ℕ) (v : View) → get_elem? s.views id ≡ some v → ((t : ℕ) → v.stage ≢ Turn t) → tickets_of v.stage ≡ 0
     → IsInTurn start (record { words = s.words; homes = s.homes; views = set s.views id ended_view })
 gives_up start s r id v at idle empty =
     stands start s r id r.tickets ended_view s.words s.homes r.words (le_refl r.tickets) r.within tt zero-le (λ ticket is. absurd cc)
-    (home_stays (state_of start r.log) s.homes s.views id v ended_view at idle r.home) (still_held start s r id v ended_view at empty)
+    (home_stays start r.log s.homes s.views id v ended_view at idle r.home) (still_held start s r id v ended_view at empty)
 
 -- what another pass has seen is heard, and a number kept that is not the pass's own
 abbrev joined : View → View → ℕ → View
 joined v w n = record v { heard = w.seen; other = n }
 
-joins_with : (start : QueueHistory) (id other n : ℕ) (v w : View) → v.stage ≡ Idle → (w.stage ≡ Idle) ⊎ (w.stage ≡ Fresh)
+joins_with : (start : Lying) (id other n : ℕ) (v w : View) → v.stage ≡ Idle → (w.stage ≡ Idle) ⊎ (w.stage ≡ Fresh)
     → ((log : List Call) → id ≢ other → IsOwn log id v → ((w.stage ≡ Idle) → IsOwn log other w) → n ≢ id) → Joins (IsInTurn start) id v other w (joined v w n) ended_view
 joins_with start id other n v w idle rests foreign s r at apart there =
     let own = of_idle start r.log r.tickets id v v.stage idle (r.fits id v at) in let fit : Follows start r.log v = own.0 in
@@ -489,15 +491,15 @@ joins_with start id other n v w idle rests foreign s r at apart there =
     (λ (e : w.stage ≡ Fresh). (of_fresh start r.log r.tickets other w w.stage e (r.fits other w from)).0) rests in
     let number : n ≢ id = foreign r.log (λ e. apart (sym e)) own.1 (λ e. (of_idle start r.log r.tickets other w w.stage e (r.fits other w from)).1) in
     let first = stands start s r id r.tickets both s.words s.homes r.words (le_refl r.tickets) r.within
-    (subst (FitsStage start r.log r.tickets id both) (sym idle) (record { opened = fit.opened; seen = fit.seen; heard = theirs.seen }, (own.1.0, own.1.1, number))) (r.counted id v at)
-    (λ ticket is. absurd (idle_holds_none v.stage ticket idle is)) (home_stays (state_of start r.log) s.homes s.views id v both at (idle_is_not_turn v idle) r.home) (still_held start s r id v both at refl) in
+    (subst (FitsStage start r.log r.tickets id both) (sym idle) (record { opened = fit.opened; placed = fit.placed; seen = fit.seen; heard = theirs.seen }, (own.1.0, own.1.1, number))) (r.counted id v at)
+    (λ ticket is. absurd (idle_holds_none v.stage ticket idle is)) (home_stays start r.log s.homes s.views id v both at (idle_is_not_turn v idle) r.home) (still_held start s r id v both at refl) in
     gives_up start (record { words = s.words; homes = s.homes; views = set s.views id both }) first other w there
     (⊎_elim (λ (e : w.stage ≡ Idle). idle_is_not_turn w e) (λ (e : w.stage ≡ Fresh). fresh_is_not_turn w e) rests) (⊎_elim (λ (e : w.stage ≡ Idle). ap tickets_of e) (λ (e : w.stage ≡ Fresh). ap tickets_of e) rests)
 
 -- a note is met
-pub hears : (start : QueueHistory) (id other : ℕ) (v w : View) → v.stage ≡ Idle → w.stage ≡ Fresh → Joins (IsInTurn start) id v other w (hearing v w) ended_view
+pub hears : (start : Lying) (id other : ℕ) (v w : View) → v.stage ≡ Idle → w.stage ≡ Fresh → Joins (IsInTurn start) id v other w (hearing v w) ended_view
 hears start id other v w idle fresh = joins_with start id other v.other v w idle (inr fresh) (λ log apart own theirs. own.2)
 
 -- another pass ends
-pub absorbs : (start : QueueHistory) (id other : ℕ) (v w : View) → v.stage ≡ Idle → w.stage ≡ Idle → Joins (IsInTurn start) id v other w (absorbing v w) ended_view
+pub absorbs : (start : Lying) (id other : ℕ) (v w : View) → v.stage ≡ Idle → w.stage ≡ Idle → Joins (IsInTurn start) id v other w (absorbing v w) ended_view
 absorbs start id other v w idle rests = joins_with start id other w.number v w idle (inl rests) (λ log apart own theirs. (λ e. apart (sym e ∙ (theirs rests).0)))

@@ -1,5 +1,5 @@
 -- What a pass knows after a call, and what a last turn gives.
-use Rattle.std.proofs.Common.{◌≡◌, ℕ, Result, refl, sym, ap, ◌∙◌, subst}
+use Rattle.std.proofs.Common.{◌≡◌, ℕ, Option, Some, None, Result, refl, sym, ap, ◌∙◌, subst}
 use Rattle.message.specs.declared.fault.Fault.{Fault}
 use Rattle.atomic_table.specs.Seated.{TableId}
 use Rattle.queue_core.specs.declared.command.Command.{Command}
@@ -35,6 +35,11 @@ known_behind desk before v at command reply x queue seen is answered behind =
         own = own_call v.number v.seen v.mine c refl (ap (λ (n : ℕ). calls_by n v.seen) seen.number ∙ seen.own ∙ sym seen.mine);
       },
     )
+
+-- the place of a desk's press stays
+pub same_place : (v : View) (made : Option Made) → (with_call v made).place ≡ v.place
+same_place v None = refl
+same_place v (Some made) = refl
 
 -- the queue behind a call is what the history leaves, the call with it
 pub left_behind : (v : View) (at : ℕ) (command : Command) (reply : Result Reply Fault) (x : Lying) (queue : QueueHistory) → queue ≡ state_of v.start v.seen → IsBehind queue at command reply x

@@ -1,4 +1,5 @@
 -- A desk may be shared by threads or go to another, and so may a pass. Each type by the types of its fields, so that no search goes through all of them.
+use denote.RattleType.{RattleType}
 use denote.Param.Send.{IsSend, IsSync, AllSend, struct_send, recorded_send, view_send, sendable}
 use denote.Struct.Declared.{fields, shape}
 use denote.Struct.Struct.{Struct}
@@ -29,6 +30,7 @@ use Rattle.queue_core.specs.contracts.accepted.Accepted as accepted
 use Rattle.queue_core.specs.contracts.watch.Watch as watch
 use Rattle.queue_core.specs.contracts.state.QueueState as queue
 use Rattle.queue_core.specs.contracts.state.QueueState.TheInside as inside
+use Rattle.desk.specs.declared.printing.Press.{Ghosts}
 use Rattle.desk.specs.contracts.made.Made as made
 use Rattle.desk.specs.contracts.held.Held as held
 use Rattle.desk.specs.contracts.desk.Desk as desk
@@ -101,14 +103,27 @@ inside_send =
 queue_send : IsSend queue.the_row
 queue_send = view_send _ _ _ _ _ inside_send
 
-held_send : IsSend (held.the_row nopress.the_row (unit-field).row impl.ghosts)
-held_send = search (queue_send, ticks_send, made_send, sendable, crosses) depth 40 fits 100000
+-- with any press that may go to another thread
+held_sends : (P T : RattleType) (g : Ghosts P.Denot T.Denot) → IsSend P → IsSend (held.the_row P T g)
+held_sends P T g sent = search (queue_send, ticks_send, made_send, sendable, crosses) depth 40 fits 100000
+
+pub pass_sends : (P T : RattleType) (g : Ghosts P.Denot T.Denot) → IsSend P → IsSend (pass.the_row P T g)
+pass_sends P T g sent = let held : IsSend (held.the_row P T g) = held_sends P T g sent in search (seat.the_send, sendable, crosses) depth 40 fits 100000
+
+pub desk_syncs : (P T : RattleType) (g : Ghosts P.Denot T.Denot) → IsSend P → IsSync (desk.the_row P T g)
+desk_syncs P T g sent = let held : IsSend (held.the_row P T g) = held_sends P T g sent in search (shared.the_sync, lease.the_sync, sendable, crosses) depth 40 fits 100000
+
+pub desk_sends : (P T : RattleType) (g : Ghosts P.Denot T.Denot) → IsSend P → IsSend (desk.the_row P T g)
+desk_sends P T g sent = let held : IsSend (held.the_row P T g) = held_sends P T g sent in search (shared.the_send, lease.the_send, sendable, crosses) depth 40 fits 100000
+
+nopress_send : IsSend nopress.the_row
+nopress_send = search sendable
 
 pub pass_send : IsSend (pass.the_row nopress.the_row (unit-field).row impl.ghosts)
-pass_send = search (held_send, seat.the_send, sendable, crosses) depth 40 fits 100000
+pass_send = pass_sends nopress.the_row (unit-field).row impl.ghosts nopress_send
 
 pub desk_sync : IsSync (desk.the_row nopress.the_row (unit-field).row impl.ghosts)
-desk_sync = search (held_send, shared.the_sync, lease.the_sync, sendable, crosses) depth 40 fits 100000
+desk_sync = desk_syncs nopress.the_row (unit-field).row impl.ghosts nopress_send
 
 pub desk_send : IsSend (desk.the_row nopress.the_row (unit-field).row impl.ghosts)
-desk_send = search (held_send, shared.the_send, lease.the_send, sendable, crosses) depth 40 fits 100000
+desk_send = desk_sends nopress.the_row (unit-field).row impl.ghosts nopress_send

@@ -1,18 +1,19 @@
 -- What lies on the desk, as the rule sees it.
-use Rattle.std.specs.Prelude.{◌≡◌, ℕ, Option, Some, None, Result}
+use Rattle.std.specs.Prelude.{◌≡◌, ℕ, List, Option, Some, None, Result}
 use Rattle.message.specs.declared.fault.Fault.{Fault}
 use Rattle.queue_core.specs.declared.command.Command.{Command}
 use Rattle.queue_core.specs.declared.reply.Reply.{Reply}
 use Rattle.queue_core.specs.Queue.{QueueHistory, after_answer}
 use Rattle.desk.specs.declared.made.Made.{Made}
 
--- the queue, and the call that was made to it last, in this turn or in an earlier one
+-- the queue, the call that was made to it last, in this turn or in an earlier one, and the place of the press
 pub record Lying : Type 0 where
   pub queue : QueueHistory
   pub made : Option Made
+  pub place : List ℕ
 
-abbrev pub untouched : QueueHistory → Lying
-untouched queue = record { queue = queue; made = None }
+abbrev pub untouched : QueueHistory → List ℕ → Lying
+untouched queue place = record { queue = queue; made = None; place = place }
 
 -- the queue behind a call
 pub record IsBehind (queue : QueueHistory) (at : ℕ) (command : Command) (reply : Result Reply Fault) (x : Lying) : Type 0 where

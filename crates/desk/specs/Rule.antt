@@ -5,7 +5,6 @@ use mathlib.Core.Option.{some, none}
 use mathlib.Core.Option as maybe
 use lib.ListN.{get_elem?}
 use Rattle.atomic_table.specs.Table.{State}
-use Rattle.queue_core.specs.Queue.{QueueHistory}
 use Rattle.desk.specs.declared.view.Call.{Call}
 use Rattle.desk.specs.declared.view.View.{View}
 use Rattle.desk.specs.declared.view.Stage.{Stage}
@@ -31,9 +30,10 @@ abbrev pub held_tickets : List View → ℕ
 held_tickets [] = 0
 held_tickets (v ∷ vs) = tickets_of v.stage + held_tickets vs
 
--- what a pass knows is true: the queue that the desk was made with, and what was seen and heard of the history
-pub record Follows (start : QueueHistory) (log : List Call) (v : View) : Type 0 where
-  pub opened : v.start ≡ start
+-- what a pass knows is true: the queue and the place that the desk was made with, and what was seen and heard of the history
+pub record Follows (start : Lying) (log : List Call) (v : View) : Type 0 where
+  pub opened : v.start ≡ start.queue
+  pub placed : v.place ≡ start.place
   pub seen : GoesOnFrom v.seen log
   pub heard : GoesOnFrom v.heard log
 
@@ -42,17 +42,17 @@ abbrev pub IsOwn : List Call → ℕ → View → Type 0
 IsOwn log number v = (v.number ≡ number) × (calls_by number log ≡ v.mine) × (v.other ≢ number)
 
 -- What a stage says of the pass in a seat, where the history and the number of tickets are these. A ticket was drawn, and its turn has not ended; at its turn the pass has seen the whole history. A pass that has ended says nothing
-abbrev pub FitsStage : QueueHistory → List Call → ℕ → ℕ → View → Stage → Type 0
+abbrev pub FitsStage : Lying → List Call → ℕ → ℕ → View → Stage → Type 0
 FitsStage start log tickets seat v Fresh = Follows start log v × (calls_by seat log ≡ []) × (v.mine ≡ []) × (v.other < seat)
 FitsStage start log tickets seat v Idle = Follows start log v × IsOwn log seat v
 FitsStage start log tickets seat v (Drawn ticket) = Follows start log v × IsOwn log seat v × (length log ≤ ticket) × (ticket < tickets)
 FitsStage start log tickets seat v (Turn ticket) = Follows start log v × IsOwn log seat v × (ticket ≡ length log) × (ticket < tickets) × (v.seen ≡ log)
 FitsStage start log tickets seat v Ended = Unit {0}
 
-abbrev pub Fits : QueueHistory → List Call → ℕ → ℕ → View → Type 0
+abbrev pub Fits : Lying → List Call → ℕ → ℕ → View → Type 0
 Fits start log tickets seat v = FitsStage start log tickets seat v v.stage
 
-abbrev pub EachFits : QueueHistory → List Call → ℕ → List View → Type 0
+abbrev pub EachFits : Lying → List Call → ℕ → List View → Type 0
 EachFits start log tickets views = (seat : ℕ) (v : View) → get_elem? views seat ≡ some v → Fits start log tickets seat v
 
 -- no two passes hold one ticket
@@ -65,9 +65,9 @@ AreApart views =
 abbrev pub HaveNoCalls : List Call → ℕ → Type 0
 HaveNoCalls log passes = (number : ℕ) → passes ≤ number → calls_by number log ≡ []
 
--- the queue lies on the desk
-abbrev pub IsHome : QueueHistory → List (maybe.Option (Option Lying)) → Type 0
-IsHome queue homes = (x : Lying) × (homes ≡ some (Some x) ∷ []) × (x.queue ≡ queue)
+-- the queue that the history leaves lies on the desk, and the press is at its place
+abbrev pub IsHome : Lying → List Call → List (maybe.Option (Option Lying)) → Type 0
+IsHome start log homes = (x : Lying) × (homes ≡ some (Some x) ∷ []) × (x.queue ≡ state_of start.queue log) × (x.place ≡ start.place)
 
 -- a pass has the queue, at its turn
 abbrev pub IsOut : List (maybe.Option (Option Lying)) → List View → Type 0
@@ -77,15 +77,15 @@ IsOut homes views = (homes ≡ none ∷ []) × ((number ticket : ℕ) × (v : Vi
 abbrev pub EachCounted : ℕ → List View → Type 0
 EachCounted tickets views = (seat : ℕ) (v : View) → get_elem? views seat ≡ some v → v.begun ≤ tickets
 
--- There is one legal history. As many turns have ended as it has calls, and the queue is what it leaves. Each ticket that was drawn is held, or its turn has ended
-pub record IsInTurn (start : QueueHistory) (s : State (Option Lying) View) : Type 0 where
+-- A desk was made with what lay on it at first. There is one legal history. As many turns have ended as it has calls, and the queue is what it leaves. Each ticket that was drawn is held, or its turn has ended
+pub record IsInTurn (start : Lying) (s : State (Option Lying) View) : Type 0 where
   pub log : List Call
   pub tickets : ℕ
   pub words : s.words ≡ length log ∷ tickets ∷ []
   pub all : length log + held_tickets s.views ≡ tickets
   pub within : tickets ≤ most_tickets
-  pub legal : IsLegalHistory start log
-  pub home : IsHome (state_of start log) s.homes ⊎ IsOut s.homes s.views
+  pub legal : IsLegalHistory start.queue log
+  pub home : IsHome start log s.homes ⊎ IsOut s.homes s.views
   pub fits : EachFits start log tickets s.views
   pub counted : EachCounted tickets s.views
   pub apart : AreApart s.views

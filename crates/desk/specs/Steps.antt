@@ -34,6 +34,7 @@ has_drawn s before found after =
 -- the history so far was seen: it is legal, it goes on from what was seen before, and its calls of the pass's number are its own
 pub record HasSeen (before after : View) : Type 0 where
   pub start : after.start ≡ before.start
+  pub place : after.place ≡ before.place
   pub number : after.number ≡ before.number
   pub begun : after.begun ≡ before.begun
   pub mine : after.mine ≡ before.mine
@@ -48,6 +49,7 @@ pub record HasSeen (before after : View) : Type 0 where
 -- while a pass waits for its turn it sees more and more of the history, and nothing else changes
 pub record StillWaits (before after : Holder) (ticket : ℕ) : Type 0 where
   pub start : after.0.start ≡ before.0.start
+  pub place : after.0.place ≡ before.0.place
   pub number : after.0.number ≡ before.0.number
   pub other : after.0.other ≡ before.0.other
   pub begun : after.0.begun ≡ before.0.begun
@@ -57,10 +59,10 @@ pub record StillWaits (before after : Holder) (ticket : ℕ) : Type 0 where
   pub stage : after.0.stage ≡ Drawn ticket
   pub empty : after.1 ≡ []
 
--- the queue that the history leaves is the pass's until its turn ends
+-- the queue that the history leaves is the pass's until its turn ends, and the press with it
 abbrev pub HasTurn : Holder → ℕ → Type 0
 HasTurn after ticket =
-    (after.0.stage ≡ Turn ticket) × (length after.0.seen ≡ ticket) × ((x : Lying) × (after.1 ≡ (0, Some x) ∷ []) × (x.queue ≡ state_of after.0.start after.0.seen))
+    (after.0.stage ≡ Turn ticket) × (length after.0.seen ≡ ticket) × ((x : Lying) × (after.1 ≡ (0, Some x) ∷ []) × (x.queue ≡ state_of after.0.start after.0.seen) × (x.place ≡ after.0.place))
 
 abbrev pub drawn_ticket : Holder → ℕ
 drawn_ticket holder = unwrap_or (ticket_of holder.0.stage) 0
@@ -88,11 +90,12 @@ with_call v (Some made) = record v { seen = v.seen ++ call_of v.number made ∷ 
 abbrev pub has_ended : Step (Option Lying) → Holder → ℕ → Holder → Type 0
 has_ended s before found after = after ≡ (with_call before.0 (made_in before.1), [])
 
--- what lies in a pass's hand is the queue that it found, behind the call that was made to it
+-- what lies in a pass's hand is the queue that it found, behind the call that was made to it, with the press where it was
 pub record HasPerformed (v : View) (x : Lying) : Type 0 where
   pub made : Made
   pub last : x.made ≡ Some made
   pub queue : x.queue ≡ after_call (state_of v.start v.seen) (call_of v.number made)
+  pub place : x.place ≡ v.place
   pub answered : IsAnswered (state_of v.start v.seen) made.at made.command.value made.reply.value
 
 -- the turns that have ended were counted: they are the calls of the history
@@ -103,6 +106,7 @@ has_looked s before found after =
 -- a pass that was cut off has its number: it is another than that of the pass which it was cut off from, and there are no calls of it
 pub record HasEntered (before after : View) : Type 0 where
   pub start : after.start ≡ before.start
+  pub place : after.place ≡ before.place
   pub mine : after.mine ≡ []
   pub seen : GoesOnFrom before.seen after.seen
   pub legal : IsLegalHistory before.start after.seen

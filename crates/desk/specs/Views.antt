@@ -10,15 +10,17 @@ use Rattle.desk.specs.declared.view.Call.{Call}
 use Rattle.desk.specs.declared.view.View.{View}
 use Rattle.desk.specs.declared.view.Stage.TheVariants.{Fresh, Idle, Ended}
 use Rattle.desk.specs.History.{IsLegalHistory, calls_by, call, GoesOnFrom, state_of}
+use Rattle.desk.specs.Held.{Lying}
 
 -- how many calls may be begun at one desk (this project's own)
 abbrev pub most_tickets : ℕ
 most_tickets = 2 ^ 62
 
--- the desk that a pass is of, the queue that the desk was made with, the pass's number, how many tickets it knows to be drawn there, the history that the pass has seen, and its own calls in it
+-- the desk that a pass is of, the queue that the desk was made with, the place of its press, the pass's number, how many tickets it knows to be drawn there, the history that the pass has seen, and its own calls in it
 pub record Knowledge : Type 0 where
   pub desk : TableId
   pub start : QueueHistory
+  pub place : List ℕ
   pub number : ℕ
   pub begun : ℕ
   pub seen : List Call
@@ -30,17 +32,18 @@ pub record IsKnown (k : Knowledge) : Type 0 where
   pub own : calls_by k.number k.seen ≡ k.mine
 
 -- the pass of a new desk
-abbrev pub first_knowledge : TableId → QueueHistory → Knowledge
-first_knowledge desk start = record { desk = desk; start = start; number = 0; begun = 0; seen = []; mine = [] }
+abbrev pub first_knowledge : TableId → QueueHistory → List ℕ → Knowledge
+first_knowledge desk start place = record { desk = desk; start = start; place = place; number = 0; begun = 0; seen = []; mine = [] }
 
 abbrev pub knowledge_of : TableId → View → Knowledge
-knowledge_of desk v = record { desk = desk; start = v.start; number = v.number; begun = v.begun; seen = v.seen; mine = v.mine }
+knowledge_of desk v = record { desk = desk; start = v.start; place = v.place; number = v.number; begun = v.begun; seen = v.seen; mine = v.mine }
 
 -- A call was made: behind all that the pass had seen, and behind what others had done meanwhile, the history ends with it, under the pass's number, and it is the last of the pass's own calls.
 -- A ticket was left for it, and no fewer were drawn than the pass knew before
 pub record HasCalled (before : Knowledge) (at : ℕ) (command : Command) (reply : Result Reply Fault) (after : Knowledge) : Type 0 where
   pub same_desk : after.desk ≡ before.desk
   pub same_start : after.start ≡ before.start
+  pub same_place : after.place ≡ before.place
   pub same_number : after.number ≡ before.number
   pub counted : before.begun ≤ after.begun
   pub room : after.begun < most_tickets
@@ -52,13 +55,13 @@ pub record HasCalled (before : Knowledge) (at : ℕ) (command : Command) (reply 
 abbrev no_queue : QueueHistory
 no_queue = record { uid = 0; name = []; limits = default_limits; rules = []; clock = 0; lines = [] }
 
--- the view of the desk's first pass
-abbrev pub first_view : QueueHistory → View
-first_view start = record { start = start; number = 0; other = 1; begun = 0; seen = []; heard = []; mine = []; stage = Idle }
+-- the view of the first pass of a desk that was made with this
+abbrev pub first_view : Lying → View
+first_view made_with = record { start = made_with.queue; place = made_with.place; number = 0; other = 1; begun = 0; seen = []; heard = []; mine = []; stage = Idle }
 
 -- the view of a pass that was joined with another
 abbrev pub ended_view : View
-ended_view = record { start = no_queue; number = 0; other = 0; begun = 0; seen = []; heard = []; mine = []; stage = Ended }
+ended_view = record { start = no_queue; place = []; number = 0; other = 0; begun = 0; seen = []; heard = []; mine = []; stage = Ended }
 
 -- a pass that is cut off from another has seen as much, and has made no calls
 abbrev pub cut_off : View → View
@@ -85,6 +88,7 @@ remark_of desk v = record { desk = desk; start = v.start; seen = v.seen }
 pub record SeesMore (before after : Knowledge) : Type 0 where
   pub same_desk : after.desk ≡ before.desk
   pub same_start : after.start ≡ before.start
+  pub same_place : after.place ≡ before.place
   pub same_number : after.number ≡ before.number
   pub same_calls : after.mine ≡ before.mine
   pub goes_on : GoesOnFrom before.seen after.seen
@@ -93,6 +97,7 @@ pub record SeesMore (before after : Knowledge) : Type 0 where
 pub record IsNewPass (parent new : Knowledge) : Type 0 where
   pub same_desk : new.desk ≡ parent.desk
   pub same_start : new.start ≡ parent.start
+  pub same_place : new.place ≡ parent.place
   pub other_number : new.number ≢ parent.number
   pub no_calls : new.mine ≡ []
   pub goes_on : GoesOnFrom parent.seen new.seen

@@ -31,7 +31,7 @@ const MOST_TICKETS: u64 = 1 << 62;
 /// A queue that threads share. Contracts see which desk it is.
 #[derive(Drop)]
 pub struct Desk<P: Press> {
-    table: Table<Option<Held<P>>, View, Snapshot<QueueState>, InTurn, Global>,
+    table: Table<Option<Held<P>>, View, Snapshot<Held<P>>, InTurn, Global>,
 }
 
 impl<P: Press> Model for Desk<P> {
@@ -61,11 +61,11 @@ impl<P: Press> Desk<P> {
         press: P,
     ) -> Result<(Desk<P>, Pass<P>), Fault>
         requires { P.stands press [] }
-        ensures ok { IfOk result (λ r. r.1 ≡ first_knowledge r.0 state) }
+        ensures ok { IfOk result (λ r. r.1 ≡ first_knowledge r.0 state (P.place press)) }
         ensures errors { IfErr result (λ fault. fault ≡ OutOfMemory) }
     {
-        let start = Snapshot::of(&state);
         let held = Held::new(state, press, Ticks::new(rt));
+        let start = Snapshot::of(&held);
         let Ok(mut slots) = Vec::with_capacity(alloc, 1) else {
             return Err(Fault::OutOfMemory);
         };
@@ -130,6 +130,7 @@ impl<P: Press> Desk<P> {
         ensures desk { seat.new.table_id ≡ seat.old.table_id }
         ensures out { seat.new.me ≡ (seat.old.me.0, (0, None) ∷ []) }
         ensures queue { result.queue ≡ state_of seat.old.me.0.start seat.old.me.0.seen }
+        ensures place { result.place ≡ seat.old.me.0.place }
     {
         let Some(held) = self.table.shared.exchange(seat, 0, None) else {
             unreachable!()
@@ -170,7 +171,7 @@ impl<P: Press> Desk<P> {
         ensures call { HasCalled pass.old at command.now result.reply pass.new ⊎ ((result.reply ≡ Err Spent) × (result.told ≡ None) × IsSpent pass.old pass.new) }
         ensures desk { pass.new.desk ≡ pass.old.desk }
         ensures known { IsKnown pass.new }
-        ensures told { IfSome result.told (λ told. IsToldOf P.tells (state_of pass.new.start pass.new.seen) told) }
+        ensures told { IfSome result.told (λ told. IsToldOf (P.tells pass.new.place) (state_of pass.new.start pass.new.seen) told) }
     {
         let Some(ticket) = self.draw(rt, &mut pass.seat) else {
             return Asked {

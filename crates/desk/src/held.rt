@@ -14,7 +14,7 @@ use std::snapshot::Snapshot;
 use std::sync::Wait;
 
 /// The queue with its press, how many marks of its journal were printed, and the call that was made
-/// last. Contracts see the queue and that call.
+/// last. Contracts see the queue, that call, and the place of the press.
 #[derive(Drop)]
 pub(crate) struct Held<P: Press> {
     pub(crate) state: QueueState,
@@ -31,7 +31,7 @@ impl<P: Press> Model for Held<P> {
 
     ghost Value = { Lying };
 
-    ghost view = { λ h. record { queue = h.state; made = h.made } };
+    ghost view = { λ h. record { queue = h.state; made = h.made; place = P.place h.press } };
 
     ghost invariant = { λ h. IsPrinted (P.stands h.press) h.state h.told };
 }
@@ -44,7 +44,7 @@ impl<P: Press> Held<P> {
     /// A queue to which no call was made yet.
     pub(crate) fn new(state: QueueState, press: P, ticks: Ticks) -> Held<P>
         requires { P.stands press [] }
-        ensures { result ≡ untouched state }
+        ensures { result ≡ untouched state (P.place press) }
     {
         Held {
             state,
@@ -64,6 +64,7 @@ impl<P: Press> Held<P> {
     ) -> Result<Reply, Fault>
         ensures answer { IsAnswered self.old.queue at command.now result }
         ensures state { IsBehind self.old.queue at command.now result self.new }
+        ensures place { self.new.place ≡ self.old.place }
     {
         let reply = self.state.perform(alloc, at, command, &mut self.ticks);
         self.made = Some(Made {
@@ -76,7 +77,7 @@ impl<P: Press> Held<P> {
 
     /// Tells the press of the queue as it is now. `None` is want of memory, for the turn or for the press.
     pub(crate) fn tell<R: Wait>(&mut self, rt: &R, alloc: Global) -> Option<P::Told>
-        ensures told { IfSome result (λ told. IsToldOf P.tells self.old.queue told) }
+        ensures told { IfSome result (λ told. IsToldOf (P.tells self.old.place) self.old.queue told) }
         ensures same { self.new ≡ self.old }
     {
         match self.press.blank() {
@@ -87,7 +88,7 @@ impl<P: Press> Held<P> {
 
     /// Prints the turn. `None` is want of memory, for the turn or for the press.
     fn print<R: Wait>(&mut self, rt: &R, alloc: Global) -> Option<P::Told>
-        ensures told { IfSome result (λ told. IsToldOf P.tells self.old.queue told) }
+        ensures told { IfSome result (λ told. IsToldOf (P.tells self.old.place) self.old.queue told) }
         ensures same { self.new ≡ self.old }
     {
         let Ok(turn) = Turn::of(alloc, &mut self.state, self.told, &mut self.ticks) else {

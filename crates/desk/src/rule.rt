@@ -6,13 +6,13 @@ use crate::held::Held;
 use crate::printing::Press;
 use crate::view::View;
 use atomic_table::{Join, Play, Split, TableRule};
-use queue_core::QueueState;
 use std::snapshot::Snapshot;
 
-/// Turns are taken in the order of the tickets. The table is told the queue that the desk is made with.
+/// Turns are taken in the order of the tickets. The table is told what the desk is made with: the queue and
+/// the place of its press.
 pub struct InTurn;
 
-impl<P: Press> TableRule<Option<Held<P>>, View, Snapshot<QueueState>> for InTurn {
+impl<P: Press> TableRule<Option<Held<P>>, View, Snapshot<Held<P>>> for InTurn {
     ghost use Rattle.desk.specs.Views.{first_view};
     ghost use Rattle.desk.specs.Rule.{IsInTurn};
 

@@ -31,6 +31,8 @@ pub enum Stage {
 pub struct View {
     /// The queue that the desk was made with.
     pub start: QueueState,
+    /// The place of the desk's press.
+    pub place: LinkedList<u64>,
     pub number: u64,
     /// Another number than its own: that of the pass that it was cut off from, or of the last that it
     /// ended. For the first pass it is 1, until it ends another.

@@ -7,7 +7,7 @@ use Rattle.queue_actor.specs.Answered.{Answered}
 use Rattle.queue_actor.specs.declared.parcels.Delivery.{Delivery}
 use Rattle.queue_actor.specs.Course.{Event, GoesThrough}
 use Rattle.queue_actor.specs.declared.mail.Mail.{Mail}
-use Rattle.queue_actor.specs.Serving.{is_receive, may_wait, IsAnswerAt, IsAnsweredAt, IsServedAt, AreServedAt, LooksAt, with_kept, LooksOver, Admits, TakesIn, Goes, Ends, Serves}
+use Rattle.queue_actor.specs.Serving.{is_receive, is_tick, may_wait, IsAnswerAt, IsAnsweredAt, IsServedAt, AreServedAt, LooksAt, with_kept, LooksOver, Admits, TakesIn, Goes, Ends, Serves}
 use Rattle.queue_actor.specs.Waiting.{WaitsBehind, TakesAnswers, waiting_with, moment_with}
 
 -- equal lists have equal heads and equal tails
@@ -153,7 +153,7 @@ module _ {V P S Told : Type 0} (brings : V → Mail P S Told → V → Type 0) (
   -- ---- looking over polls that wait
 
   -- of the polls that waited some are still to be looked at, and the others wait behind them, were answered, or were dropped
-  pub record Looking (limit at : ℕ) (before : Knowledge) (parked : List (Ask P S Told)) (mailbox : V)
+  pub record Looking (limit at : ℕ) (known : Bool) (before : Knowledge) (parked : List (Ask P S Told)) (mailbox : V)
       (quiet : Bool) (pass : Knowledge) (polls : List (Ask P S Told)) (now : V) (turns : ℕ) : Type 0 where
     pub rest : List (Ask P S Told)
     pub kept : List (Ask P S Told)
@@ -163,11 +163,11 @@ module _ {V P S Told : Type 0} (brings : V → Mail P S Told → V → Type 0) (
     pub goes : GoesThrough brings is_over gives was_left mailbox happened now
     pub waits : WaitsBehind parked at happened (kept ++ rest) at
     pub so_far : (more : List (Event (Mail P S Told) S Answered)) (after : Knowledge) (left : List (Ask P S Told))
-        → LooksOver limit at quiet pass rest more after left → LooksOver limit at false before parked (happened ++ more) after (kept ++ left)
+        → LooksOver limit at quiet pass rest more after left → LooksOver limit at known before parked (happened ++ more) after (kept ++ left)
 
-  pub looking_begins : (limit at : ℕ) (before : Knowledge) (parked : List (Ask P S Told)) (mailbox : V) (turns : ℕ) → length parked ≡ turns
-      → Looking limit at before parked mailbox false before parked mailbox turns
-  looking_begins limit at before parked mailbox turns count = record {
+  pub looking_begins : (limit at : ℕ) (known : Bool) (before : Knowledge) (parked : List (Ask P S Told)) (mailbox : V) (turns : ℕ) → length parked ≡ turns
+      → Looking limit at known before parked mailbox known before parked mailbox turns
+  looking_begins limit at known before parked mailbox turns count = record {
     rest = parked;
     kept = [];
     happened = [];
@@ -178,21 +178,21 @@ module _ {V P S Told : Type 0} (brings : V → Mail P S Told → V → Type 0) (
     so_far = λ more after left h. h;
   }
 
-  pub looking_ends : (limit at : ℕ) (before : Knowledge) (parked : List (Ask P S Told)) (mailbox : V) (quiet : Bool) (pass : Knowledge) (polls : List (Ask P S Told)) (now : V)
-      → Looking limit at before parked mailbox quiet pass polls now 0
-      → (happened : List (Event (Mail P S Told) S Answered)) × LooksOver limit at false before parked happened pass polls
+  pub looking_ends : (limit at : ℕ) (known : Bool) (before : Knowledge) (parked : List (Ask P S Told)) (mailbox : V) (quiet : Bool) (pass : Knowledge) (polls : List (Ask P S Told)) (now : V)
+      → Looking limit at known before parked mailbox quiet pass polls now 0
+      → (happened : List (Event (Mail P S Told) S Answered)) × LooksOver limit at known before parked happened pass polls
       × GoesThrough brings is_over gives was_left mailbox happened now × WaitsBehind parked at happened polls at
-  looking_ends limit at before parked mailbox quiet pass polls now h =
+  looking_ends limit at known before parked mailbox quiet pass polls now h =
       let done : h.rest ≡ [] = nothing_left h.rest h.count in
       let nobody : LooksOver limit at quiet pass h.rest [] pass [] = subst (λ rest. LooksOver limit at quiet pass rest [] pass []) (sym done) (refl, refl, refl) in
-      let whole : LooksOver limit at false before parked (h.happened ++ []) pass (h.kept ++ []) = h.so_far [] pass [] nobody in
-      let happened : LooksOver limit at false before parked h.happened pass (h.kept ++ []) =
-      subst (λ es. LooksOver limit at false before parked es pass (h.kept ++ [])) (append-nil h.happened) whole in
+      let whole : LooksOver limit at known before parked (h.happened ++ []) pass (h.kept ++ []) = h.so_far [] pass [] nobody in
+      let happened : LooksOver limit at known before parked h.happened pass (h.kept ++ []) =
+      subst (λ es. LooksOver limit at known before parked es pass (h.kept ++ [])) (append-nil h.happened) whole in
       let kept : h.kept ≡ polls = sym (h.parts ∙ ap (λ rest. rest ++ h.kept) done) in
       let left : h.kept ++ [] ≡ polls = append-nil h.kept ∙ kept in
       let waiting : h.kept ++ h.rest ≡ polls = ap (λ rest. h.kept ++ rest) done ∙ left in (
         h.happened,
-        subst (λ left. LooksOver limit at false before parked h.happened pass left) left happened,
+        subst (λ left. LooksOver limit at known before parked h.happened pass left) left happened,
         h.goes,
         subst (λ left. WaitsBehind parked at h.happened left at) waiting h.waits,
       )
@@ -210,29 +210,29 @@ module _ {V P S Told : Type 0} (brings : V → Mail P S Told → V → Type 0) (
       )
 
   -- while a poll is still to be looked at there is one
-  pub one_is_left : (limit at : ℕ) (before : Knowledge) (parked : List (Ask P S Told)) (mailbox : V) (quiet : Bool) (pass : Knowledge) (polls : List (Ask P S Told)) (now : V) (turns : ℕ)
-      → Looking limit at before parked mailbox quiet pass polls now turns → 0 < turns → 0 < length polls
-  one_is_left limit at before parked mailbox quiet pass polls now turns h some =
+  pub one_is_left : (limit at : ℕ) (known : Bool) (before : Knowledge) (parked : List (Ask P S Told)) (mailbox : V) (quiet : Bool) (pass : Knowledge) (polls : List (Ask P S Told)) (now : V) (turns : ℕ)
+      → Looking limit at known before parked mailbox quiet pass polls now turns → 0 < turns → 0 < length polls
+  one_is_left limit at known before parked mailbox quiet pass polls now turns h some =
       omega (arith, some, h.count, ap length h.parts, length-append h.rest h.kept)
 
   -- the mailbox takes the answer to the poll that is looked at next
-  pub looking_takes : (limit at : ℕ) (before : Knowledge) (parked : List (Ask P S Told)) (mailbox : V) (quiet : Bool) (pass : Knowledge)
+  pub looking_takes : (limit at : ℕ) (known : Bool) (before : Knowledge) (parked : List (Ask P S Told)) (mailbox : V) (quiet : Bool) (pass : Knowledge)
       (polls others : List (Ask P S Told)) (now : V) (turns : ℕ) (r : Ask P S Told)
       → TakesAnswers brings is_over may_give gives was_left parked at mailbox
-      → Looking limit at before parked mailbox quiet pass polls now (turns + 1) → polls ≡ r ∷ others
+      → Looking limit at known before parked mailbox quiet pass polls now (turns + 1) → polls ≡ r ∷ others
       → (answer : Answered) → IsAnswerAt at r answer → may_give now r.reply answer
-  looking_takes limit at before parked mailbox quiet pass polls others now turns r takes h popped =
+  looking_takes limit at known before parked mailbox quiet pass polls others now turns r takes h popped =
       let f = first_of_the_rest polls others h.rest h.kept r turns popped h.parts h.count in
       takes_now (h.kept ++ h.rest) h.kept f.0 at now r (takes_behind parked (h.kept ++ h.rest) at at mailbox now h.happened takes h.goes h.waits)
       (ap (λ rest. h.kept ++ rest) f.1)
 
   -- the poll that is looked at goes on waiting, behind those that were looked at, or it is served
-  pub looking_goes : (limit at : ℕ) (before : Knowledge) (parked : List (Ask P S Told)) (mailbox : V) (quiet is_kept : Bool) (pass between : Knowledge)
+  pub looking_goes : (limit at : ℕ) (known : Bool) (before : Knowledge) (parked : List (Ask P S Told)) (mailbox : V) (quiet is_kept : Bool) (pass between : Knowledge)
       (polls others : List (Ask P S Told)) (now next : V) (turns : ℕ) (r : Ask P S Told) (first : List (Event (Mail P S Told) S Answered))
-      → Looking limit at before parked mailbox quiet pass polls now (turns + 1) → polls ≡ r ∷ others
+      → Looking limit at known before parked mailbox quiet pass polls now (turns + 1) → polls ≡ r ∷ others
       → LooksAt limit at quiet pass r first is_kept between → GoesThrough brings is_over gives was_left now first next
-      → Looking limit at before parked mailbox is_kept between (with_last others is_kept r) next turns
-  looking_goes limit at before parked mailbox quiet is_kept pass between polls others now next turns r first h popped looks goes =
+      → Looking limit at known before parked mailbox is_kept between (with_last others is_kept r) next turns
+  looking_goes limit at known before parked mailbox quiet is_kept pass between polls others now next turns r first h popped looks goes =
       let f = first_of_the_rest polls others h.rest h.kept r turns popped h.parts h.count in
       record {
         rest = f.0;
@@ -246,20 +246,20 @@ module _ {V P S Told : Type 0} (brings : V → Mail P S Told → V → Type 0) (
             (subst (λ left. WaitsBehind (h.kept ++ r ∷ f.0) at first left at) (sym (with_last_before h.kept is_kept r f.0))
             (looked_waits limit at at quiet is_kept pass between r h.kept f.0 first looks));
         so_far = λ more after left m.
-            subst (λ left. LooksOver limit at false before parked ((h.happened ++ first) ++ more) after left) (sym (with_last_before h.kept is_kept r left))
-            (subst (λ es. LooksOver limit at false before parked es after (h.kept ++ with_kept is_kept r left)) (sym (append_assoc h.happened first more))
+            subst (λ left. LooksOver limit at known before parked ((h.happened ++ first) ++ more) after left) (sym (with_last_before h.kept is_kept r left))
+            (subst (λ es. LooksOver limit at known before parked es after (h.kept ++ with_kept is_kept r left)) (sym (append_assoc h.happened first more))
             (h.so_far (first ++ more) after (with_kept is_kept r left)
             (subst (λ rest. LooksOver limit at quiet pass rest (first ++ more) after (with_kept is_kept r left)) (sym f.1)
             (is_kept, first, more, between, left, looks, refl, refl, m))));
       }
 
   -- the same, told of equal values
-  pub looking_same : (limit at : ℕ) (before : Knowledge) (parked : List (Ask P S Told)) (mailbox : V) (quiet : Bool) (pass : Knowledge) (polls : List (Ask P S Told)) (now : V) (turns : ℕ)
+  pub looking_same : (limit at : ℕ) (known : Bool) (before : Knowledge) (parked : List (Ask P S Told)) (mailbox : V) (quiet : Bool) (pass : Knowledge) (polls : List (Ask P S Told)) (now : V) (turns : ℕ)
       (quiet' : Bool) (polls' : List (Ask P S Told)) → quiet ≡ quiet' → polls ≡ polls'
-      → Looking limit at before parked mailbox quiet pass polls now turns → Looking limit at before parked mailbox quiet' pass polls' now turns
-  looking_same limit at before parked mailbox quiet pass polls now turns quiet' polls' same_quiet same_polls h =
-      subst (λ q. Looking limit at before parked mailbox q pass polls' now turns) same_quiet
-      (subst (λ ps. Looking limit at before parked mailbox quiet pass ps now turns) same_polls h)
+      → Looking limit at known before parked mailbox quiet pass polls now turns → Looking limit at known before parked mailbox quiet' pass polls' now turns
+  looking_same limit at known before parked mailbox quiet pass polls now turns quiet' polls' same_quiet same_polls h =
+      subst (λ q. Looking limit at known before parked mailbox q pass polls' now turns) same_quiet
+      (subst (λ ps. Looking limit at known before parked mailbox quiet pass ps now turns) same_polls h)
 
 -- ---- asks that come
 
@@ -319,7 +319,7 @@ module _ {P S Told V T : Type 0} (told : ℕ → Parcel → Delivery T → Type 
       → Serving uid limit before mailbox pass parked last now
       → brings now mail fetched
       → TakesIn taken_out retargeted uid mail last parked first wait at false → GoesThrough brings is_over gives was_left fetched first taken
-      → Goes told taken_out retargeted limit at pass wait second between left → GoesThrough brings is_over gives was_left taken second next
+      → Goes told taken_out retargeted limit at (is_tick mail) pass wait second between left → GoesThrough brings is_over gives was_left taken second next
       → Serving uid limit before mailbox between left at next
   serving_goes uid limit before mailbox pass parked last now mail at first second wait left between fetched taken next h brought takes adds goes more_adds =
       let happened : List (Event (Mail P S Told) S Answered) = Event.Brought mail ∷ (first ++ second) in

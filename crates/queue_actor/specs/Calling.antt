@@ -33,6 +33,11 @@ abbrev pub KeepsWaiting : ℕ → ℕ → Bool → ℕ → Bool → Knowledge �
 KeepsWaiting limit at quiet until keeps before after =
     MatchBool (nat_lt at until) (Finds limit at quiet keeps before after) ((keeps ≡ false) × (after ≡ before))
 
+-- whether the queue is known to be quiet at the moment of a mail, before the polls are looked over: at a tick the actor looks, and else it asks nothing
+abbrev pub LooksAtTick : ℕ → ℕ → Bool → Bool → Knowledge → Knowledge → Type 0
+LooksAtTick limit at is_tick quiet before after =
+    MatchBool is_tick (Finds limit at false quiet before after) ((quiet ≡ false) × (after ≡ before))
+
 -- the parcel that a reply hands over
 abbrev pub parcel_in : Result Reply Fault → Option Parcel
 parcel_in (Ok (replies.Parcel parcel)) = parcel

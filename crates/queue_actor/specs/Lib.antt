@@ -4,3 +4,4 @@ pub mod Course
 pub mod Calling
 pub mod Serving
 pub mod Waiting
+pub mod Reading

@@ -14,7 +14,7 @@ use Rattle.queue_actor.specs.declared.mail.Mail.{Mail}
 use Rattle.queue_actor.specs.declared.mail.Mail.TheVariants as mails
 use Rattle.queue_actor.specs.declared.parcels.Delivery.{Delivery}
 use Rattle.queue_actor.specs.Answered.{Answered}
-use Rattle.queue_actor.specs.Calling.{HasAsked, KeepsWaiting, HasMoved}
+use Rattle.queue_actor.specs.Calling.{HasAsked, KeepsWaiting, LooksAtTick, HasMoved}
 use Rattle.queue_actor.specs.Course.{Event, brought_in, given_in, HasOver}
 
 -- whether a command is a receive
@@ -39,6 +39,12 @@ Enters taken_out retargeted uid command reply =
     MatchBool (has_closed command reply) (taken_out uid) (IfSome (new_target command reply) (λ target. retargeted uid target))
 
 module _ {P S Told : Type 0} where
+  -- whether a mail is a tick
+  abbrev pub is_tick : Mail P S Told → Bool
+  is_tick (mails.Ask r) = false
+  is_tick (mails.Tick t) = true
+  is_tick mails.End = false
+
   -- a receive that has time to wait when it comes
   abbrev pub may_wait : Ask P S Told → Bool
   may_wait r = is_receive r.command && nat_lt r.moment r.wait_until
@@ -104,10 +110,11 @@ module _ {P S Told : Type 0} (taken_out : ℕ → Type 0) (retargeted : ℕ → 
 
 -- what deliveries of dead letters tell
 module _ {P S Told T : Type 0} (told : ℕ → Parcel → Delivery T → Type 0) (taken_out : ℕ → Type 0) (retargeted : ℕ → ℕ → Type 0) where
-  -- what the actor does at the moment of each mail: it looks over the polls that wait, and moves its parcels
-  abbrev pub Goes : ℕ → ℕ → Knowledge → List (Ask P S Told) → List (Event (Mail P S Told) S Answered) → Knowledge → List (Ask P S Told) → Type 0
-  Goes limit at before parked happened after left =
-      (between : Knowledge) × LooksOver limit at false before parked happened between left × HasMoved told at between after
+  -- what the actor does at the moment of each mail: at a tick it looks at its queue; then it looks over the polls that wait, and moves its parcels
+  abbrev pub Goes : ℕ → ℕ → Bool → Knowledge → List (Ask P S Told) → List (Event (Mail P S Told) S Answered) → Knowledge → List (Ask P S Told) → Type 0
+  Goes limit at is_tick before parked happened after left =
+      (quiet : Bool) × (looked between : Knowledge) × LooksAtTick limit at is_tick quiet before looked
+      × LooksOver limit at quiet looked parked happened between left × HasMoved told at between after
 
   -- at the end each poll that waits is asked, at the moment of the last mail
   abbrev pub Ends : ℕ → Knowledge → List (Ask P S Told) → List (Event (Mail P S Told) S Answered) → Knowledge → Type 0
@@ -123,7 +130,7 @@ module _ {P S Told T : Type 0} (told : ℕ → Parcel → Delivery T → Type 0)
       × TakesIn taken_out retargeted uid m last parked first wait at ends × (events ≡ Event.Brought m ∷ (first ++ rest))
       × MatchBool ends ((ms ≡ []) × Ends at before wait rest after)
       ((second more : List (Event (Mail P S Told) S Answered)) × (between : Knowledge) × (left : List (Ask P S Told))
-      × Goes limit at before wait second between left × (rest ≡ second ++ more) × Serves uid limit between left at ms more after)
+      × Goes limit at (is_tick m) before wait second between left × (rest ≡ second ++ more) × Serves uid limit between left at ms more after)
 
   -- mails that came one after another from the front of these, until the actor ended, which it does where none is left, and all the answers that were given: those of a mailbox in memory
   abbrev pub AllServed : ℕ → ℕ → Knowledge → List (Mail P S Told) → List (S × Answered) → Knowledge → Type 0

@@ -7,8 +7,8 @@ ghost use Rattle.desk.specs.Views.{IsKnown};
 ghost use Rattle.queue_actor.specs.Course.{Event, GoesThrough};
 ghost use Rattle.queue_actor.specs.declared.mail.Mail.{Mail};
 ghost use Rattle.queue_actor.specs.Answered.{Answered};
-ghost use Rattle.queue_actor.specs.Calling.{HasAsked, KeepsWaiting, is_quiet};
-ghost use Rattle.queue_actor.specs.Serving.{is_receive, may_wait, has_closed, Enters, IsAnswerAt, IsServedAt, AreServedAt, LooksAt, LooksOver, Admits, Leads, TakesIn, Ends, Serves};
+ghost use Rattle.queue_actor.specs.Calling.{HasAsked, Finds, KeepsWaiting, LooksAtTick, is_quiet};
+ghost use Rattle.queue_actor.specs.Serving.{is_receive, is_tick, may_wait, has_closed, Enters, IsAnswerAt, IsServedAt, AreServedAt, LooksAt, LooksOver, Admits, Leads, TakesIn, Ends, Serves};
 ghost use Rattle.queue_actor.specs.Waiting.{TakesAnswers, waiting_with, moment_with};
 
 use crate::answer::Answer;
@@ -77,6 +77,21 @@ where
             .reply
     }
 
+    /// Looks whether there is nothing to receive.
+    fn finds_quiet<R: Wait, G: Gate>(
+        &mut self,
+        rt: &R,
+        alloc: Global,
+        at: Moment,
+        limit: u32,
+        gate: &G,
+    ) -> bool
+        ensures { Finds limit at false result self.old.pass self.new.pass }
+    {
+        let reply = self.ask(rt, alloc, at, &Command::Look, gate);
+        is_quiet(&reply, limit)
+    }
+
     /// Whether a poll that may wait until a time goes on waiting. The actor looks, unless it knows from its
     /// last look that there is nothing to receive.
     fn keeps_waiting<R: Wait, G: Gate>(
@@ -97,8 +112,27 @@ where
         if quiet {
             return true;
         }
-        let reply = self.ask(rt, alloc, at, &Command::Look, gate);
-        is_quiet(&reply, limit)
+        self.finds_quiet(rt, alloc, at, limit, gate)
+    }
+
+    /// Looks at the queue at a tick, so that what is printed of it is of that moment, also where nobody asks it
+    /// anything. It is told whether the actor knows from this look that there is nothing to receive.
+    fn look_at_tick<R: Wait, G: Gate>(
+        &mut self,
+        rt: &R,
+        alloc: Global,
+        at: Moment,
+        limit: u32,
+        is_tick: bool,
+        gate: &G,
+    ) -> bool
+        ensures { LooksAtTick limit at is_tick result self.old.pass self.new.pass }
+    {
+        if is_tick {
+            self.finds_quiet(rt, alloc, at, limit, gate)
+        } else {
+            false
+        }
     }
 
     /// Looks at a poll that waits, and gives it back where it goes on waiting. One whose client waits no longer
@@ -129,22 +163,23 @@ where
     }
 
     /// Looks over the polls that wait, in the order in which they came. Each goes on waiting, or is asked, or
-    /// is dropped where its client waits no longer.
+    /// is dropped where its client waits no longer. It may be known before that there is nothing to receive.
     fn look_over<S: Drop, I: Inbox<Mail<P, S>, S, Answer<P>>, R: Wait, G: Gate>(
         &mut self,
         rt: &R,
         alloc: Global,
         at: Moment,
         limit: u32,
+        known: bool,
         parked: &mut VecDeque<Ask<P, S>>,
         mailbox: &mut I,
         gate: &G,
     )
         requires may { TakesAnswers I.brings I.is_over I.may_give I.gives I.was_left parked.old.items at mailbox.old }
-        ensures looked { (happened : List (Event (Mail P S P.Told) S Answered)) × LooksOver limit at false self.old.pass parked.old.items happened self.new.pass parked.new.items × GoesThrough I.brings I.is_over I.gives I.was_left mailbox.old happened mailbox.new }
+        ensures looked { (happened : List (Event (Mail P S P.Told) S Answered)) × LooksOver limit at known self.old.pass parked.old.items happened self.new.pass parked.new.items × GoesThrough I.brings I.is_over I.gives I.was_left mailbox.old happened mailbox.new }
         ensures may { TakesAnswers I.brings I.is_over I.may_give I.gives I.was_left parked.new.items at mailbox.new }
     {
-        let mut quiet = false;
+        let mut quiet = known;
         for _ in 0..parked.len() {
             let Some(poll) = parked.pop_front() else {
                 unreachable!()
@@ -183,6 +218,7 @@ where
             let Some(mail) = mailbox.next(rt) else {
                 return self.end(rt, alloc, last, parked, mailbox, directory, gate);
             };
+            let is_tick = is_tick(&mail);
             let (at, is_last) = take_in(
                 rt,
                 alloc,
@@ -198,7 +234,8 @@ where
                 return self.end(rt, alloc, at, parked, mailbox, directory, gate);
             }
             last = at;
-            self.look_over(rt, alloc, at, limit, &mut parked, mailbox, gate);
+            let quiet = self.look_at_tick(rt, alloc, at, limit, is_tick, gate);
+            self.look_over(rt, alloc, at, limit, quiet, &mut parked, mailbox, gate);
             self.move_parcels(rt, alloc, at, directory, gate);
         }
         unreachable!()
@@ -234,6 +271,13 @@ fn is_quiet(reply: &Result<Reply, Fault>, limit: u32) -> bool
         }
         _ => false,
     }
+}
+
+/// Whether a mail is a tick.
+fn is_tick<P: Press, S: Drop>(mail: &Mail<P, S>) -> bool
+    ensures { result ≡ is_tick mail.now }
+{
+    matches!(mail, Mail::Tick(_))
 }
 
 /// Whether a command is a receive.

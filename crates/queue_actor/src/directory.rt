@@ -11,6 +11,8 @@ ghost use Rattle.queue_actor.specs.Calling.{HasAsked};
 
 use crate::answer::Answer;
 use crate::mail::Mail;
+use crate::readers::{Readers, Shown};
+use board::Sheet;
 use crossbeam_channel::Sender;
 use desk::{Desk, Gate, Pass, Press};
 use journal::Moment;
@@ -192,13 +194,14 @@ impl<P: Press, S: Drop> Entries<P, S> {
     }
 }
 
-/// Which queues there are, under which names, and where they are served. Threads share it: each call
-/// takes its lock for itself, and has let go of it when it returns. Contracts see the limits of every
-/// queue.
+/// Which queues there are, under which names, and where they are served; and the readers of their statistics,
+/// which lie under a lock of their own. Threads share it: each call takes one lock at a time, and has let go of it
+/// when it returns. Contracts see the limits of every queue.
 #[derive(Drop)]
 pub struct Directory<P: Press, S: Drop> {
     limits: Limits,
     entries: Mutex<Entries<P, S>>,
+    readers: Mutex<Readers>,
 }
 
 impl<P: Press, S: Drop> Model for Directory<P, S> {
@@ -222,6 +225,7 @@ impl<P: Press, S: Drop> Directory<P, S> {
         Ok(Directory {
             limits,
             entries: Mutex::new(entries),
+            readers: Mutex::new(Readers::new(alloc)),
         })
     }
 
@@ -276,8 +280,44 @@ impl<P: Press, S: Drop> Directory<P, S> {
         self.entries.lock(rt).find_name(name)
     }
 
-    /// Takes out the queue of a uid, with its name. The answer is whether the name was there.
+    /// Adds the reader of a queue of a uid that was entered. `OutOfMemory` is the only refusal.
+    pub fn show<R: Wait>(&self, rt: &R, shown: Shown) -> Result<(), Fault>
+        ensures errors { IfErr result (λ fault. fault ≡ OutOfMemory) }
+    {
+        self.readers.lock(rt).add(shown)
+    }
+
+    /// The statistics of the queue of a name, where it has a reader. No turn of the queue is taken, and the lock of
+    /// the names is not held.
+    pub fn sheet<R: Wait>(
+        &self,
+        rt: &R,
+        alloc: Global,
+        name: &QueueName,
+    ) -> Result<Option<Sheet>, Fault>
+        ensures name { IfOk result (λ found. IfSome found (λ sheet. sheet.name ≡ name.now)) }
+        ensures errors { IfErr result (λ fault. fault ≡ OutOfMemory) }
+    {
+        self.readers.lock(rt).sheet(alloc, name)
+    }
+
+    /// The statistics of all queues that have a reader. No turn of a queue is taken, and the lock of the names is
+    /// not held.
+    pub fn sheets<R: Wait>(&self, rt: &R, alloc: Global) -> Result<Vec<Sheet>, Fault>
+        ensures errors { IfErr result (λ fault. fault ≡ OutOfMemory) }
+    {
+        self.readers.lock(rt).sheets(alloc)
+    }
+
+    /// Takes out the reader of the queue of a uid.
+    fn hide<R: Wait>(&self, rt: &R, uid: u64) {
+        let shown = self.readers.lock(rt).remove(uid);
+        drop(shown);
+    }
+
+    /// Takes out the queue of a uid, with its name and its reader. The answer is whether the name was there.
     pub fn remove<R: Wait>(&self, rt: &R, uid: u64) -> bool {
+        self.hide(rt, uid);
         let (named, served) = self.entries.lock(rt).remove(uid);
         drop(served);
         named

@@ -8,7 +8,8 @@
 //! - [`Actor`]: serves the mails of one queue, keeps polls that wait, and moves the queue's dead letters.
 //! - [`Inbox`]: where its mail comes from, and where its answers go.
 //! - [`Targets`]: the queues that dead letters are for, and [`Delivery`], what became of one there.
-//! - [`Directory`]: which queues there are, and where each is served; [`Served`] is one of them.
+//! - [`Directory`]: which queues there are, and where each is served; [`Served`] is one of them, and [`Shown`] the
+//!   reader of one's statistics.
 //! - [`deadline_loop`]: tells all actors the time.
 //!
 //! `Answered` in `specs/` has the words for answers. An answer's pass is of its desk, and its last call has
@@ -29,6 +30,7 @@ mod inbox;
 mod mail;
 mod outbox;
 mod parcels;
+mod readers;
 #[cfg(test)]
 mod tests;
 
@@ -42,3 +44,4 @@ pub use inbox::Inbox;
 pub use mail::{Ask, Mail};
 pub use outbox::Outbox;
 pub use parcels::{Delivery, Targets};
+pub use readers::Shown;

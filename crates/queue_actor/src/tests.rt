@@ -17,7 +17,7 @@ use futures::executor::block_on;
 use journal::Moment;
 use message::{Content, Fault, QueueName};
 use queue_config::{Limits, Settings, Wish};
-use queue_core::{Command, Maximum, QueueState, Reply, Timeout};
+use queue_core::{Command, Maximum, Offer, QueueState, Reply, Timeout};
 use stage::Stage;
 use std::alloc::{AllocGlobal, Global};
 use std::collections::VecDeque;
@@ -26,6 +26,7 @@ use std::sync::atomic::{AtomicU64, Ordering};
 use std::sync::{Arc, Wait};
 use std::test::Fail;
 use std::thread;
+use std::thread::{JoinHandle, Threads};
 
 /// A mail to an actor in these tests.
 type Letter = Mail<NoPress, oneshot::Sender<Answer<NoPress>>>;
@@ -61,6 +62,22 @@ fn opened(
     Ok((Arc::new(alloc, desk)?, pass))
 }
 
+/// A queue that is served under a uid and a name, and its actor's place.
+fn served(
+    rt: &HostRuntime,
+    alloc: Global,
+    uid: u64,
+    name: QueueName,
+    settings: Settings,
+    limits: Limits,
+) -> Result<(Client, Place), Fault> {
+    let (mailbox, mails) = unbounded::<Letter, Global>(alloc)?;
+    let (desk, mut pass) = opened(rt, alloc, uid, name, settings, limits)?;
+    let own = desk.pass(&mut pass);
+    let actor = Actor::new(Arc::try_clone(&desk)?, own, uid, limits);
+    Ok((Served::new(uid, name, desk, pass, mailbox), (actor, mails)))
+}
+
 /// The number that a text is.
 fn number(text: &str) -> Result<u64, Fault> {
     text.parse::<u64>()
@@ -77,22 +94,15 @@ fn moment(text: &str) -> Result<Moment, Fault> {
 fn command(alloc: Global, text: &str) -> Result<Command, Fault> {
     let (verb, rest) = text.split_once(' ').unwrap_or((text, ""));
     match verb {
-        "send" => Ok(Command::Send {
-            content: Content::new(alloc, String::from_str(alloc, rest)?, Vec::new(alloc))?,
-            delay: None,
-        }),
-        "receive" | "peek" => Ok(Command::Receive {
-            maximum: Maximum::new(10).ok_or(Fault::InvalidParameterValue)?,
-            timeout: if verb == "peek" {
-                Timeout::new(0)
-            } else {
-                None
-            },
-        }),
+        "send" => {
+            let body = String::from_str(alloc, rest)?;
+            let (content, delay) = (Content::new(alloc, body, Vec::new(alloc))?, None);
+            Ok(Command::Send { content, delay })
+        }
+        "receive" => receive(None),
+        "peek" => receive(Timeout::new(0)),
         "policy" => {
-            let (target, mut wish) = (number(rest)?, Wish::new());
-            let policy = if target == 0 { "" } else { POLICY };
-            wish.put(alloc, "RedrivePolicy", policy)?;
+            let (wish, target) = policy(alloc, rest)?;
             Ok(Command::Set { wish, target })
         }
         "look" => Ok(Command::Look),
@@ -101,30 +111,60 @@ fn command(alloc: Global, text: &str) -> Result<Command, Fault> {
     }
 }
 
-/// The moment and the command that a text asks, and the moment until which it may wait, behind `until`.
-fn asked(alloc: Global, text: &str) -> Result<(Moment, Command, Moment), Fault> {
-    let (at, rest) = text.split_once(' ').ok_or(Fault::UnsupportedOperation)?;
-    let (call, until) = rest.split_once(" until ").unwrap_or((rest, at));
-    Ok((moment(at)?, command(alloc, call)?, moment(until)?))
+/// A receive of ten messages at most.
+fn receive(timeout: Option<Timeout>) -> Result<Command, Fault> {
+    let maximum = Maximum::new(10).ok_or(Fault::InvalidParameterValue)?;
+    Ok(Command::Receive { maximum, timeout })
 }
 
-/// An answer as a text. An offered message has its number, its receipt, its body and when it was sent.
-fn told(alloc: Global, reply: &Result<Reply, Fault>) -> Result<String, Fault> {
+/// The request of a policy, and the uid of its target, or of none, and 0.
+fn policy(alloc: Global, target: &str) -> Result<(Wish, u64), Fault> {
+    let (target, mut wish) = (number(target)?, Wish::new());
+    let policy = if target == 0 { "" } else { POLICY };
+    wish.put(alloc, "RedrivePolicy", policy)?;
+    Ok((wish, target))
+}
+
+/// The moment that a text asks at, the command's text, and the moment until which it may wait, behind `until`; all as
+/// texts.
+fn parts(text: &str) -> (&str, &str, &str) {
+    let (at, rest) = text.split_once(' ').unwrap_or((text, ""));
+    let (call, until) = rest.split_once(" until ").unwrap_or((rest, at));
+    (at, call, until)
+}
+
+/// Tells an answer. An offered message has its number, its receipt, its body and when it was sent.
+fn tell(text: &mut String, reply: &Result<Reply, Fault>) -> Result<(), Fault> {
     match reply {
-        Ok(Reply::Sent(posted)) => Ok(format!(in alloc; "sent {}", posted.number)?),
+        Ok(Reply::Sent(posted)) => Ok(write!(text, "sent {}", posted.number)?),
         Ok(Reply::Received(offers)) => match offers.as_slice().first() {
-            Some(offer) => {
-                let (body, at) = (offer.content.body(), offer.sent.milliseconds());
-                Ok(format!(in alloc; "offered {}.{} {body} of {at}", offer.number, offer.receipt)?)
-            }
-            None => Ok(String::from_str(alloc, "offered")?),
+            Some(offer) => tell_offer(text, offer),
+            None => Ok(text.push_str("offered")?),
         },
         Ok(Reply::Looked(look)) => {
             let (visible, at) = (look.gauges.visible, look.clock.milliseconds());
-            Ok(format!(in alloc; "{visible} visible, {} entries at {at}", look.lines)?)
+            Ok(write!(text, "{visible} visible, {} entries at {at}", look.lines)?)
         }
-        _ => Ok(format!(in alloc; "{reply:?}")?),
+        _ => Ok(write!(text, "{reply:?}")?),
     }
+}
+
+/// Tells an offer.
+fn tell_offer(text: &mut String, offer: &Offer) -> Result<(), Fault> {
+    let (body, at) = (offer.content.body(), offer.sent.milliseconds());
+    Ok(write!(
+        text,
+        "offered {}.{} {body} of {at}",
+        offer.number, offer.receipt
+    )?)
+}
+
+/// A failure unless what a line tells is what was wanted.
+fn same(name: &str, line: &str, told: &str, wanted: &str) -> Result<(), Fail> {
+    if told == wanted {
+        return Ok(());
+    }
+    Err(Fail::new(format_args!("{name}: {line}: {told}, not {wanted}")))
 }
 
 /// Serves a mailbox until it is told to end. That it came to this is told by 1.
@@ -141,99 +181,124 @@ fn begin<R: Wait>(
     queue: Client,
     text: &str,
 ) -> Result<AskFuture<NoPress>, Fault> {
-    let (at, command, until) = asked(alloc, text)?;
-    let (mailbox, desk, pass) = (queue.mailbox, queue.desk, queue.pass);
-    let sent = AskFuture::new(rt, alloc, &mailbox, desk, pass, at, command, until);
-    sent.map_err(|refused| refused.fault)
+    let (at, call, until) = parts(text);
+    let (at, until) = (moment(at)?, moment(until)?);
+    let command = command(alloc, call)?;
+    let Served {
+        mailbox,
+        desk,
+        pass,
+        ..
+    } = queue;
+    match AskFuture::new(rt, alloc, &mailbox, desk, pass, at, command, until) {
+        Ok(future) => Ok(future),
+        Err(refused) => Err(refused.fault),
+    }
 }
 
-/// Sends five times, all before the first answer, and counts the messages that are there under a number that an
-/// answer told.
-fn sends<R: Wait + RandomSource + AllocGlobal>(rt: &R, queues: &Shared, body: u64) -> Option<u64> {
-    let alloc = rt.alloc();
-    let text = format!(in alloc; "1000 send {body}").ok()?;
-    let mut begun = Vec::new(alloc);
+/// The queue of the uid 1.
+fn first_queue<R: Wait>(rt: &R, queues: &Shared) -> Option<Client> {
+    queues.find_uid(rt, 1).ok()?
+}
+
+/// Sends a text five times to the queue of the uid 1, all before the first answer.
+fn begin_five<R: Wait + AllocGlobal>(
+    rt: &R,
+    queues: &Shared,
+    text: &str,
+    begun: &mut Vec<AskFuture<NoPress>>,
+) -> Option<()> {
     for _ in 0..5 {
-        let queue = queues.find_uid(rt, 1).ok()??;
-        let future = begin(rt, alloc, queue, text.as_str()).ok()?;
+        let future = begin(rt, rt.alloc(), first_queue(rt, queues)?, text).ok()?;
         begun.push(future).ok()?;
     }
-    let mut numbers = Vec::new(alloc);
+    Some(())
+}
+
+/// Waits for an answer, and gives the number of the message that was sent.
+fn number_of<R: Wait + RandomSource + AllocGlobal>(
+    rt: &R,
+    future: AskFuture<NoPress>,
+) -> Option<u64> {
+    match block_on(rt, future).ok()?.ok()?.reply() {
+        Ok(Reply::Sent(posted)) => Some(posted.number),
+        _ => None,
+    }
+}
+
+/// Waits for answers, one after another, and keeps the numbers of the messages that were sent.
+fn keep_numbers<R: Wait + RandomSource + AllocGlobal>(
+    rt: &R,
+    begun: Vec<AskFuture<NoPress>>,
+    numbers: &mut Vec<u64>,
+) -> Option<()> {
     for future in begun {
-        let answer = block_on(rt, future).ok()?.ok()?;
-        if let Ok(Reply::Sent(posted)) = answer.reply() {
-            numbers.push(posted.number).ok()?;
+        if let Some(number) = number_of(rt, future) {
+            numbers.push(number).ok()?;
         }
     }
-    let (at, peek, _) = asked(alloc, "1000 peek").ok()?;
-    let queue = queues.find_uid(rt, 1).ok()??;
-    let answer = queue.ask(rt, alloc, at, peek, &NoGate);
+    Some(())
+}
+
+/// Counts the messages of an answer that have a body which ends a text, under one of these numbers.
+fn count_own(answer: &Answer<NoPress>, text: &str, numbers: &[u64]) -> Option<u64> {
     let Ok(Reply::Received(offers)) = answer.reply() else {
         return None;
     };
     let mut count = 0u64;
     for offer in offers.as_slice() {
-        let is_own = text.as_str().ends_with(offer.content.body());
-        if is_own && numbers.as_slice().contains(&offer.number) {
+        if text.ends_with(offer.content.body()) && numbers.contains(&offer.number) {
             count = count.saturating_add(1);
         }
     }
     Some(count)
 }
 
+/// Sends five times, all before the first answer, and counts the messages that are there under a number that an
+/// answer told.
+fn sends<R: Wait + RandomSource + AllocGlobal>(rt: &R, queues: &Shared, body: u64) -> Option<u64> {
+    let alloc = rt.alloc();
+    let (mut begun, mut numbers) = (Vec::new(alloc), Vec::new(alloc));
+    let text = format!(in alloc; "1000 send {body}").ok()?;
+    begin_five(rt, queues, text.as_str(), &mut begun)?;
+    keep_numbers(rt, begun, &mut numbers)?;
+    let at = Moment::new(1000)?;
+    let peek = receive(Timeout::new(0)).ok()?;
+    let answer = first_queue(rt, queues)?.ask(rt, alloc, at, peek, &NoGate);
+    count_own(&answer, text.as_str(), numbers.as_slice())
+}
+
 /// All cases, one after another. Each has its name behind `==`, and a stage of its own; an actor runs in a
 /// thread of its own behind a line `start`, and a caller behind `sends`, and `join` waits for the last one's end.
 #[test]
 fn scripts(rt: HostRuntime) -> Result<(), Fail> {
-    let alloc = rt.alloc();
     for case in CASES.split("== ") {
         let (name, lines) = case.split_once('\n').unwrap_or((case, ""));
-        let mut stage = Stage::new(rt)?;
-        let mut threads = Vec::new(alloc);
-        for line in lines.lines() {
-            if let Some(uid) = line.strip_prefix("start ") {
-                let (actor, mails) = stage.take(uid)?;
-                let directory = Arc::try_clone(&stage.directory)?;
-                let gate = Arc::try_clone(&stage.gate)?;
-                let serves = move || work(&rt, alloc, (actor, mails), &directory, &*gate);
-                threads.push(thread::spawn(&rt, serves)?)?;
-            } else if let Some(body) = line.strip_prefix("sends ") {
-                let body = number(body)?;
-                let directory = Arc::try_clone(&stage.directory)?;
-                let asks = move || sends(&rt, &directory, body).unwrap_or(0);
-                threads.push(thread::spawn(&rt, asks)?)?;
-            } else if let Some(wanted) = line.strip_prefix("join ") {
-                let count = threads.pop().ok_or("a thread")?.join(&rt);
-                assert_eq!(rt; count, number(wanted)?, "{name}");
-            } else {
-                let (call, wanted) = line.split_once(" => ").unwrap_or((line, "1"));
-                let answer = stage.answer(&rt, call);
-                let told = answer.or_else(|fault| format!(in alloc; "{fault:?}"))?;
-                assert_eq!(rt; told.as_str().trim(), wanted, "{name}: {line}");
-            }
-        }
+        Stage::new(rt)?.play(&rt, name, lines)?;
     }
     Ok(())
 }
 
 /// A queue is served, and a look at it is asked and answered. `OutOfMemory` where any allocation was refused,
 /// but where a task finds no memory to be woken, and an actor none to keep a poll: they go on.
-fn look_once<R: Wait>(rt: &R, host: HostRuntime) -> Result<String, Fault> {
+fn looked<R: Wait>(rt: &R, host: HostRuntime) -> Result<Stage, Fault> {
     let mut stage = Stage::new(host)?;
-    for line in "queue jobs;ask 1: 1000 look;poll 0;end 1;work 1".split(';') {
-        stage.answer(rt, line)?;
-    }
-    stage.answer(rt, "poll 0")
+    stage.answer_all(rt, "queue jobs;ask 1: 1000 look;poll 0;end 1;work 1;poll 0")?;
+    Ok(stage)
 }
 
 /// What finds no memory says so, and succeeds when it is made again. The gate runs this with ample memory;
 /// `rt try --test --fail-alloc N -- refused_memory` refuses the Nth allocation.
 #[test]
 fn refused_memory(rt: HostRuntime) -> Result<(), Fail> {
-    let told = match look_once(&rt, rt) {
-        Err(Fault::OutOfMemory) => look_once(&rt, rt)?,
-        told => told?,
+    let stage = match looked(&rt, rt) {
+        Err(Fault::OutOfMemory) => looked(&rt, rt)?,
+        stage => stage?,
     };
-    assert_eq!(rt; told.as_str(), "0 visible, 1 entries at 1000");
-    Ok(())
+    same(
+        "a look",
+        "poll 0",
+        stage.told(),
+        "0 visible, 1 entries at 1000",
+    )
 }

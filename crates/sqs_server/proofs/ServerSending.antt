@@ -1,4 +1,4 @@
--- What goes between the threads of the server, for desks that print nothing. Each type by the types of its fields, so that no search goes through all of them.
+-- What goes between the threads of the server, whose desks print on boards. Each type by the types of its fields, so that no search goes through all of them.
 use denote.RattleType.{RattleType}
 use denote.Enum.Declared as variants
 use denote.Param.Send.{IsSend, sendable, struct_send, enum_send, recorded_send}
@@ -10,12 +10,23 @@ use Rattle.std.proofs.alloc.Global.TheSendSync as global
 use Rattle.std.proofs.option.Option.TheSendSync as option
 use Rattle.crossbeam_channel.proofs.channel.Receiver.TheSendSync as channel
 use Rattle.futures.proofs.channel.oneshot.Receiver.TheSendSync as receiver
-use Rattle.desk.proofs.Sending.{pass_send, desk_send, desk_sync}
-use Rattle.desk.specs.contracts.printing.NoPress as nopress
-use Rattle.desk.specs.contracts.printing.NoPressPress.TheImpl as impl
-use Rattle.queue_actor.proofs.Sending.{future_send, mail_send}
-use Rattle.queue_actor.proofs.ActorSending.{directory_send, directory_sync}
+use Rattle.board.proofs.Sending.{publisher_send}
+use Rattle.board.specs.contracts.publisher.Publisher as publisher
+use Rattle.board.specs.contracts.publisher.PublisherPress.TheImpl as impl
+use Rattle.board.specs.contracts.told.Told as told
+use Rattle.desk.proofs.Sending.{pass_sends, desk_sends, desk_syncs}
+use Rattle.desk.specs.contracts.desk.Desk as desk
+use Rattle.desk.specs.contracts.pass.Pass as pass
+use Rattle.desk.specs.declared.printing.Press.{Ghosts}
+use Rattle.futures.specs.contracts.channel.oneshot.Sender as slot
+use Rattle.futures.specs.contracts.future.made.ready.Ready as ready
+use Rattle.queue_actor.proofs.Sending.{future_sends, mail_sends}
+use Rattle.queue_actor.proofs.ActorSending.{directory_sends, directory_syncs}
 use Rattle.queue_actor.specs.contracts.actor.Actor as actor
+use Rattle.queue_actor.specs.contracts.answer.Answer as answer
+use Rattle.queue_actor.specs.contracts.directory.Directory as directory
+use Rattle.queue_actor.specs.contracts.future.AskFuture as future
+use Rattle.queue_actor.specs.contracts.mail.Mail as mail
 use Rattle.bytes.proofs.shared.Bytes.TheSendSync as bytes
 use Rattle.bytes.specs.contracts.shared.Bytes as shared_bytes
 use Rattle.http.specs.contracts.response.Response as response
@@ -27,6 +38,7 @@ use Rattle.hyper.specs.contracts.error.Error as error
 use Rattle.hyper.specs.contracts.rt.TokioTimer as tokio_timer
 use Rattle.hyper.specs.contracts.server.conn.http1.Connection as served
 use Rattle.std.specs.contracts.alloc.Global as heap_handle
+use Rattle.std.specs.contracts.result.Result as result
 use Rattle.std.specs.contracts.impls.GlobalAllocator.TheImpl as allocator
 use Rattle.tokio.proofs.net.stream.TcpStream.TheSendSync as tcp
 use Rattle.tokio.specs.contracts.net.stream.TcpStream as stream
@@ -44,54 +56,98 @@ use Rattle.sqs_server.specs.contracts.front.Front as front
 use Rattle.sqs_server.specs.contracts.queues.Maker as maker
 use Rattle.sqs_server.specs.contracts.queues.Queue as queue
 use Rattle.sqs_server.specs.contracts.queues.Serving as serving
+use Rattle.sqs_server.specs.contracts.serving.Showing as showing
 use Rattle.sqs_server.specs.contracts.stage.Exchange as exchange
 use Rattle.sqs_server.specs.contracts.stage.Stage as stage
+use Rattle.sqs_server.specs.contracts.statistics.StatisticsFront as statistics
 
-queue_send : IsSend queue.the_row
-queue_send = search (desk_send, desk_sync, pass_send, mail_send, sendable, crosses) depth 40 fits 100000
+-- what a queue is served with, where the runtime may go to another thread
+module _ (T : RattleType) (s : IsSend T) where
+  abbrev Prints : RattleType
+  Prints = publisher.the_row T
 
-exchange_field_send : IsSend (exchange.the_field).row
-exchange_field_send =
-    struct_send
-    (parts.shape exchange.the_type) (
-      search (sendable, crosses) depth 40 fits 100000,
-      (
-        search (mail_send, sendable, crosses) depth 40 fits 100000,
+  abbrev g : Ghosts Prints.Denot told.the_row.Denot
+  g = impl.ghosts T
+
+  abbrev Slots : RattleType
+  Slots = slot.the_row (answer.the_row Prints told.the_row g)
+
+  prints_send : IsSend Prints
+  prints_send = publisher_send T s
+
+  desk_send : IsSend (desk.the_row Prints told.the_row g)
+  desk_send = desk_sends Prints told.the_row g prints_send
+
+  desk_sync : IsSync (desk.the_row Prints told.the_row g)
+  desk_sync = desk_syncs Prints told.the_row g prints_send
+
+  pass_send : IsSend (pass.the_row Prints told.the_row g)
+  pass_send = pass_sends Prints told.the_row g prints_send
+
+  mail_send : IsSend (mail.the_row Prints Slots told.the_row g)
+  mail_send = mail_sends Prints told.the_row g prints_send
+
+  future_send : IsSend (future.the_row Prints told.the_row g)
+  future_send = future_sends Prints told.the_row g prints_send
+
+  -- part by part, as a field of what goes with it
+  actor_field_send : IsSend (actor.the_field Prints told.the_row g).row
+  actor_field_send = search (desk_send, desk_sync, pass_send, sendable, crosses) depth 40 fits 100000
+
+  pub directory_send : IsSend (directory.the_row Prints Slots told.the_row g)
+  directory_send = directory_sends Prints told.the_row g prints_send
+
+  pub directory_sync : IsSync (directory.the_row Prints Slots told.the_row g)
+  directory_sync = directory_syncs Prints told.the_row g prints_send
+
+  queue_send : IsSend (queue.the_row T)
+  queue_send = search (desk_send, desk_sync, pass_send, mail_send, sendable, crosses) depth 40 fits 100000
+
+  exchange_field_send : IsSend (exchange.the_field T).row
+  exchange_field_send =
+      struct_send
+      (parts.shape (exchange.the_type T)) (
+        search (sendable, crosses) depth 40 fits 100000,
         (
-          search (sendable, crosses) depth 40 fits 100000,
-          (purpose.the_field_send, (search (future_send, sendable) depth 40 fits 100000, tt)),
-        ),
-      ),
-    )
-
-stage_field_send : IsSend (stage.the_field).row
-stage_field_send =
-    enum_send
-    (variants.shape stage.the_type) (
-      (arriving.the_field_send, tt),
-      (
-        (creation.the_field_send, tt),
-        (
-          (creation.the_field_send, (receiver.the_field_send _ made.the_send, tt)),
+          search (mail_send, sendable, crosses) depth 40 fits 100000,
           (
+            search (sendable, crosses) depth 40 fits 100000,
+            (purpose.the_field_send, (search (future_send, sendable) depth 40 fits 100000, tt)),
+          ),
+        ),
+      )
+
+  stage_field_send : IsSend (stage.the_field T).row
+  stage_field_send =
+      enum_send
+      (variants.shape (stage.the_type T)) (
+        (arriving.the_field_send, tt),
+        (
+          (creation.the_field_send, tt),
+          (
+            (creation.the_field_send, (receiver.the_field_send _ made.the_send, tt)),
             (
-              search (sendable, crosses) depth 40 fits 100000,
               (
-                option.the_field_send queue.the_row queue_send,
-                (search (sendable, crosses) depth 40 fits 100000, (step.the_field_send, tt)),
+                search (sendable, crosses) depth 40 fits 100000,
+                (
+                  option.the_field_send (queue.the_row T) queue_send,
+                  (search (sendable, crosses) depth 40 fits 100000, (step.the_field_send, tt)),
+                ),
               ),
-            ),
-            (
-              (exchange_field_send, tt),
-              ((sent.the_field_send, tt), (tt, tt)),
+              (
+                (exchange_field_send, tt),
+                ((sent.the_field_send, tt), (tt, tt)),
+              ),
             ),
           ),
         ),
-      ),
-    )
+      )
 
 pub front_send : (T : RattleType) → IsSend T → IsSend (front.the_row T)
-front_send T s = search (directory_send, directory_sync, order.the_send, sendable, crosses) depth 40 fits 100000
+front_send T s =
+    let one = directory_send T s in
+    let both = directory_sync T s in
+    search (order.the_send, sendable, crosses) depth 40 fits 100000
 
 pub answering_send : (T : RattleType) → IsSend T → IsSend (answering.the_row T)
 answering_send T s =
@@ -103,7 +159,7 @@ answering_send T s =
     (
     struct_send
     (parts.shape (answering.the_type T))
-    (global.the_field_send, (option.the_field_send (front.the_row T) (front_send T s), (stage_field_send, tt)))
+    (global.the_field_send, (option.the_field_send (front.the_row T) (front_send T s), (stage_field_send T s, tt)))
     )
 
 -- ---- connections
@@ -123,10 +179,24 @@ served_send T s = connection.the_send _ _ _ _ _ _ _ tcp.the_send (front_send T s
 pub caller_send : (T : RattleType) → IsSend T → IsSend (guest_type.the_row (Served T) T)
 caller_send T s = guest.the_send (Served T) T (served_send T s) s
 
--- ---- threads of their own
+-- those who ask for statistics
 
-actor_field_send : IsSend (actor.the_field nopress.the_row (unit-field).row impl.ghosts).row
-actor_field_send = search (desk_send, desk_sync, pass_send, sendable, crosses) depth 40 fits 100000
+pub statistics_send : (T : RattleType) → IsSend T → IsSend (statistics.the_row T)
+statistics_send T s =
+    let one = directory_send T s in
+    let both = directory_sync T s in
+    search (sendable, crosses) depth 40 fits 100000
+
+abbrev Viewed : RattleType → RattleType
+Viewed T = served.the_row stream.the_row (statistics.the_row T) Body (tokio_timer.the_row T) (response.the_row Body) error.the_row (ready.the_row (result.the_row (response.the_row Body) error.the_row))
+
+viewed_send : (T : RattleType) → IsSend T → IsSend (Viewed T)
+viewed_send T s = connection.the_send _ _ _ _ _ _ _ tcp.the_send (statistics_send T s) body_send (timer.the_send T s) (search (body_send, sendable, crosses) depth 40 fits 100000)
+
+pub viewer_send : (T : RattleType) → IsSend T → IsSend (guest_type.the_row (Viewed T) T)
+viewer_send T s = guest.the_send (Viewed T) T (viewed_send T s) s
+
+-- ---- threads of their own
 
 pub serving_send : (T : RattleType) → IsSend T → IsSend (serving.the_row T)
 serving_send T s =
@@ -142,10 +212,10 @@ serving_send T s =
       (
         global.the_field_send,
         (
-          actor_field_send,
+          actor_field_send T s,
           (
-            search (channel.the_send, mail_send, sendable, crosses) depth 40 fits 100000,
-            (search (directory_send, directory_sync, sendable, crosses) depth 40 fits 100000, tt),
+            (let one = mail_send T s in search (channel.the_send, sendable, crosses) depth 40 fits 100000),
+            ((let one = directory_send T s in let both = directory_sync T s in search (sendable, crosses) depth 40 fits 100000), tt),
           ),
         ),
       ),
@@ -153,4 +223,13 @@ serving_send T s =
     )
 
 pub maker_send : (T : RattleType) → IsSend T → IsSend (maker.the_row T)
-maker_send T s = search (order.the_send, channel.the_send, directory_send, directory_sync, sendable, crosses) depth 40 fits 100000
+maker_send T s =
+    let one = directory_send T s in
+    let both = directory_sync T s in
+    search (order.the_send, channel.the_send, sendable, crosses) depth 40 fits 100000
+
+pub showing_send : (T : RattleType) → IsSend T → IsSend (showing.the_row T)
+showing_send T s =
+    let one = statistics_send T s in
+    let other = timer.the_send T s in
+    search (sendable, crosses) depth 40 fits 100000

@@ -2,7 +2,7 @@
 use Rattle.std.proofs.Common.{◌≡◌, ◌≢◌, ℕ, ap, ◌∙◌}
 use Rattle.std.specs.Prelude.{⊤}
 use Rattle.std.specs.Arc.{arc_value}
-use Rattle.desk.specs.declared.printing.NoPress.{NoPress}
+use Rattle.board.specs.Printed.{Publications}
 use Rattle.futures.specs.Channel.{canceled_source}
 use Rattle.futures.specs.declared.channel.oneshot.Sender.{Sender}
 use Rattle.queue_actor.specs.Answered.{Answered}
@@ -14,9 +14,9 @@ use Rattle.sqs_server.specs.Stages.{Asks}
 use Rattle.sqs_server.specs.Times.{wait_limit}
 
 -- an ask whose wait ends at a moment that was computed before, in a mailbox that says nothing
-pub asks : (queue : Queue) (at : ℕ) (command : Command) (seconds until : ℕ) (asking : Asking) → until ≡ wait_limit at seconds →
+pub asks : {R : Type 0} (queue : Queue R) (at : ℕ) (command : Command) (seconds until : ℕ) (asking : Asking) → until ≡ wait_limit at seconds →
     IfSent asking (λ asked source. (asked ≡ question (arc_value queue.desk) queue.pass at command until)
-    × ((ask : Ask NoPress (Sender Answered) ⊤) × (question_of ask ≡ asked) × (canceled_source ask.reply ≡ source) × ⊤)) →
+    × ((ask : Ask Publications (Sender Answered) Publications) × (question_of ask ≡ asked) × (canceled_source ask.reply ≡ source) × ⊤)) →
     IfUnsent asking (λ kept. (kept ≡ queue.pass) × ⊤) → asking ≢ Asking.Over → Asks queue at command seconds asking
 asks queue at command seconds until (Asking.Sent asked source) e sent unsent begun =
     (sent.0 ∙ ap (question (arc_value queue.desk) queue.pass at command) e, tt, begun)

@@ -7,3 +7,4 @@ pub mod Task
 pub mod Turns
 pub mod Stages
 pub mod Responses
+pub mod Viewed

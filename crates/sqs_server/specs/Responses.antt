@@ -28,44 +28,6 @@ use Rattle.sqs_server.specs.Head.{body_limit, denial_of}
 use Rattle.sqs_server.specs.Sent.{HoldsBody, denied, refused, reply_headers}
 use Rattle.sqs_server.specs.Stages.{Turns}
 
--- ---- how a request begins
-
--- denied by its head, or its body comes, under the limit
-abbrev pub Judged : Parts → Incoming TcpStream → Option Denial → Stage → Type 0
-Judged head body (Some denial) stage = stage ≡ stages.Sending (denied denial)
-Judged head body None stage =
-    (arriving : Arriving) × (stage ≡ stages.Collecting arriving) × (arriving.head ≡ head)
-    × IsCollectOf arriving.body record { remaining = body_limit; inner = body }
-
--- the same, by the method and by the least size that its body can have: the announced one, where there is one
-abbrev pub IsFirst : Request (Incoming TcpStream) → Stage → Type 0
-IsFirst asked stage =
-    (hint : SizeHint) × (exact hint ≡ size_left (request.body_of asked).kind)
-    × Judged (request.head_of asked) (request.body_of asked) (denial_of (request.head_of asked).method (lower hint)) stage
-
--- ---- how it ends
-
--- a request that is at a stage may end so: turn by turn
-pub data MayEnd : Stage → Result Sent Error → Type 0 where
-  ends : {stage : Stage} → {ended : Result Sent Error} → Turns stage (Goes (Ends ended)) → MayEnd stage ended
-  goes : {stage next : Stage} → {ended : Result Sent Error} → Turns stage (Goes (On next)) → MayEnd next ended → MayEnd stage ended
-  waits : {stage left : Stage} → {ended : Result Sent Error} → Turns stage (Waits left) → MayEnd left ended → MayEnd stage ended
-
--- a fact of where a request waits
-abbrev pub OnHeld : Halt → Type 0 → Type 0
-OnHeld (halts.Waits stage) P = P
-OnHeld (halts.Ends ended) P = ⊤
-
--- a request that is at a stage may end as it has ended; or what it waits at may end only as it may
-abbrev pub Halts : Stage → Halt → Type 0
-Halts stage (halts.Waits left) = (ended : Result Sent Error) → MayEnd left ended → MayEnd stage ended
-Halts stage (halts.Ends ended) = MayEnd stage ended
-
--- where there was no memory to begin, what is known by the head is sent, and else that refusal
-abbrev pub without_memory : Stage → Sent
-without_memory (stages.Sending sent) = sent
-without_memory stage = refused OutOfMemory
-
 -- ---- what is sent
 
 -- a response sends this: its status, its bytes, and the content type, unless there was no memory for that
@@ -79,7 +41,47 @@ abbrev pub Responds : Result Sent Error → Result (Response (Full (List ℕ))) 
 Responds (Ok sent) given = (response : Response (Full (List ℕ))) × (given ≡ Ok response) × Holds sent response
 Responds (Err error) given = given ≡ Err error
 
--- a request that is at a stage may get this, where there was memory to begin, and where there was none
-abbrev pub Gives : Bool → Stage → Result (Response (Full (List ℕ))) Error → Type 0
-Gives true stage given = (ended : Result Sent Error) × MayEnd stage ended × Responds ended given
-Gives false stage given = Responds (Ok (without_memory stage)) given
+-- R is the runtime that the server waits by
+module _ {R : Type 0} where
+  -- ---- how a request begins
+
+  -- denied by its head, or its body comes, under the limit
+  abbrev pub Judged : Parts → Incoming TcpStream → Option Denial → Stage R → Type 0
+  Judged head body (Some denial) stage = stage ≡ stages.Sending (denied denial)
+  Judged head body None stage =
+      (arriving : Arriving) × (stage ≡ stages.Collecting arriving) × (arriving.head ≡ head)
+      × IsCollectOf arriving.body record { remaining = body_limit; inner = body }
+
+  -- the same, by the method and by the least size that its body can have: the announced one, where there is one
+  abbrev pub IsFirst : Request (Incoming TcpStream) → Stage R → Type 0
+  IsFirst asked stage =
+      (hint : SizeHint) × (exact hint ≡ size_left (request.body_of asked).kind)
+      × Judged (request.head_of asked) (request.body_of asked) (denial_of (request.head_of asked).method (lower hint)) stage
+
+  -- ---- how it ends
+
+  -- a request that is at a stage may end so: turn by turn
+  pub data MayEnd : Stage R → Result Sent Error → Type 0 where
+    ends : {stage : Stage R} → {ended : Result Sent Error} → Turns stage (Goes (Ends ended)) → MayEnd stage ended
+    goes : {stage next : Stage R} → {ended : Result Sent Error} → Turns stage (Goes (On next)) → MayEnd next ended → MayEnd stage ended
+    waits : {stage left : Stage R} → {ended : Result Sent Error} → Turns stage (Waits left) → MayEnd left ended → MayEnd stage ended
+
+  -- a fact of where a request waits
+  abbrev pub OnHeld : Halt R → Type 0 → Type 0
+  OnHeld (halts.Waits stage) P = P
+  OnHeld (halts.Ends ended) P = ⊤
+
+  -- a request that is at a stage may end as it has ended; or what it waits at may end only as it may
+  abbrev pub Halts : Stage R → Halt R → Type 0
+  Halts stage (halts.Waits left) = (ended : Result Sent Error) → MayEnd left ended → MayEnd stage ended
+  Halts stage (halts.Ends ended) = MayEnd stage ended
+
+  -- where there was no memory to begin, what is known by the head is sent, and else that refusal
+  abbrev pub without_memory : Stage R → Sent
+  without_memory (stages.Sending sent) = sent
+  without_memory stage = refused OutOfMemory
+
+  -- a request that is at a stage may get this, where there was memory to begin, and where there was none
+  abbrev pub Gives : Bool → Stage R → Result (Response (Full (List ℕ))) Error → Type 0
+  Gives true stage given = (ended : Result Sent Error) × MayEnd stage ended × Responds ended given
+  Gives false stage given = Responds (Ok (without_memory stage)) given

@@ -6,7 +6,7 @@ use Rattle.aws_json.specs.Steps.{result_map}
 use Rattle.aws_json.specs.declared.reply.ReplyShape.{ReplyShape}
 use Rattle.aws_json.specs.declared.reply.ReplyShape.TheVariants as shapes
 use Rattle.aws_json.specs.declared.request.Request.{Request}
-use Rattle.desk.specs.declared.printing.NoPress.{NoPress}
+use Rattle.board.specs.Printed.{Publications}
 use Rattle.futures.specs.Channel.{canceled_source, completed_source}
 use Rattle.futures.specs.declared.channel.oneshot.Receiver.{Receiver}
 use Rattle.http.specs.declared.request.Parts.{Parts}
@@ -66,17 +66,7 @@ use Rattle.sqs_server.specs.Sent.{busy, denied, refused, sent_for}
 use Rattle.sqs_server.specs.Task.{Begins}
 use Rattle.sqs_server.specs.Times.{wait_limit}
 
--- ---- what ends a request
-
--- a refusal
-abbrev pub refuses : Fault → Next
-refuses fault = Ends (Ok (refused fault))
-
--- an answer; a reply that there is no memory for is told as that refusal
-abbrev pub Tells : Result ReplyShape Fault → Next → Type 0
-Tells answer next =
-    (sent : Sent) × (next ≡ Ends (Ok sent)) × ((sent ≡ sent_for answer) ⊎ (sent ≡ refused OutOfMemory))
-    × IfErr answer (λ fault. sent ≡ refused fault)
+-- ---- what a client is sent
 
 -- a body that did not come whole: one that is too long is denied, want of memory is refused, and where the connection failed nothing is sent
 abbrev pub SentOfError : LimitedError Error → Result Sent Error → Type 0
@@ -84,21 +74,15 @@ SentOfError limits.LengthLimit sent = sent ≡ Ok (denied BodyTooLarge)
 SentOfError (limits.Body error) sent =
     ((kind_of error ≡ kinds.OutOfMemory) × (sent ≡ Ok (refused OutOfMemory))) ⊎ ((kind_of error ≢ kinds.OutOfMemory) × (sent ≡ Err error))
 
--- ---- queues
-
--- a queue that is looked for is not there, or there is no memory for a pass of it
-abbrev pub IsMissed : Fault → Type 0
-IsMissed fault = (fault ≡ QueueDoesNotExist) ⊎ (fault ≡ OutOfMemory)
-
 -- what a client is sent where no queue is found for it, or too much mail waits for the one that is
 abbrev pub IsTurnedAway : Sent → Type 0
 IsTurnedAway sent = (sent ≡ refused QueueDoesNotExist) ⊎ ((sent ≡ refused OutOfMemory) ⊎ (sent ≡ busy))
 
--- a queue was found that was opened under a name, and this holds of it; or the request is turned away
-abbrev pub Opens : List ℕ → (Queue → Type 0) → Next → Type 0
-Opens name P next =
-    ((queue : Queue) × (queue.pass.start.name ≡ name) × P queue)
-    ⊎ ((sent : Sent) × IsTurnedAway sent × (next ≡ Ends (Ok sent)))
+-- ---- what is found, and what becomes of it
+
+-- a queue that is looked for is not there, or there is no memory for a pass of it
+abbrev pub IsMissed : Fault → Type 0
+IsMissed fault = (fault ≡ QueueDoesNotExist) ⊎ (fault ≡ OutOfMemory)
 
 -- the uid of the dead-letter queue that a queue of a name is to have, 0 for none: it has to be there, and to be another one
 abbrev pub IsTarget : List ℕ → Option (Option (List ℕ)) → Result ℕ Fault → Type 0
@@ -106,166 +90,13 @@ IsTarget own (Some (Some name)) found =
     MatchBool (bytes_eq name own) (found ≡ Err InvalidAttributeValue) (IfErr found (λ fault. fault ≡ InvalidAttributeValue))
 IsTarget own asked found = found ≡ Ok 0
 
--- the target that is asked for a queue of a name was found, and this holds of its uid; or the request is refused
-abbrev pub Targets : List ℕ → RequestedAttributes → (ℕ → Type 0) → Next → Type 0
-Targets own wish P next =
-    (found : Result ℕ Fault) × IsTarget own (requested_target wish) found × IfOk found P × IfErr found (λ fault. next ≡ refuses fault)
-
--- ---- a command was answered
-
--- one that closes a queue or gives it settings: what it changes beside the queue its actor does
-abbrev pub Changed : {T : Type 0} → Result T Fault → Next → Type 0
-Changed (Ok done) next = Tells (Ok shapes.Nothing) next
-Changed (Err fault) next = next ≡ refuses fault
-
--- a look at a queue whose name another is to have: it is that one where it has the settings already
-abbrev pub Compared : Creation → QueueSettings → Next → Type 0
-Compared creation settings next =
-    Targets creation.name creation.wish (λ target.
-    MatchBool (same_settings (settings_with settings creation.wish target) settings)
-    (Tells (Ok (shapes.QueueUrl creation.name)) next) (next ≡ refuses QueueNameExists)) next
-
--- the same; one that was closed is made anew
-abbrev pub Seen : Creation → Reply → Next → Type 0
-Seen creation (replies.Looked look) next =
-    MatchBool look.closed (next ≡ On (stages.Creating creation)) (Compared creation look.settings next)
-Seen creation reply next = Tells (Ok (shapes.QueueUrl creation.name)) next
-
--- the same; one whose actor has ended is made anew
-abbrev pub Looked : Creation → Result Performed Fault → Next → Type 0
-Looked creation (Ok done) next = Seen creation done.reply next
-Looked creation (Err ActorGone) next = next ≡ On (stages.Creating creation)
-Looked creation (Err fault) next = next ≡ refuses fault
-
--- what became of a command is for its purpose
-abbrev pub Resumes : ℕ → Option Queue → ℕ → Purpose → Result Performed Fault → Next → Type 0
-Resumes uid queue at (purposes.Plan then) outcome next =
-    (step : Step) × (next ≡ On (stages.Going uid queue at step)) × Follows then step (after uid then outcome)
-Resumes uid queue at purposes.Change outcome next = Changed outcome next
-Resumes uid queue at (purposes.Existing creation) outcome next = Looked creation outcome next
-
 -- what became of a command that was answered
 abbrev pub outcome : Command → Result Reply Fault → Result Performed Fault
 outcome command reply = result_map (λ told. record { command = command; reply = told }) reply
 
--- It goes on with the queue that answered, at the moment and for the purpose of the exchange; where there is no answer, without a queue and with
--- the fault.
-abbrev pub Returned : {P T : Type 0} → Exchange → Result Answered (AskFault P T) → Next → Type 0
-Returned exchange (Ok answer) next =
-    (queue : Queue) × (queue.uid ≡ exchange.uid) × (arc_value queue.desk ≡ answer.desk) × (queue.pass ≡ answer.pass)
-    × Resumes exchange.uid (Some queue) exchange.at exchange.purpose (outcome answer.command answer.reply) next
-Returned exchange (Err lost) next = Resumes exchange.uid None exchange.at exchange.purpose (Err lost.fault) next
-
--- ---- a command is asked
-
--- A command is sent to a queue at a moment, with its desk and its pass, and waits so many seconds at most for its answer. A mail that could not be put
--- has left the pass where it was.
-abbrev pub Asks : Queue → ℕ → Command → ℕ → Asking → Type 0
-Asks queue at command seconds asking =
-    IfSent asking (λ asked source. asked ≡ question (arc_value queue.desk) queue.pass at command (wait_limit at seconds))
-    × IfUnsent asking (λ kept. kept ≡ queue.pass) × (asking ≢ Asking.Over)
-
--- The same, for a purpose. Where there is no memory for the mail, that is what became of the command.
-abbrev pub Sends : Queue → ℕ → Command → ℕ → Purpose → Next → Type 0
-Sends queue at command seconds purpose next =
-    ((exchange : Exchange) × (next ≡ On (stages.Asking exchange)) × (exchange.uid ≡ queue.uid) × (exchange.at ≡ at)
-    × (exchange.purpose ≡ purpose) × Asks queue at command seconds exchange.future)
-    ⊎ Resumes queue.uid None at purpose (Err OutOfMemory) next
-
--- the queue of a uid is looked for, and asked; where it is not to be had, that is what became of the command
-abbrev pub AsksFound : ℕ → ℕ → Command → ℕ → Then → Next → Type 0
-AsksFound uid at command seconds then next =
-    ((queue : Queue) × (queue.uid ≡ uid) × Sends queue at command seconds (purposes.Plan then) next)
-    ⊎ ((fault : Fault) × IsMissed fault × Resumes uid None at (purposes.Plan then) (Err fault) next)
-
--- a step of the queue of a uid, at a moment
-abbrev pub GoesOn : ℕ → Option Queue → ℕ → Step → Next → Type 0
-GoesOn uid queue at (steps.Answer answer) next = Tells answer next
-GoesOn uid (Some queue) at (steps.Ask command seconds then) next = Sends queue at command seconds (purposes.Plan then) next
-GoesOn uid None at (steps.Ask command seconds then) next = AsksFound uid at command seconds then next
-
--- ---- a request begins
-
--- a queue of the name that is told is there
-abbrev pub TellsUrl : List ℕ → Next → Type 0
-TellsUrl name next = Tells (Ok (shapes.QueueUrl name)) next ⊎ (next ≡ refuses QueueDoesNotExist)
-
--- the names of a directory that begin with a prefix are told
-abbrev pub TellsUrls : List ℕ → Next → Type 0
-TellsUrls prefix next =
-    ((listed : Directory) × IsDirectory listed × Tells (Ok (shapes.QueueUrls (names_listed listed prefix))) next)
-    ⊎ (next ≡ refuses OutOfMemory)
-
--- names are told of queues that have a queue for their dead letters
-abbrev pub TellsSources : Next → Type 0
-TellsSources next =
-    ((names : List (List ℕ)) × Tells (Ok (shapes.SourceQueueUrls names)) next)
-    ⊎ ((fault : Fault) × IsMissed fault × (next ≡ refuses fault))
-
--- what a task begins with at a moment
-abbrev pub Begun : Task → ℕ → Next → Type 0
-Begun (tasks.Create name wish) at next = next ≡ On (stages.Creating record { name = name; wish = wish; at = at })
-Begun (tasks.Delete name) at next = Opens name (λ queue. Sends queue at commands.Close 0 purposes.Change next) next
-Begun (tasks.Set name wish) at next =
-    Opens name (λ queue. Targets name wish (λ target.
-    Sends queue at (commands.Set wish target) 0 purposes.Change next) next) next
-Begun (tasks.Url name) at next = TellsUrl name next
-Begun (tasks.Urls prefix) at next = TellsUrls prefix next
-Begun (tasks.Sources name) at next = TellsSources next
-Begun (tasks.Ask name step) at next = Opens name (λ queue. next ≡ On (stages.Going queue.uid (Some queue) at step)) next
-
 -- the value of the header that names the action
 abbrev pub target_in : Parts → Option (List ℕ)
 target_in head = option_map (λ value. value.bytes) (get head.headers (codes "x-amz-target"))
-
--- A request is judged by its head and these bytes, and begins with its task at one moment; or it is refused. Want of memory may come in the place of
--- what the bytes ask.
-abbrev pub IsJudged : Parts → List ℕ → Next → Type 0
-IsJudged head bytes next =
-    (asked : Result Request Fault) × Meets asked (asked_of (target_in head) bytes)
-    × IfErr (action_of (target_in head)) (λ fault. asked ≡ Err fault)
-    × IfOk asked (λ request. (at : ℕ) × (task : Task) × Begins request task × Begun task at next)
-    × IfErr asked (λ fault. next ≡ refuses fault)
-
--- the same of a body that has come, unless there is no memory for its bytes in one piece
-abbrev pub IsRead : Parts → Collected → Next → Type 0
-IsRead head body next = IsJudged head (collected_bytes body) next ⊎ (next ≡ refuses OutOfMemory)
-
--- ---- a queue is to be there
-
--- what is ordered: a queue of the name without alarms, with what is wished in the place of the defaults, at the moment of the request
-pub record IsOrder (creation : Creation) (target : ℕ) (order : Order) : Type 0 where
-  pub name : order.new.name ≡ creation.name
-  pub settings : order.new.settings ≡ settings_with default_settings creation.wish target
-  pub rules : order.new.rules.items ≡ []
-  pub moment : order.at ≡ creation.at
-
--- One is ordered, and what became of it is awaited where it is told. The client may be turned away
-abbrev pub Ordered : Creation → ℕ → Next → Type 0
-Ordered creation target next =
-    ((order : Order) × IsOrder creation target order
-    × ((made : Receiver Made) × (canceled_source order.made ≡ completed_source made) × (next ≡ On (stages.Making creation made))))
-    ⊎ ((next ≡ refuses OutOfMemory) ⊎ (next ≡ Ends (Ok busy)))
-
--- one was ordered: it is there, or one of its name came to be there meanwhile, which is looked for, or it is refused
-abbrev pub Makes : {T : Type 0} → Creation → Result T Fault → Next → Type 0
-Makes creation (Ok made) next = Tells (Ok (shapes.QueueUrl creation.name)) next
-Makes creation (Err QueueNameExists) next = next ≡ On (stages.Creating creation)
-Makes creation (Err fault) next = next ≡ refuses fault
-
--- one is ordered, or that of its name is looked at; while that one is being opened, what is asked for comes back
-abbrev pub Creates : Creation → Result Next Creation → Type 0
-Creates creation (Ok next) =
-    Targets creation.name creation.wish (λ target.
-    Ordered creation target next ⊎ Opens creation.name (λ queue. Sends queue creation.at commands.Look 0 (purposes.Existing creation) next) next) next
-Creates creation (Err back) = back ≡ creation
-
--- ---- all stages
-
--- a stage goes on, and this holds of it; or it waits, and this holds of the stage that is left
-abbrev pub Leads : (Next → Type 0) → (Stage → Type 0) → Turn → Type 0
-Leads goes waits (Goes next) = goes next
-Leads goes waits (Waits stage) = waits stage
 
 -- what may come of a body that is collected: the data of all its frames under its limit, or the first error, or want of memory
 abbrev pub MayCollect : Collect (Limited (Incoming TcpStream)) → Result Collected (LimitedError Error) → Type 0
@@ -274,42 +105,217 @@ MayCollect body given =
     gathering.Collects (λ piece bytes. bytes ≡ piece) (Limits (λ piece. piece) (IncomingYields body.body.inner) body.body.remaining) held given)
     ⊎ IsErrAnd given (λ error. (cause : Error) × (error ≡ limits.Body cause) × (kind_of cause ≡ kinds.OutOfMemory))
 
--- behind a head it has come, or it did not come whole
-abbrev pub IsCollected : Parts → Result Collected (LimitedError Error) → Next → Type 0
-IsCollected head (Ok body) next = IsRead head body next
-IsCollected head (Err error) next = (sent : Result Sent Error) × SentOfError error sent × (next ≡ Ends sent)
+-- what is ordered: a queue of the name without alarms, with what is wished in the place of the defaults, at the moment of the request
+pub record IsOrder (creation : Creation) (target : ℕ) (order : Order) : Type 0 where
+  pub name : order.new.name ≡ creation.name
+  pub settings : order.new.settings ≡ settings_with default_settings creation.wish target
+  pub rules : order.new.rules.items ≡ []
+  pub moment : order.at ≡ creation.at
 
--- a body comes, or still comes, behind the same head, and may give then only what it may give now
-abbrev pub Collects : Arriving → Turn → Type 0
-Collects arriving =
-    Leads (λ next. (given : Result Collected (LimitedError Error)) × MayCollect arriving.body given × IsCollected arriving.head given next)
-    (λ stage. (left : Arriving) × (stage ≡ stages.Collecting left) × (left.head ≡ arriving.head)
-    × ((given : Result Collected (LimitedError Error)) → MayCollect left.body given → MayCollect arriving.body given))
+-- R is the runtime that the server waits by
+module _ {R : Type 0} where
+  -- ---- what ends a request
 
--- a queue is to be there
-abbrev pub Names : Creation → Turn → Type 0
-Names creation = Leads (λ next. Creates creation (Ok next)) (λ stage. stage ≡ stages.Creating creation)
+  -- a refusal
+  abbrev pub refuses : Fault → Next R
+  refuses fault = Ends (Ok (refused fault))
 
--- a queue was ordered; where the thread that makes queues is gone, there was no memory for it
-abbrev pub AwaitsQueue : Creation → Turn → Type 0
-AwaitsQueue creation =
-    Leads (λ next. ((outcome : Result ⊤ Fault) × Makes creation outcome next) ⊎ (next ≡ refuses OutOfMemory))
-    (λ stage. (made : Receiver Made) × (stage ≡ stages.Making creation made))
+  -- an answer; a reply that there is no memory for is told as that refusal
+  abbrev pub Tells : Result ReplyShape Fault → Next R → Type 0
+  Tells answer next =
+      (sent : Sent) × (next ≡ Ends (Ok sent)) × ((sent ≡ sent_for answer) ⊎ (sent ≡ refused OutOfMemory))
+      × IfErr answer (λ fault. sent ≡ refused fault)
 
--- a queue was asked
-abbrev pub AwaitsAnswer : Exchange → Turn → Type 0
-AwaitsAnswer exchange =
-    Leads (λ next. (given : Result Answered (AskFault NoPress ⊤)) × MayGive exchange.future given × Returned exchange given next)
-    (λ stage. (left : Exchange) × (stage ≡ stages.Asking left) × (left.uid ≡ exchange.uid) × (left.at ≡ exchange.at)
-    × (left.purpose ≡ exchange.purpose) × (waiting_question left.future ≡ waiting_question exchange.future)
-    × ((given : Result Answered (AskFault NoPress ⊤)) → MayGive left.future given → MayGive exchange.future given))
+  -- ---- queues
 
--- what becomes of a stage that is looked at
-abbrev pub Turns : Stage → Turn → Type 0
-Turns (stages.Collecting arriving) turn = Collects arriving turn
-Turns (stages.Creating creation) turn = Names creation turn
-Turns (stages.Making creation made) turn = AwaitsQueue creation turn
-Turns (stages.Asking exchange) turn = AwaitsAnswer exchange turn
-Turns (stages.Going uid queue at step) turn = (next : Next) × (turn ≡ Goes next) × GoesOn uid queue at step next
-Turns (stages.Sending sent) turn = turn ≡ Goes (Ends (Ok sent))
-Turns stages.Over turn = turn ≡ Goes (refuses OutOfMemory)
+  -- a queue was found that was opened under a name, and this holds of it; or the request is turned away
+  abbrev pub Opens : List ℕ → (Queue R → Type 0) → Next R → Type 0
+  Opens name P next =
+      ((queue : Queue R) × (queue.pass.start.name ≡ name) × P queue)
+      ⊎ ((sent : Sent) × IsTurnedAway sent × (next ≡ Ends (Ok sent)))
+
+  -- the target that is asked for a queue of a name was found, and this holds of its uid; or the request is refused
+  abbrev pub Targets : List ℕ → RequestedAttributes → (ℕ → Type 0) → Next R → Type 0
+  Targets own wish P next =
+      (found : Result ℕ Fault) × IsTarget own (requested_target wish) found × IfOk found P × IfErr found (λ fault. next ≡ refuses fault)
+
+  -- ---- a command was answered
+
+  -- one that closes a queue or gives it settings: what it changes beside the queue its actor does
+  abbrev pub Changed : {T : Type 0} → Result T Fault → Next R → Type 0
+  Changed (Ok done) next = Tells (Ok shapes.Nothing) next
+  Changed (Err fault) next = next ≡ refuses fault
+
+  -- a look at a queue whose name another is to have: it is that one where it has the settings already
+  abbrev pub Compared : Creation → QueueSettings → Next R → Type 0
+  Compared creation settings next =
+      Targets creation.name creation.wish (λ target.
+      MatchBool (same_settings (settings_with settings creation.wish target) settings)
+      (Tells (Ok (shapes.QueueUrl creation.name)) next) (next ≡ refuses QueueNameExists)) next
+
+  -- the same; one that was closed is made anew
+  abbrev pub Seen : Creation → Reply → Next R → Type 0
+  Seen creation (replies.Looked look) next =
+      MatchBool look.closed (next ≡ On (stages.Creating creation)) (Compared creation look.settings next)
+  Seen creation reply next = Tells (Ok (shapes.QueueUrl creation.name)) next
+
+  -- the same; one whose actor has ended is made anew
+  abbrev pub Looked : Creation → Result Performed Fault → Next R → Type 0
+  Looked creation (Ok done) next = Seen creation done.reply next
+  Looked creation (Err ActorGone) next = next ≡ On (stages.Creating creation)
+  Looked creation (Err fault) next = next ≡ refuses fault
+
+  -- what became of a command is for its purpose
+  abbrev pub Resumes : ℕ → Option (Queue R) → ℕ → Purpose → Result Performed Fault → Next R → Type 0
+  Resumes uid queue at (purposes.Plan then) outcome next =
+      (step : Step) × (next ≡ On (stages.Going uid queue at step)) × Follows then step (after uid then outcome)
+  Resumes uid queue at purposes.Change outcome next = Changed outcome next
+  Resumes uid queue at (purposes.Existing creation) outcome next = Looked creation outcome next
+
+  -- It goes on with the queue that answered, at the moment and for the purpose of the exchange; where there is no answer, without a queue and with
+  -- the fault.
+  abbrev pub Returned : {P T : Type 0} → Exchange R → Result Answered (AskFault P T) → Next R → Type 0
+  Returned exchange (Ok answer) next =
+      (queue : Queue R) × (queue.uid ≡ exchange.uid) × (arc_value queue.desk ≡ answer.desk) × (queue.pass ≡ answer.pass)
+      × Resumes exchange.uid (Some queue) exchange.at exchange.purpose (outcome answer.command answer.reply) next
+  Returned exchange (Err lost) next = Resumes exchange.uid None exchange.at exchange.purpose (Err lost.fault) next
+
+  -- ---- a command is asked
+
+  -- A command is sent to a queue at a moment, with its desk and its pass, and waits so many seconds at most for its answer. A mail that could not be put
+  -- has left the pass where it was.
+  abbrev pub Asks : Queue R → ℕ → Command → ℕ → Asking → Type 0
+  Asks queue at command seconds asking =
+      IfSent asking (λ asked source. asked ≡ question (arc_value queue.desk) queue.pass at command (wait_limit at seconds))
+      × IfUnsent asking (λ kept. kept ≡ queue.pass) × (asking ≢ Asking.Over)
+
+  -- The same, for a purpose. Where there is no memory for the mail, that is what became of the command.
+  abbrev pub Sends : Queue R → ℕ → Command → ℕ → Purpose → Next R → Type 0
+  Sends queue at command seconds purpose next =
+      ((exchange : Exchange R) × (next ≡ On (stages.Asking exchange)) × (exchange.uid ≡ queue.uid) × (exchange.at ≡ at)
+      × (exchange.purpose ≡ purpose) × Asks queue at command seconds exchange.future)
+      ⊎ Resumes queue.uid None at purpose (Err OutOfMemory) next
+
+  -- the queue of a uid is looked for, and asked; where it is not to be had, that is what became of the command
+  abbrev pub AsksFound : ℕ → ℕ → Command → ℕ → Then → Next R → Type 0
+  AsksFound uid at command seconds then next =
+      ((queue : Queue R) × (queue.uid ≡ uid) × Sends queue at command seconds (purposes.Plan then) next)
+      ⊎ ((fault : Fault) × IsMissed fault × Resumes uid None at (purposes.Plan then) (Err fault) next)
+
+  -- a step of the queue of a uid, at a moment
+  abbrev pub GoesOn : ℕ → Option (Queue R) → ℕ → Step → Next R → Type 0
+  GoesOn uid queue at (steps.Answer answer) next = Tells answer next
+  GoesOn uid (Some queue) at (steps.Ask command seconds then) next = Sends queue at command seconds (purposes.Plan then) next
+  GoesOn uid None at (steps.Ask command seconds then) next = AsksFound uid at command seconds then next
+
+  -- ---- a request begins
+
+  -- a queue of the name that is told is there
+  abbrev pub TellsUrl : List ℕ → Next R → Type 0
+  TellsUrl name next = Tells (Ok (shapes.QueueUrl name)) next ⊎ (next ≡ refuses QueueDoesNotExist)
+
+  -- the names of a directory that begin with a prefix are told
+  abbrev pub TellsUrls : List ℕ → Next R → Type 0
+  TellsUrls prefix next =
+      ((listed : Directory) × IsDirectory listed × Tells (Ok (shapes.QueueUrls (names_listed listed prefix))) next)
+      ⊎ (next ≡ refuses OutOfMemory)
+
+  -- names are told of queues that have a queue for their dead letters
+  abbrev pub TellsSources : Next R → Type 0
+  TellsSources next =
+      ((names : List (List ℕ)) × Tells (Ok (shapes.SourceQueueUrls names)) next)
+      ⊎ ((fault : Fault) × IsMissed fault × (next ≡ refuses fault))
+
+  -- what a task begins with at a moment
+  abbrev pub Begun : Task → ℕ → Next R → Type 0
+  Begun (tasks.Create name wish) at next = next ≡ On (stages.Creating record { name = name; wish = wish; at = at })
+  Begun (tasks.Delete name) at next = Opens name (λ queue. Sends queue at commands.Close 0 purposes.Change next) next
+  Begun (tasks.Set name wish) at next =
+      Opens name (λ queue. Targets name wish (λ target.
+      Sends queue at (commands.Set wish target) 0 purposes.Change next) next) next
+  Begun (tasks.Url name) at next = TellsUrl name next
+  Begun (tasks.Urls prefix) at next = TellsUrls prefix next
+  Begun (tasks.Sources name) at next = TellsSources next
+  Begun (tasks.Ask name step) at next = Opens name (λ queue. next ≡ On (stages.Going queue.uid (Some queue) at step)) next
+
+  -- A request is judged by its head and these bytes, and begins with its task at one moment; or it is refused. Want of memory may come in the place of
+  -- what the bytes ask.
+  abbrev pub IsJudged : Parts → List ℕ → Next R → Type 0
+  IsJudged head bytes next =
+      (asked : Result Request Fault) × Meets asked (asked_of (target_in head) bytes)
+      × IfErr (action_of (target_in head)) (λ fault. asked ≡ Err fault)
+      × IfOk asked (λ request. (at : ℕ) × (task : Task) × Begins request task × Begun task at next)
+      × IfErr asked (λ fault. next ≡ refuses fault)
+
+  -- the same of a body that has come, unless there is no memory for its bytes in one piece
+  abbrev pub IsRead : Parts → Collected → Next R → Type 0
+  IsRead head body next = IsJudged head (collected_bytes body) next ⊎ (next ≡ refuses OutOfMemory)
+
+  -- ---- a queue is to be there
+
+  -- One is ordered, and what became of it is awaited where it is told. The client may be turned away
+  abbrev pub Ordered : Creation → ℕ → Next R → Type 0
+  Ordered creation target next =
+      ((order : Order) × IsOrder creation target order
+      × ((made : Receiver Made) × (canceled_source order.made ≡ completed_source made) × (next ≡ On (stages.Making creation made))))
+      ⊎ ((next ≡ refuses OutOfMemory) ⊎ (next ≡ Ends (Ok busy)))
+
+  -- one was ordered: it is there, or one of its name came to be there meanwhile, which is looked for, or it is refused
+  abbrev pub Makes : {T : Type 0} → Creation → Result T Fault → Next R → Type 0
+  Makes creation (Ok made) next = Tells (Ok (shapes.QueueUrl creation.name)) next
+  Makes creation (Err QueueNameExists) next = next ≡ On (stages.Creating creation)
+  Makes creation (Err fault) next = next ≡ refuses fault
+
+  -- one is ordered, or that of its name is looked at; while that one is being opened, what is asked for comes back
+  abbrev pub Creates : Creation → Result (Next R) Creation → Type 0
+  Creates creation (Ok next) =
+      Targets creation.name creation.wish (λ target.
+      Ordered creation target next ⊎ Opens creation.name (λ queue. Sends queue creation.at commands.Look 0 (purposes.Existing creation) next) next) next
+  Creates creation (Err back) = back ≡ creation
+
+  -- ---- all stages
+
+  -- a stage goes on, and this holds of it; or it waits, and this holds of the stage that is left
+  abbrev pub Leads : (Next R → Type 0) → (Stage R → Type 0) → Turn R → Type 0
+  Leads goes waits (Goes next) = goes next
+  Leads goes waits (Waits stage) = waits stage
+
+  -- behind a head it has come, or it did not come whole
+  abbrev pub IsCollected : Parts → Result Collected (LimitedError Error) → Next R → Type 0
+  IsCollected head (Ok body) next = IsRead head body next
+  IsCollected head (Err error) next = (sent : Result Sent Error) × SentOfError error sent × (next ≡ Ends sent)
+
+  -- a body comes, or still comes, behind the same head, and may give then only what it may give now
+  abbrev pub Collects : Arriving → Turn R → Type 0
+  Collects arriving =
+      Leads (λ next. (given : Result Collected (LimitedError Error)) × MayCollect arriving.body given × IsCollected arriving.head given next)
+      (λ stage. (left : Arriving) × (stage ≡ stages.Collecting left) × (left.head ≡ arriving.head)
+      × ((given : Result Collected (LimitedError Error)) → MayCollect left.body given → MayCollect arriving.body given))
+
+  -- a queue is to be there
+  abbrev pub Names : Creation → Turn R → Type 0
+  Names creation = Leads (λ next. Creates creation (Ok next)) (λ stage. stage ≡ stages.Creating creation)
+
+  -- a queue was ordered; where the thread that makes queues is gone, there was no memory for it
+  abbrev pub AwaitsQueue : Creation → Turn R → Type 0
+  AwaitsQueue creation =
+      Leads (λ next. ((outcome : Result ⊤ Fault) × Makes creation outcome next) ⊎ (next ≡ refuses OutOfMemory))
+      (λ stage. (made : Receiver Made) × (stage ≡ stages.Making creation made))
+
+  -- a queue was asked
+  abbrev pub AwaitsAnswer : Exchange R → Turn R → Type 0
+  AwaitsAnswer exchange =
+      Leads (λ next. (given : Result Answered (AskFault Publications Publications)) × MayGive exchange.future given × Returned exchange given next)
+      (λ stage. (left : Exchange R) × (stage ≡ stages.Asking left) × (left.uid ≡ exchange.uid) × (left.at ≡ exchange.at)
+      × (left.purpose ≡ exchange.purpose) × (waiting_question left.future ≡ waiting_question exchange.future)
+      × ((given : Result Answered (AskFault Publications Publications)) → MayGive left.future given → MayGive exchange.future given))
+
+  -- what becomes of a stage that is looked at
+  abbrev pub Turns : Stage R → Turn R → Type 0
+  Turns (stages.Collecting arriving) turn = Collects arriving turn
+  Turns (stages.Creating creation) turn = Names creation turn
+  Turns (stages.Making creation made) turn = AwaitsQueue creation turn
+  Turns (stages.Asking exchange) turn = AwaitsAnswer exchange turn
+  Turns (stages.Going uid queue at step) turn = (next : Next R) × (turn ≡ Goes next) × GoesOn uid queue at step next
+  Turns (stages.Sending sent) turn = turn ≡ Goes (Ends (Ok sent))
+  Turns stages.Over turn = turn ≡ Goes (refuses OutOfMemory)

@@ -4,6 +4,6 @@ use Rattle.sqs_server.specs.declared.stage.Turn.{Turn}
 use Rattle.sqs_server.specs.declared.stage.Turn.TheVariants.{Goes, Waits}
 
 -- a fact of where a request waits
-abbrev pub OnWaits : Turn → Type 0 → Type 0
+abbrev pub OnWaits : {R : Type 0} → Turn R → Type 0 → Type 0
 OnWaits (Waits stage) P = P
 OnWaits (Goes next) P = ⊤

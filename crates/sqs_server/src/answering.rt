@@ -27,15 +27,15 @@ use std::time::Clock;
 
 /// The future of a response.
 #[derive(Drop)]
-pub struct Answering<R> {
+pub struct Answering<R: Wait + Drop> {
     alloc: Global,
     /// `None` where there was no memory to begin.
     front: Option<Front<R>>,
-    stage: Stage,
+    stage: Stage<R>,
 }
 
 /// What is sent where there was no memory to begin. What is known by the head needs none.
-fn without_memory(stage: Stage) -> Sent
+fn without_memory<R: Wait + Drop>(stage: Stage<R>) -> Sent
     ensures { result ≡ response.without_memory stage }
 {
     match stage {
@@ -58,7 +58,7 @@ fn respond(
 }
 
 /// The stage of a request whose body comes behind a head.
-fn collecting(alloc: Global, head: Parts, body: Incoming) -> Stage
+fn collecting<R: Wait + Drop>(alloc: Global, head: Parts, body: Incoming) -> Stage<R>
     ensures { Judged head body None result }
 {
     let body = Limited::new(body, BODY_LIMIT as usize).collect(alloc);
@@ -66,7 +66,7 @@ fn collecting(alloc: Global, head: Parts, body: Incoming) -> Stage
 }
 
 /// The stage that a request begins with, by its head and by the least size that its body can have.
-fn judged(alloc: Global, head: Parts, body: Incoming, size: u64) -> Stage
+fn judged<R: Wait + Drop>(alloc: Global, head: Parts, body: Incoming, size: u64) -> Stage<R>
     ensures { Judged head body (head_spec.denial_of head.method size) result }
 {
     match denial_of(head.method.as_str(), size) {
@@ -76,7 +76,7 @@ fn judged(alloc: Global, head: Parts, body: Incoming, size: u64) -> Stage
 }
 
 /// The stage that a request begins with.
-fn first_stage(alloc: Global, request: Request<Incoming>) -> Stage
+fn first_stage<R: Wait + Drop>(alloc: Global, request: Request<Incoming>) -> Stage<R>
     ensures { IsFirst request result }
 {
     let (head, body) = request.into_parts();

@@ -7,6 +7,7 @@ ghost use Rattle.tokio.specs.Locks.{CanAcquire};
 
 use crate::front::Front;
 use crate::notices::Notices;
+use crate::statistics::StatisticsFront;
 use bytes::Bytes;
 use futures::Future;
 use futures::executor::TaskSet;
@@ -41,6 +42,12 @@ pub struct Guest<C, R> {
 /// A guest over a socket.
 pub type Caller<R> = Guest<Connection<TcpStream, Front<R>, Full<Bytes>, TokioTimer<R>>, R>;
 
+/// A guest over a socket who asks for statistics.
+pub type Viewer<R> = Guest<
+    Connection<TcpStream, StatisticsFront<R>, Full<Bytes>, TokioTimer<R>>,
+    R,
+>;
+
 impl<C: Future<Output = hyper::Result<()>>, R: Wait + Drop> Future for Guest<C, R> {
     type Output = ();
 
@@ -74,7 +81,7 @@ pub trait Welcome: Drop {
 
 /// Has the requests of a socket answered over HTTP/1.1.
 #[derive(Drop)]
-pub struct Reception<R> {
+pub struct Reception<R: Wait + Drop> {
     pub rt: R,
     pub alloc: Global,
     pub http: Builder<TokioTimer<R>>,
@@ -87,6 +94,35 @@ impl<R: Wait + Clock + Copy + Send + Drop + 'static> Welcome for Reception<R> {
     type Guest = Caller<R>;
 
     fn guest(&self, socket: TcpStream) -> io::Result<Caller<R>> {
+        socket.set_nodelay(true)?;
+        let (Ok(front), Ok(notices)) = (self.front.again(), self.notices.again()) else {
+            return Err(io::ErrorKind::OutOfMemory.into());
+        };
+        Ok(Guest {
+            rt: self.rt,
+            alloc: self.alloc,
+            connection: self.http.serve_connection(socket, front),
+            notices,
+            closed: Arc::try_clone(&self.closed)?,
+        })
+    }
+}
+
+/// Has the requests of a socket for statistics answered over HTTP/1.1.
+#[derive(Drop)]
+pub struct Exhibition<R: Wait + Drop> {
+    pub rt: R,
+    pub alloc: Global,
+    pub http: Builder<TokioTimer<R>>,
+    pub front: StatisticsFront<R>,
+    pub notices: Notices,
+    pub closed: Arc<Semaphore>,
+}
+
+impl<R: Wait + Clock + Copy + Send + Drop + 'static> Welcome for Exhibition<R> {
+    type Guest = Viewer<R>;
+
+    fn guest(&self, socket: TcpStream) -> io::Result<Viewer<R>> {
         socket.set_nodelay(true)?;
         let (Ok(front), Ok(notices)) = (self.front.again(), self.notices.again()) else {
             return Err(io::ErrorKind::OutOfMemory.into());

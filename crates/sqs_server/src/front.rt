@@ -19,13 +19,12 @@ use crate::arriving::Arriving;
 use crate::clock::{moment_of_day, wait_limit};
 use crate::head::{Denial, asked_of};
 use crate::plan::{Outcome, Performed, Step, Then, after};
-use crate::queues::{Made, NewQueue, Order, Queue, Queues, is_full};
+use crate::queues::{Made, NewQueue, Order, Printer, Queue, Queues, is_full};
 use crate::reply::{Sent, busy, denied, refused, sent_for};
 use crate::stage::{Creation, Exchange, Halt, Next, Purpose, Stage, Turn};
 use crate::task::{Task, task_of};
 use aws_json::{Prefix, QueueNames, ReplyShape, Request};
 use crossbeam_channel::Sender;
-use desk::NoPress;
 use futures::Future;
 use futures::channel::oneshot;
 use futures::channel::oneshot::Receiver;
@@ -43,14 +42,14 @@ use std::time::Clock;
 
 /// Answers the requests of one connection.
 #[derive(Drop)]
-pub struct Front<R> {
+pub struct Front<R: Wait + Drop> {
     pub rt: R,
     pub alloc: Global,
-    pub queues: Arc<Queues>,
+    pub queues: Arc<Queues<R>>,
     pub orders: Sender<Order>,
 }
 
-impl<R: Copy> Front<R> {
+impl<R: Wait + Copy + Drop> Front<R> {
     /// The same for another connection or request. `OutOfMemory` is the only refusal.
     pub fn again(&self) -> Result<Front<R>, Fault>
         ensures { IfErr result (λ fault. fault ≡ OutOfMemory) }
@@ -75,7 +74,7 @@ fn target_of(head: &Parts) -> Option<&[u8]>
 }
 
 /// What a refusal comes to.
-fn refuses(fault: Fault) -> Next
+fn refuses<R: Wait + Drop>(fault: Fault) -> Next<R>
     ensures { result ≡ told.refuses fault }
 {
     Next::Ends(Ok(refused(fault)))
@@ -118,16 +117,16 @@ fn outcome_of(command: Command, reply: Result<Reply, Fault>) -> Outcome
     }
 }
 
-impl<R: Wait + Clock> Front<R> {
+impl<R: Wait + Clock + Drop> Front<R> {
     /// What an answer comes to.
-    fn answers(&self, answer: Result<ReplyShape, Fault>) -> Next
+    fn answers(&self, answer: Result<ReplyShape, Fault>) -> Next<R>
         ensures { Tells answer result }
     {
         Next::Ends(Ok(sent_for(self.alloc, &answer)))
     }
 
     /// The queue of a name, where more mail may wait for it; or what the client is sent.
-    fn find(&self, name: &QueueName) -> Result<Queue, Sent>
+    fn find(&self, name: &QueueName) -> Result<Queue<R>, Sent>
         ensures found { IfOk result (λ queue. queue.pass.start.name ≡ name.now) }
         ensures errors { IfErr result IsTurnedAway }
     {
@@ -191,12 +190,12 @@ impl<R: Wait + Clock> Front<R> {
     /// Sends a command to a queue. Where there is no memory for that, it goes on with that fault.
     fn ask(
         &self,
-        queue: Queue,
+        queue: Queue<R>,
         at: Moment,
         command: Command,
         seconds: u64,
         purpose: Purpose,
-    ) -> Next
+    ) -> Next<R>
         ensures { Sends queue at command seconds purpose result }
     {
         let Queue {
@@ -222,7 +221,7 @@ impl<R: Wait + Clock> Front<R> {
     }
 
     /// Asks a queue of a name what a request asks of it.
-    fn begins(&self, name: &QueueName, at: Moment, step: Step) -> Next
+    fn begins(&self, name: &QueueName, at: Moment, step: Step) -> Next<R>
         ensures { Begun (tasks.Ask name.now step) at result }
     {
         match self.find(name) {
@@ -237,7 +236,7 @@ impl<R: Wait + Clock> Front<R> {
     }
 
     /// Closes a queue.
-    fn delete(&self, name: &QueueName, at: Moment) -> Next
+    fn delete(&self, name: &QueueName, at: Moment) -> Next<R>
         ensures { Begun (tasks.Delete name.now) at result }
     {
         match self.find(name) {
@@ -247,7 +246,7 @@ impl<R: Wait + Clock> Front<R> {
     }
 
     /// Gives a queue settings.
-    fn set(&self, name: &QueueName, at: Moment, wish: Wish) -> Next
+    fn set(&self, name: &QueueName, at: Moment, wish: Wish) -> Next<R>
         ensures { Begun (tasks.Set name.now wish) at result }
     {
         let queue = match self.find(name) {
@@ -262,7 +261,7 @@ impl<R: Wait + Clock> Front<R> {
     }
 
     /// Tells the URL of a queue that is there.
-    fn tells_url(&self, name: QueueName) -> Next
+    fn tells_url(&self, name: QueueName) -> Next<R>
         ensures { TellsUrl name result }
     {
         match self.url(name) {
@@ -272,7 +271,7 @@ impl<R: Wait + Clock> Front<R> {
     }
 
     /// Tells the URLs of the queues whose names begin with a prefix.
-    fn tells_urls(&self, prefix: &Prefix) -> Next
+    fn tells_urls(&self, prefix: &Prefix) -> Next<R>
         ensures { TellsUrls prefix.now result }
     {
         match self.urls(prefix) {
@@ -282,7 +281,7 @@ impl<R: Wait + Clock> Front<R> {
     }
 
     /// Tells the URLs of the queues that have a queue for their dead letters.
-    fn tells_sources(&self, name: &QueueName) -> Next
+    fn tells_sources(&self, name: &QueueName) -> Next<R>
         ensures { TellsSources result }
     {
         match self.source_urls(name) {
@@ -292,7 +291,7 @@ impl<R: Wait + Clock> Front<R> {
     }
 
     /// Begins a task.
-    fn about(&self, task: Task, at: Moment) -> Next
+    fn about(&self, task: Task, at: Moment) -> Next<R>
         ensures { Begun task at result }
     {
         match task {
@@ -307,14 +306,14 @@ impl<R: Wait + Clock> Front<R> {
     }
 
     /// Begins what a request is about.
-    fn begin(&self, request: Request, at: Moment) -> Next
+    fn begin(&self, request: Request, at: Moment) -> Next<R>
         ensures { (task : _) × Begins request task × Begun task at result }
     {
         self.about(task_of(self.alloc, request), at)
     }
 
     /// Begins what the header that names the action and these bytes ask.
-    fn judge(&self, head: &Parts, bytes: &[u8]) -> Next
+    fn judge(&self, head: &Parts, bytes: &[u8]) -> Next<R>
         ensures { IsJudged head.now bytes.now result }
     {
         match asked_of(self.alloc, target_of(head), bytes) {
@@ -324,7 +323,7 @@ impl<R: Wait + Clock> Front<R> {
     }
 
     /// Begins what a request asks whose body has come.
-    fn read(&self, head: &Parts, body: Collected) -> Next
+    fn read(&self, head: &Parts, body: Collected) -> Next<R>
         ensures { IsRead head.now body result }
     {
         match body.to_bytes() {
@@ -334,7 +333,7 @@ impl<R: Wait + Clock> Front<R> {
     }
 
     /// Looks whether the body has come.
-    fn await_body(&self, cx: &mut Context<'_>, arriving: Arriving) -> Turn
+    fn await_body(&self, cx: &mut Context<'_>, arriving: Arriving) -> Turn<R>
         ensures waits { OnWaits result (IsArmed cx.new) }
         ensures kept { Keeps cx.old cx.new }
         ensures leads { Collects arriving result }
@@ -348,7 +347,7 @@ impl<R: Wait + Clock> Front<R> {
     }
 
     /// Orders a queue that is not there, where more orders may wait.
-    fn order(&self, creation: Creation, target: u64) -> Next
+    fn order(&self, creation: Creation, target: u64) -> Next<R>
         ensures { Ordered creation target result }
     {
         if is_full(self.orders.len()) {
@@ -365,7 +364,7 @@ impl<R: Wait + Clock> Front<R> {
     }
 
     /// Answers for a queue that was ordered. One of its name that came to be there meanwhile is looked at.
-    fn ordered(&self, creation: Creation, made: Made) -> Next
+    fn ordered(&self, creation: Creation, made: Made) -> Next<R>
         ensures { Makes creation made.outcome result }
     {
         match made.outcome {
@@ -381,7 +380,7 @@ impl<R: Wait + Clock> Front<R> {
         cx: &mut Context<'_>,
         creation: Creation,
         mut made: Receiver<Made>,
-    ) -> Turn
+    ) -> Turn<R>
         ensures waits { OnWaits result (IsArmed cx.new) }
         ensures kept { Keeps cx.old cx.new }
         ensures leads { AwaitsQueue creation result }
@@ -395,7 +394,7 @@ impl<R: Wait + Clock> Front<R> {
 
     /// Creates a queue, or looks at the one that has its name. While that one is being opened, what is asked
     /// for comes back.
-    fn create(&self, creation: Creation) -> Result<Next, Creation>
+    fn create(&self, creation: Creation) -> Result<Next<R>, Creation>
         ensures { Creates creation result }
     {
         let target = match self.target_uid(&creation.name, &creation.wish) {
@@ -417,7 +416,7 @@ impl<R: Wait + Clock> Front<R> {
     }
 
     /// The same, and looks for that one again once others had a turn.
-    fn await_name(&self, cx: &mut Context<'_>, creation: Creation) -> Turn
+    fn await_name(&self, cx: &mut Context<'_>, creation: Creation) -> Turn<R>
         ensures waits { OnWaits result (IsArmed cx.new) }
         ensures kept { Keeps cx.old cx.new }
         ensures leads { Names creation result }
@@ -432,7 +431,7 @@ impl<R: Wait + Clock> Front<R> {
     }
 
     /// Asks a queue that is looked for by its uid, and goes on without it where it is not to be had.
-    fn ask_found(&self, uid: u64, at: Moment, command: Command, seconds: u64, then: Then) -> Next
+    fn ask_found(&self, uid: u64, at: Moment, command: Command, seconds: u64, then: Then) -> Next<R>
         ensures { AsksFound uid at command seconds then result }
     {
         let fault = match self.queues.find_uid(&self.rt, uid) {
@@ -446,7 +445,7 @@ impl<R: Wait + Clock> Front<R> {
     }
 
     /// Asks what is next, or answers.
-    fn go_on(&self, uid: u64, queue: Option<Queue>, at: Moment, step: Step) -> Next
+    fn go_on(&self, uid: u64, queue: Option<Queue<R>>, at: Moment, step: Step) -> Next<R>
         ensures { GoesOn uid queue at step result }
     {
         match (step, queue) {
@@ -471,7 +470,7 @@ impl<R: Wait + Clock> Front<R> {
     }
 
     /// Tells that a queue was closed, or that it was given settings.
-    fn changed(&self, outcome: Outcome) -> Next
+    fn changed(&self, outcome: Outcome) -> Next<R>
         ensures { Changed outcome result }
     {
         match outcome {
@@ -481,7 +480,7 @@ impl<R: Wait + Clock> Front<R> {
     }
 
     /// Answers for a queue that was there already, by its settings.
-    fn compared(&self, creation: Creation, settings: Settings) -> Next
+    fn compared(&self, creation: Creation, settings: Settings) -> Next<R>
         ensures { Compared creation settings result }
     {
         let target = match self.target_uid(&creation.name, &creation.wish) {
@@ -496,7 +495,7 @@ impl<R: Wait + Clock> Front<R> {
     }
 
     /// The same, by a look at it. One that was closed is made anew.
-    fn seen(&self, creation: Creation, reply: Reply) -> Next
+    fn seen(&self, creation: Creation, reply: Reply) -> Next<R>
         ensures { Seen creation reply result }
     {
         match reply {
@@ -507,7 +506,7 @@ impl<R: Wait + Clock> Front<R> {
     }
 
     /// The same, by what became of the look. One that was taken out meanwhile is made anew.
-    fn looked(&self, creation: Creation, outcome: Outcome) -> Next
+    fn looked(&self, creation: Creation, outcome: Outcome) -> Next<R>
         ensures { Looked creation outcome result }
     {
         match outcome {
@@ -521,11 +520,11 @@ impl<R: Wait + Clock> Front<R> {
     fn planned(
         &self,
         uid: u64,
-        queue: Option<Queue>,
+        queue: Option<Queue<R>>,
         at: Moment,
         then: Then,
         outcome: Outcome,
-    ) -> Next
+    ) -> Next<R>
         ensures { Resumes uid queue at (purposes.Plan then) outcome result }
     {
         Next::On(Stage::Going {
@@ -540,11 +539,11 @@ impl<R: Wait + Clock> Front<R> {
     fn resume(
         &self,
         uid: u64,
-        queue: Option<Queue>,
+        queue: Option<Queue<R>>,
         at: Moment,
         purpose: Purpose,
         outcome: Outcome,
-    ) -> Next
+    ) -> Next<R>
         ensures { Resumes uid queue at purpose outcome result }
     {
         match purpose {
@@ -557,9 +556,9 @@ impl<R: Wait + Clock> Front<R> {
     /// Goes on with the answer to a command, or without one.
     fn answered(
         &self,
-        exchange: Exchange,
-        given: Result<Answer<NoPress>, AskFault<NoPress>>,
-    ) -> Next
+        exchange: Exchange<R>,
+        given: Result<Answer<Printer<R>>, AskFault<Printer<R>>>,
+    ) -> Next<R>
         ensures { Returned exchange given result }
     {
         let Exchange {
@@ -580,7 +579,7 @@ impl<R: Wait + Clock> Front<R> {
     }
 
     /// Looks whether a command was answered.
-    fn await_answer(&self, cx: &mut Context<'_>, mut exchange: Exchange) -> Turn
+    fn await_answer(&self, cx: &mut Context<'_>, mut exchange: Exchange<R>) -> Turn<R>
         ensures waits { OnWaits result (IsArmed cx.new) }
         ensures kept { Keeps cx.old cx.new }
         ensures leads { AwaitsAnswer exchange result }
@@ -592,7 +591,7 @@ impl<R: Wait + Clock> Front<R> {
     }
 
     /// Looks at a stage.
-    pub(crate) fn turn(&self, cx: &mut Context<'_>, stage: Stage) -> Turn
+    pub(crate) fn turn(&self, cx: &mut Context<'_>, stage: Stage<R>) -> Turn<R>
         ensures waits { OnWaits result (IsArmed cx.new) }
         ensures kept { Keeps cx.old cx.new }
         ensures leads { Turns stage result }
@@ -614,7 +613,7 @@ impl<R: Wait + Clock> Front<R> {
     }
 
     /// Goes through stages, until one waits or the request ends.
-    pub(crate) fn run(&self, cx: &mut Context<'_>, mut stage: Stage) -> Halt
+    pub(crate) fn run(&self, cx: &mut Context<'_>, mut stage: Stage<R>) -> Halt<R>
         ensures waits { OnHeld result (IsArmed cx.new) }
         ensures kept { Keeps cx.old cx.new }
         ensures leads { Halts stage result }

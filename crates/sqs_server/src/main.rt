@@ -6,7 +6,8 @@
 //! - `clock`: the wall clock. `queues`: how a queue comes to be served.
 //! - `stage`, `arriving`: how far a request is. `front`: what becomes of it there, from its body to what
 //!   is sent. `answering`: the service, whose future goes through these stages.
-//! - `door`: the connections. `notices`: their faults. `serving`: the runtime, the queues and the door together.
+//! - `statistics`: the service of the other port, which tells what was printed of the queues.
+//! - `door`: the connections. `notices`: their faults. `serving`: the runtimes, the queues and the doors together.
 //!
 //! What is pure of it has exact contracts, whose definitions stand in `specs/`.
 #![tactic(auto)]
@@ -24,12 +25,13 @@ mod queues;
 mod reply;
 mod serving;
 mod stage;
+mod statistics;
 mod task;
 #[cfg(test)]
 mod tests;
 
 use arguments::{Refusal, arguments_among, configuration_in, finish};
-use serving::{listen, refusal_of_system, serve};
+use serving::{listen, serve};
 use std::net::{Ipv4Addr, Net, SocketAddr};
 use std::process::ExitCode;
 use std::random::RandomSource;
@@ -37,18 +39,28 @@ use std::sync::Wait;
 use std::thread::Threads;
 use std::time::Clock;
 use std::{env, fs};
-use tokio::runtime::Runtime;
 
 /// The port for requests.
 const PORT: u16 = 9324;
 
-/// How many threads look after the connections.
+/// The port for statistics.
+const STATISTICS_PORT: u16 = 9325;
+
+/// How many threads look after the connections of the port for requests.
 const WORKERS: usize = 2;
+
+/// How many look after those of the port for statistics.
+const STATISTICS_WORKERS: usize = 1;
 
 /// Serves the queues of the configuration that the first argument names, until as many connections have
 /// closed as the second one says.
 fn main(rt: HostRuntime) -> ExitCode {
     finish(&rt, run(&rt, &rt))
+}
+
+/// The address of a port of this machine alone.
+fn address_of(port: u16) -> SocketAddr {
+    SocketAddr::from((Ipv4Addr::LOCALHOST, port))
 }
 
 /// Serves as the arguments say.
@@ -70,17 +82,13 @@ where
     let arguments = arguments_among(env::args(host))?;
     let path = arguments.path.as_str();
     let config = configuration_in(host.alloc(), fs::read(host, path))?;
-    let mut runtime = match Runtime::with_worker_threads(rt, WORKERS) {
-        Ok(runtime) => runtime,
-        Err(error) => return Err(refusal_of_system(&error)),
-    };
-    let address = SocketAddr::from((Ipv4Addr::LOCALHOST, PORT));
-    let listener = listen(rt, &runtime, address)?;
+    let requests = listen(rt, address_of(PORT), WORKERS)?;
+    let statistics = listen(rt, address_of(STATISTICS_PORT), STATISTICS_WORKERS)?;
     serve(
         rt,
         host,
-        &mut runtime,
-        listener,
+        requests,
+        statistics,
         &config,
         arguments.connections,
     )

@@ -1,19 +1,24 @@
 //! How a queue comes to be served: it gets a uid, a desk, a mailbox, and an actor in a thread of its own.
 //! Queues that clients create are made by one thread, so that no poll has to start a thread.
 
-ghost use Rattle.std.specs.Prelude.{◌≡◌, nat_le, IfErr, IfOk};
+ghost use Rattle.std.specs.Prelude.{◌≡◌, nat_le, [], IfErr, IfOk};
 ghost use Rattle.std.specs.Arc.{arc_value};
+ghost use Rattle.board.specs.Printed.{place_of};
 ghost use Rattle.desk.specs.Views.{first_knowledge};
 ghost use Rattle.message.specs.declared.fault.Fault.TheVariants.{OutOfMemory};
 ghost use Rattle.queue_core.specs.Kept.{opened_queue};
 
 use crate::clock::moment_of_day;
+use alarm::AlarmState;
+use board::{Publisher, Reader, Sheet, board};
 use crossbeam_channel::{Receiver, Sender, unbounded};
-use desk::{Desk, NoGate, NoPress, Pass};
+use desk::{Desk, NoGate, Pass};
 use futures::channel::oneshot;
 use journal::Moment;
 use message::{Fault, QueueName};
-use queue_actor::{Actor, Answer, Beat, Directory, Mail, Served, TICK_MILLISECONDS, deadline_loop};
+use queue_actor::{
+    Actor, Answer, Beat, Directory, Mail, Served, Shown, TICK_MILLISECONDS, deadline_loop,
+};
 use queue_config::{AlarmRule, Config, ConfiguredAlarm, Limits, Settings};
 use queue_core::QueueState;
 use std::alloc::Global;
@@ -22,28 +27,36 @@ use std::thread;
 use std::thread::Threads;
 use std::time::{Clock, Duration};
 
+/// What prints the turns of a queue, for the readers of its statistics.
+pub type Printer<R> = Publisher<R>;
+
 /// Where an answer goes.
-pub type Slot = oneshot::Sender<Answer<NoPress>>;
+pub type Slot<R> = oneshot::Sender<Answer<Printer<R>>>;
 
 /// What an actor finds in its mailbox.
-pub type Letter = Mail<NoPress, Slot>;
+pub type Letter<R> = Mail<Printer<R>, Slot<R>>;
 
 /// Where mail for an actor is put.
-pub type Mailbox = Sender<Letter>;
+pub type Mailbox<R> = Sender<Letter<R>>;
 
 /// A queue as a request has it at hand: its desk, a pass of that desk, and the mailbox of its actor.
 #[derive(Drop)]
-pub struct Queue {
+pub struct Queue<R: Wait + Drop> {
     pub uid: u64,
-    pub desk: Arc<Desk<NoPress>>,
-    pub pass: Pass<NoPress>,
-    pub mailbox: Mailbox,
+    pub desk: Arc<Desk<Printer<R>>>,
+    pub pass: Pass<Printer<R>>,
+    pub mailbox: Mailbox<R>,
     pub ghost together: { pass.desk ≡ arc_value desk },
 }
 
-impl Queue {
+impl<R: Wait + Drop> Queue<R> {
     /// The queue of these parts.
-    pub fn new(uid: u64, desk: Arc<Desk<NoPress>>, pass: Pass<NoPress>, mailbox: Mailbox) -> Queue
+    pub fn new(
+        uid: u64,
+        desk: Arc<Desk<Printer<R>>>,
+        pass: Pass<Printer<R>>,
+        mailbox: Mailbox<R>,
+    ) -> Queue<R>
         requires { pass.desk ≡ arc_value desk }
         ensures { (result.uid ≡ uid) × (result.desk ≡ desk) × (result.pass ≡ pass) }
     {
@@ -56,7 +69,7 @@ impl Queue {
     }
 
     /// A queue that was found in the directory.
-    pub fn of(served: Served<NoPress, Slot>) -> Queue
+    pub fn of(served: Served<Printer<R>, Slot<R>>) -> Queue<R>
         ensures { (result.uid ≡ served.uid) × (result.desk ≡ served.desk) × (result.pass ≡ served.pass) }
     {
         let Served {
@@ -82,7 +95,7 @@ pub(crate) fn is_full(waiting: usize) -> bool
 }
 
 /// The queues that are served.
-pub type Queues = Directory<NoPress, Slot>;
+pub type Queues<R> = Directory<Printer<R>, Slot<R>>;
 
 /// The wall clock, looked at every so often.
 #[derive(Drop)]
@@ -124,8 +137,8 @@ pub struct Order {
 
 /// The queues that are served, and where more of them are ordered.
 #[derive(Drop)]
-pub struct Opened {
-    pub queues: Arc<Queues>,
+pub struct Opened<R: Wait + Drop> {
+    pub queues: Arc<Queues<R>>,
     pub orders: Sender<Order>,
 }
 
@@ -139,15 +152,15 @@ fn target_of(settings: &Settings) -> u64 {
 
 /// An actor and what its thread works with.
 #[derive(Drop)]
-pub struct Serving<R> {
+pub struct Serving<R: Wait + Drop> {
     rt: R,
     alloc: Global,
-    actor: Actor<NoPress>,
-    mails: Receiver<Letter>,
-    queues: Arc<Queues>,
+    actor: Actor<Printer<R>>,
+    mails: Receiver<Letter<R>>,
+    queues: Arc<Queues<R>>,
 }
 
-impl<R: Wait + Copy> Serving<R> {
+impl<R: Wait + Copy + Drop> Serving<R> {
     /// Serves the queue until its mailbox ends.
     fn run(self) {
         let Serving {
@@ -162,12 +175,12 @@ impl<R: Wait + Copy> Serving<R> {
 }
 
 /// Starts the thread of an actor. A thread that cannot be started is `OutOfMemory`.
-fn start_actor<R: Wait + Threads + Copy + Send + 'static>(
+fn start_actor<R: Wait + Threads + Copy + Send + Drop + 'static>(
     rt: &R,
     alloc: Global,
-    actor: Actor<NoPress>,
-    mails: Receiver<Letter>,
-    queues: Arc<Queues>,
+    actor: Actor<Printer<R>>,
+    mails: Receiver<Letter<R>>,
+    queues: Arc<Queues<R>>,
 ) -> Result<(), Fault> {
     let serving = Serving {
         rt: *rt,
@@ -182,28 +195,83 @@ fn start_actor<R: Wait + Threads + Copy + Send + 'static>(
     }
 }
 
-/// Opens a queue at a moment, on a desk. `OutOfMemory` is the only refusal.
-fn open_desk(
+/// The alarms of a queue with their states, in the order of their rules.
+fn alarms_of(alloc: Global, queue: &QueueState) -> Result<Vec<(QueueName, AlarmState)>, Fault>
+    ensures errors { IfErr result (λ fault. fault ≡ OutOfMemory) }
+{
+    let mut alarms = Vec::new(alloc);
+    let states = queue.alarm_states(alloc)?;
+    for (place, state) in states.iter().enumerate() {
+        if let Some(name) = queue.alarm_name(place) {
+            alarms.push((name, *state))?;
+        }
+    }
+    Ok(alarms)
+}
+
+/// The statistics of a queue that was opened at a moment. `OutOfMemory` is the only refusal.
+fn first_sheet(alloc: Global, queue: &QueueState, at: Moment) -> Result<Sheet, Fault>
+    ensures name { IfOk result (λ sheet. sheet.name ≡ queue.now.name) }
+    ensures errors { IfErr result (λ fault. fault ≡ OutOfMemory) }
+{
+    Ok(Sheet {
+        name: queue.name(),
+        lines: queue.journal().len() as u64,
+        clock: at,
+        gauges: queue.gauges(),
+        current: queue.current(),
+        rows: queue.rows(alloc)?,
+        alarms: alarms_of(alloc, queue)?,
+    })
+}
+
+/// A press for the turns of a queue that was opened at a moment, and the one reader of its board. `OutOfMemory` is
+/// the only refusal.
+fn open_board<R: Wait + Copy + Drop>(
+    rt: &R,
+    alloc: Global,
+    queue: &QueueState,
+    at: Moment,
+) -> Result<(Printer<R>, Reader), Fault>
+    ensures none { IfOk result (λ made. made.0.turns ≡ []) }
+    ensures book { IfOk result (λ made. made.1.book ≡ made.0.book) }
+    ensures name { IfOk result (λ made. made.1.given.name ≡ queue.now.name) }
+    ensures errors { IfErr result (λ fault. fault ≡ OutOfMemory) }
+{
+    let sheet = first_sheet(alloc, queue, at)?;
+    let (printer, mut readers) = board(alloc, *rt, &sheet, 1)?;
+    match readers.pop() {
+        Some(reader) => Ok((printer, reader)),
+        None => Err(Fault::OutOfMemory),
+    }
+}
+
+/// Opens a queue at a moment, on a desk, and a board for its statistics. `OutOfMemory` is the only refusal.
+fn open_desk<R: Wait + Copy + Drop>(
+    rt: &R,
     host: &HostRuntime,
     alloc: Global,
     uid: u64,
     new: NewQueue,
     limits: Limits,
     at: Moment,
-) -> Result<(Desk<NoPress>, Pass<NoPress>), Fault>
-    ensures ok { IfOk result (λ made. made.1 ≡ first_knowledge made.0 (opened_queue uid new.name new.settings limits new.rules.items at)) }
+) -> Result<(Desk<Printer<R>>, Pass<Printer<R>>, Reader), Fault>
+    ensures ok { IfOk result (λ made. made.1 ≡ first_knowledge made.0 (opened_queue uid new.name new.settings limits new.rules.items at) (place_of made.2.book)) }
+    ensures name { IfOk result (λ made. made.2.given.name ≡ new.name) }
     ensures errors { IfErr result (λ fault. fault ≡ OutOfMemory) }
 {
     let state = QueueState::open(alloc, uid, new.name, new.settings, limits, new.rules, at)?;
-    Desk::new(host, alloc, state, NoPress)
+    let (printer, reader) = open_board(rt, alloc, &state, at)?;
+    let (desk, pass) = Desk::new(host, alloc, state, printer)?;
+    Ok((desk, pass, reader))
 }
 
 /// Opens a queue at a moment under a uid that was entered, and serves it.
-fn start_queue<R: Wait + Threads + Copy + Send + 'static>(
+fn start_queue<R: Wait + Threads + Copy + Send + Drop + 'static>(
     rt: &R,
     host: &HostRuntime,
     alloc: Global,
-    queues: &Arc<Queues>,
+    queues: &Arc<Queues<R>>,
     uid: u64,
     new: NewQueue,
     at: Moment,
@@ -211,23 +279,24 @@ fn start_queue<R: Wait + Threads + Copy + Send + 'static>(
     let name = new.name;
     let target = target_of(&new.settings);
     let limits = queues.limits();
-    let (desk, mut pass) = open_desk(host, alloc, uid, new, limits, at)?;
+    let (desk, mut pass, reader) = open_desk(rt, host, alloc, uid, new, limits, at)?;
     let own = desk.pass(&mut pass);
     let desk = Arc::new(alloc, desk)?;
-    let (mailbox, mails) = unbounded::<Letter, Global>(alloc)?;
+    let (mailbox, mails) = unbounded::<Letter<R>, Global>(alloc)?;
     let actor = Actor::new(Arc::try_clone(&desk)?, own, uid, limits);
     start_actor(rt, alloc, actor, mails, Arc::try_clone(queues)?)?;
+    queues.show(rt, Shown::new(uid, name, reader))?;
     queues.serve(rt, Served::new(uid, name, desk, pass, mailbox), target)
 }
 
 /// Makes a queue at a moment. `QueueNameExists` where its name is there, `OverLimit` where there are as
 /// many queues as there may be, and `OutOfMemory` also where its thread cannot be started. A refused
 /// queue leaves no name.
-fn make_queue<R: Wait + Threads + Copy + Send + 'static>(
+fn make_queue<R: Wait + Threads + Copy + Send + Drop + 'static>(
     rt: &R,
     host: &HostRuntime,
     alloc: Global,
-    queues: &Arc<Queues>,
+    queues: &Arc<Queues<R>>,
     new: NewQueue,
     at: Moment,
 ) -> Result<(), Fault> {
@@ -251,11 +320,11 @@ fn rules_of(alloc: Global, alarms: &[ConfiguredAlarm], uid: u64) -> Result<Vec<A
 }
 
 /// Makes the configured queues at a moment, in their order.
-fn make_configured<R: Wait + Threads + Copy + Send + 'static>(
+fn make_configured<R: Wait + Threads + Copy + Send + Drop + 'static>(
     rt: &R,
     host: &HostRuntime,
     alloc: Global,
-    queues: &Arc<Queues>,
+    queues: &Arc<Queues<R>>,
     config: &Config,
     at: Moment,
 ) -> Result<(), Fault> {
@@ -273,10 +342,10 @@ fn make_configured<R: Wait + Threads + Copy + Send + 'static>(
 }
 
 /// Starts the thread that tells all actors the time.
-fn start_clock<R: Wait + Threads + Clock + Copy + Send + 'static>(
+fn start_clock<R: Wait + Threads + Clock + Copy + Send + Drop + 'static>(
     rt: &R,
     alloc: Global,
-    queues: Arc<Queues>,
+    queues: Arc<Queues<R>>,
 ) -> Result<(), Fault> {
     let own = *rt;
     let telling = thread::spawn(rt, move || {
@@ -290,15 +359,15 @@ fn start_clock<R: Wait + Threads + Clock + Copy + Send + 'static>(
 
 /// What the thread works with that makes queues.
 #[derive(Drop)]
-pub struct Maker<R> {
+pub struct Maker<R: Wait + Drop> {
     rt: R,
     host: HostRuntime,
     alloc: Global,
-    queues: Arc<Queues>,
+    queues: Arc<Queues<R>>,
     orders: Receiver<Order>,
 }
 
-impl<R: Wait + Threads + Copy + Send + 'static> Maker<R> {
+impl<R: Wait + Threads + Copy + Send + Drop + 'static> Maker<R> {
     /// Makes the queues that are ordered, one after another, until nobody can order any more.
     fn run(self) {
         for _ in self.rt.forever() {
@@ -312,11 +381,11 @@ impl<R: Wait + Threads + Copy + Send + 'static> Maker<R> {
 }
 
 /// Starts the thread that makes queues.
-fn start_maker<R: Wait + Threads + Copy + Send + 'static>(
+fn start_maker<R: Wait + Threads + Copy + Send + Drop + 'static>(
     rt: &R,
     host: &HostRuntime,
     alloc: Global,
-    queues: Arc<Queues>,
+    queues: Arc<Queues<R>>,
     orders: Receiver<Order>,
 ) -> Result<(), Fault> {
     let maker = Maker {
@@ -333,13 +402,13 @@ fn start_maker<R: Wait + Threads + Copy + Send + 'static>(
 }
 
 /// The queues of a configuration, opened at a moment and served from now on.
-pub(crate) fn open_all<R: Wait + Threads + Clock + Copy + Send + 'static>(
+pub(crate) fn open_all<R: Wait + Threads + Clock + Copy + Send + Drop + 'static>(
     rt: &R,
     host: &HostRuntime,
     alloc: Global,
     config: &Config,
     at: Moment,
-) -> Result<Opened, Fault> {
+) -> Result<Opened<R>, Fault> {
     let queues = Arc::new(alloc, Directory::new(alloc, config.limits)?)?;
     make_configured(rt, host, alloc, &queues, config, at)?;
     start_clock(rt, alloc, Arc::try_clone(&queues)?)?;

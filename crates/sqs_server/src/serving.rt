@@ -1,6 +1,6 @@
-//! What serves the connections of a port: the runtime, the queues and the door.
+//! What serves the connections of the ports: the runtimes, the queues and the doors.
 
-ghost use Rattle.std.specs.Prelude.{◌≡◌, ◌⊎◌, IfErr, IfOk, IfSome};
+ghost use Rattle.std.specs.Prelude.{◌≡◌, ◌<◌, ◌⊎◌, IfErr, IfOk, IfSome};
 ghost use Rattle.std.specs.IoError.{error_kind};
 ghost use Rattle.tokio.specs.Locks.{CanAcquire};
 ghost use Rattle.sqs_server.specs.Program.{refusal_of_system};
@@ -8,20 +8,21 @@ ghost use Rattle.sqs_server.specs.declared.arguments.Refusal.TheVariants.{Listen
 
 use crate::arguments::Refusal;
 use crate::clock::moment_of_day;
-use crate::door::{Door, Reception, Welcome};
+use crate::door::{Door, Exhibition, Reception, Welcome};
 use crate::front::Front;
 use crate::notices::{Notices, start_notices};
-use crate::queues::{Opened, open_all};
+use crate::queues::{Opened, Queues, open_all};
+use crate::statistics::StatisticsFront;
 use hyper::rt::TokioTimer;
 use hyper::server::conn::http1::Builder;
 use queue_config::Config;
 use std::hash::RandomState;
-use std::io;
 use std::net::{Net, SocketAddr};
 use std::random::RandomSource;
 use std::sync::{Arc, Wait};
 use std::thread::Threads;
 use std::time::{Clock, Duration};
+use std::{io, thread};
 use tokio::net::TcpListener;
 use tokio::runtime::Runtime;
 use tokio::sync::{AcquireOwned, Semaphore};
@@ -36,17 +37,42 @@ pub(crate) fn refusal_of_system(error: &io::Error) -> Refusal
     }
 }
 
-/// Opens a port.
-pub(crate) fn listen<N: Net>(
-    net: &N,
-    runtime: &Runtime,
-    address: SocketAddr,
-) -> Result<TcpListener, Refusal>
+/// A port that is open, and the runtime that looks after its connections.
+#[derive(Drop)]
+pub struct Port {
+    runtime: Runtime,
+    listener: TcpListener,
+}
+
+/// Opens a port, whose connections so many threads look after.
+fn open_port<R>(rt: &R, address: SocketAddr, workers: usize) -> io::Result<Port>
+where
+    R: Clock + Net + RandomSource + AllocGlobal,
+    requires { 0 < workers }
+{
+    let runtime = Runtime::with_worker_threads(rt, workers)?;
+    let listener = TcpListener::bind(rt, address, runtime.handle().reactor())?;
+    Ok(Port { runtime, listener })
+}
+
+/// The same, or why it cannot be opened.
+pub(crate) fn listen<R>(rt: &R, address: SocketAddr, workers: usize) -> Result<Port, Refusal>
+where
+    R: Clock + Net + RandomSource + AllocGlobal,
+    requires { 0 < workers }
     ensures { IfErr result (λ refusal. (refusal ≡ OutOfMemory) ⊎ (refusal ≡ Listen)) }
 {
-    match TcpListener::bind(net, address, runtime.handle().reactor()) {
-        Ok(listener) => Ok(listener),
+    match open_port(rt, address, workers) {
+        Ok(port) => Ok(port),
         Err(error) => Err(refusal_of_system(&error)),
+    }
+}
+
+impl Port {
+    /// Its address.
+    #[cfg(test)]
+    pub(crate) fn address(&self) -> io::Result<SocketAddr> {
+        self.listener.local_addr()
     }
 }
 
@@ -96,12 +122,89 @@ fn closings(closed: &Arc<Semaphore>, connections: Option<u64>) -> io::Result<Opt
     Ok(Some(Semaphore::acquire_many_owned(closed, count)))
 }
 
-/// Lets connections in that are answered over HTTP/1.1.
+/// What the thread works with that serves the statistics.
+#[derive(Drop)]
+struct Showing<R: Wait + Drop> {
+    rt: R,
+    port: Port,
+    welcome: Exhibition<R>,
+    notices: Notices,
+    closed: Arc<Semaphore>,
+}
+
+impl<R> Showing<R>
+where
+    R: Wait + Threads + Clock + RandomSource + AllocGlobal + Copy + Send + Sync + Drop + 'static,
+{
+    /// Lets connections in for as long as the program goes.
+    fn run(self) {
+        let Showing {
+            rt,
+            port,
+            welcome,
+            notices,
+            closed,
+        } = self;
+        let Port {
+            mut runtime,
+            listener,
+        } = port;
+        let _ended = keep_door(
+            &rt,
+            &mut runtime,
+            listener,
+            welcome,
+            notices,
+            (closed, None),
+        );
+    }
+}
+
+/// Starts the thread that serves the statistics: texts that are long to write hold up no request.
+fn show<R>(
+    rt: &R,
+    port: Port,
+    queues: &Arc<Queues<R>>,
+    notices: &Notices,
+    closed: &Arc<Semaphore>,
+) -> io::Result<()>
+where
+    R: Wait + Threads + Clock + RandomSource + AllocGlobal + Copy + Send + Sync + Drop + 'static,
+{
+    let alloc = rt.alloc();
+    let timer = TokioTimer::new(*rt, port.runtime.handle().time().clone()?);
+    let (Ok(notices), Ok(own_notices)) = (notices.again(), notices.again()) else {
+        return Err(io::ErrorKind::OutOfMemory.into());
+    };
+    let welcome = Exhibition {
+        rt: *rt,
+        alloc,
+        http: Builder::new(alloc, RandomState::new(rt)?).timer(timer),
+        front: StatisticsFront {
+            rt: *rt,
+            alloc,
+            queues: Arc::try_clone(queues)?,
+        },
+        notices: own_notices,
+        closed: Arc::try_clone(closed)?,
+    };
+    let showing = Showing {
+        rt: *rt,
+        port,
+        welcome,
+        notices,
+        closed: Arc::try_clone(closed)?,
+    };
+    let _thread = thread::spawn(rt, move || showing.run())?;
+    Ok(())
+}
+
+/// Lets connections in that are answered over HTTP/1.1, at both ports.
 fn let_in<R>(
     rt: &R,
-    runtime: &mut Runtime,
-    listener: TcpListener,
-    opened: Opened,
+    requests: Port,
+    statistics: Port,
+    opened: Opened<R>,
     notices: Notices,
     connections: Option<u64>,
 ) -> io::Result<()>
@@ -119,9 +222,14 @@ where
         + 'static,
 {
     let alloc = rt.alloc();
+    let Port {
+        mut runtime,
+        listener,
+    } = requests;
     let timer = TokioTimer::new(*rt, runtime.handle().time().clone()?);
     let closed = Arc::new(alloc, Semaphore::new(alloc, 0)?)?;
     let enough = closings(&closed, connections)?;
+    show(rt, statistics, &opened.queues, &notices, &closed)?;
     let front = Front {
         rt: *rt,
         alloc,
@@ -140,16 +248,16 @@ where
         notices: own_notices,
         closed,
     };
-    keep_door(rt, runtime, listener, welcome, notices, counted)
+    keep_door(rt, &mut runtime, listener, welcome, notices, counted)
 }
 
-/// Serves the queues of a configuration at an open port, until as many connections have closed as are
-/// asked for.
+/// Serves the queues of a configuration at two open ports, the one for requests and the one for statistics, until as
+/// many connections have closed at both together as are asked for.
 pub(crate) fn serve<R>(
     rt: &R,
     host: &HostRuntime,
-    runtime: &mut Runtime,
-    listener: TcpListener,
+    requests: Port,
+    statistics: Port,
     config: &Config,
     connections: Option<u64>,
 ) -> Result<(), Refusal>
@@ -173,7 +281,7 @@ where
     let Ok(notices) = start_notices(rt, rt.alloc()) else {
         return Err(Refusal::OutOfMemory);
     };
-    match let_in(rt, runtime, listener, opened, notices, connections) {
+    match let_in(rt, requests, statistics, opened, notices, connections) {
         Ok(()) => Ok(()),
         Err(error) => Err(refusal_of_system(&error)),
     }

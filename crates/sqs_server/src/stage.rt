@@ -2,14 +2,14 @@
 
 use crate::arriving::Arriving;
 use crate::plan::{Step, Then};
-use crate::queues::{Made, Mailbox, Queue};
+use crate::queues::{Made, Mailbox, Printer, Queue};
 use crate::reply::Sent;
-use desk::NoPress;
 use futures::channel::oneshot::Receiver;
 use journal::Moment;
 use message::QueueName;
 use queue_actor::AskFuture;
 use queue_config::Wish;
+use std::sync::Wait;
 
 /// A queue that is to be there.
 #[derive(Clone, Copy, Debug)]
@@ -32,17 +32,17 @@ pub enum Purpose {
 
 /// A command that was sent to a queue.
 #[derive(Drop)]
-pub struct Exchange {
+pub struct Exchange<R: Wait + Drop> {
     pub uid: u64,
-    pub mailbox: Mailbox,
+    pub mailbox: Mailbox<R>,
     pub at: Moment,
     pub purpose: Purpose,
-    pub future: AskFuture<NoPress>,
+    pub future: AskFuture<Printer<R>>,
 }
 
 /// How far a request is.
 #[derive(Drop)]
-pub enum Stage {
+pub enum Stage<R: Wait + Drop> {
     /// Its body comes.
     Collecting(Arriving),
     /// A queue is to be there.
@@ -55,12 +55,12 @@ pub enum Stage {
     /// A queue is to be asked; one that is not at hand is looked for by its uid.
     Going {
         uid: u64,
-        queue: Option<Queue>,
+        queue: Option<Queue<R>>,
         at: Moment,
         step: Step,
     },
     /// A queue was asked.
-    Asking(Exchange),
+    Asking(Exchange<R>),
     /// This is to be sent.
     Sending(Sent),
     /// All is done.
@@ -69,26 +69,26 @@ pub enum Stage {
 
 /// What comes of a stage that need not wait.
 #[derive(Drop)]
-pub enum Next {
+pub enum Next<R: Wait + Drop> {
     /// It goes on at once.
-    On(Stage),
+    On(Stage<R>),
     /// It ends.
     Ends(Result<Sent, hyper::Error>),
 }
 
 /// What becomes of a stage that is looked at.
 #[derive(Drop)]
-pub enum Turn {
-    Goes(Next),
+pub enum Turn<R: Wait + Drop> {
+    Goes(Next<R>),
     /// It waits, and the task was registered.
-    Waits(Stage),
+    Waits(Stage<R>),
 }
 
 /// What becomes of a request that goes on for as long as it need not wait.
 #[derive(Drop)]
-pub enum Halt {
+pub enum Halt<R: Wait + Drop> {
     /// It waits at this stage, and the task was registered.
-    Waits(Stage),
+    Waits(Stage<R>),
     /// It has ended.
     Ends(Result<Sent, hyper::Error>),
 }

@@ -4,9 +4,10 @@
 mod conversations;
 
 use crate::arguments::{Refusal, configuration_in};
-use crate::queues::{Letter, is_full};
+use crate::queues::is_full;
 use crate::serving::{listen, serve};
 use crossbeam_channel::{Receiver, unbounded};
+use desk::NoPress;
 use queue_actor::Mail;
 use std::alloc::{AllocError, Global};
 use std::io::{ErrorKind, Read, Write};
@@ -18,15 +19,15 @@ use std::test::Fail;
 use std::thread::Threads;
 use std::time::{Clock, Duration};
 use std::{str, thread};
-use tokio::runtime::Runtime;
 
 /// How long a test waits for anything, in seconds: longer than a busy machine needs.
 const PATIENCE: u64 = 300;
 
-/// A server at a port of its own, in threads of its own.
+/// A server at two ports of its own, in threads of its own.
 #[derive(Drop)]
 struct Started {
     address: SocketAddr,
+    statistics: SocketAddr,
     ended: Receiver<bool>,
 }
 
@@ -49,23 +50,20 @@ where
     let alloc = rt.alloc();
     let bytes = Vec::from_slice(alloc, text.as_bytes())?;
     let config = configuration_in(alloc, Ok(bytes))?;
-    let mut runtime = Runtime::with_worker_threads(rt, 2)?;
-    let listener = listen(rt, &runtime, SocketAddr::from((Ipv4Addr::LOCALHOST, 0)))?;
-    let address = listener.local_addr()?;
+    let requests = listen(rt, SocketAddr::from((Ipv4Addr::LOCALHOST, 0)), 2)?;
+    let shown = listen(rt, SocketAddr::from((Ipv4Addr::LOCALHOST, 0)), 1)?;
+    let (address, statistics) = (requests.address()?, shown.address()?);
     let (ends, ended) = unbounded::<bool, Global>(alloc)?;
     let (own, host) = (*rt, *host);
     let _server = thread::spawn(rt, move || {
-        let outcome = serve(
-            &own,
-            &host,
-            &mut runtime,
-            listener,
-            &config,
-            Some(connections),
-        );
+        let outcome = serve(&own, &host, requests, shown, &config, Some(connections));
         let _ = ends.send(&own, outcome.is_ok());
     })?;
-    Ok(Started { address, ended })
+    Ok(Started {
+        address,
+        statistics,
+        ended,
+    })
 }
 
 /// Whether the server ends, and as it should.
@@ -74,9 +72,9 @@ fn has_ended<R: Wait + Clock>(rt: &R, server: &Started) -> bool {
     matches!(server.ended.recv_timeout(rt, patience), Ok(true))
 }
 
-/// A connection to the server.
-fn connect(rt: &HostRuntime, server: &Started) -> Result<TcpStream, Fail> {
-    let stream = TcpStream::connect(rt, server.address)?;
+/// A connection to a port of the server.
+fn connect(rt: &HostRuntime, address: SocketAddr) -> Result<TcpStream, Fail> {
+    let stream = TcpStream::connect(rt, address)?;
     stream.set_read_timeout(Some(Duration::from_secs(PATIENCE)))?;
     stream.set_write_timeout(Some(Duration::from_secs(PATIENCE)))?;
     stream.set_nodelay(true)?;
@@ -110,14 +108,24 @@ fn whole_reply(bytes: &[u8]) -> Option<(&str, &str)> {
     }
 }
 
-/// The status of a reply and its body, a space between them. Every reply has the content type.
+/// The content type in a head.
+fn type_in(head: &str) -> Option<&str> {
+    let (_, rest) = head.split_once("\r\ncontent-type: ")?;
+    match rest.split_once("\r\n") {
+        Some((kind, _)) => Some(kind),
+        None => Some(rest),
+    }
+}
+
+/// The status of a reply, its content type and its body, with spaces between them. That of the port for requests is
+/// left out: every reply there has it.
 fn told(alloc: Global, head: &str, body: &str) -> Result<String, Fail> {
     let (_, status) = head.split_once("HTTP/1.1 ").ok_or("a status")?;
-    let (code, fields) = status.split_once(" ").ok_or("a code")?;
-    let _ = fields
-        .split_once("\r\ncontent-type: application/x-amz-json-1.0")
-        .ok_or("the content type")?;
-    Ok(format!(in alloc; "{code} {body}")?)
+    let (code, _) = status.split_once(" ").ok_or("a code")?;
+    match type_in(head).ok_or("a content type")? {
+        "application/x-amz-json-1.0" => Ok(format!(in alloc; "{code} {body}")?),
+        kind => Ok(format!(in alloc; "{code} {kind} {body}")?),
+    }
 }
 
 /// The next reply of a connection: its status and its body.
@@ -154,7 +162,13 @@ fn place_of(
     if let Some(place) = clients.iter().position(|it| it.letter == letter) {
         return Ok(place);
     }
-    let stream = connect(rt, server)?;
+    let is_viewer = letter.is_ascii_lowercase();
+    let address = if is_viewer {
+        server.statistics
+    } else {
+        server.address
+    };
+    let stream = connect(rt, address)?;
     clients.push(Client { letter, stream })?;
     Ok(clients.len() - 1)
 }
@@ -210,13 +224,17 @@ fn act(
             let text = request(alloc, action, body)?;
             stream.write_all(text.as_bytes())?;
         }
+        "views" => {
+            let text = format!(in alloc; "GET {rest} HTTP/1.1\r\nHost: localhost\r\n\r\n")?;
+            stream.write_all(text.as_bytes())?;
+        }
         "sends" => {
             let text = rest.replace(alloc, "~", "\r\n")?;
             stream.write_all(text.as_bytes())?;
         }
         "chunks" => send_chunks(alloc, stream, rest.parse::<u32>().ok().ok_or("a number")?)?,
         "blanks" => send_blanks(alloc, stream, rest.parse::<u32>().ok().ok_or("a number")?)?,
-        "gets" | "begins" | "lacks" => return Ok(Some(next_reply(alloc, stream)?)),
+        "gets" | "begins" | "holds" | "lacks" => return Ok(Some(next_reply(alloc, stream)?)),
         "waits" => {
             if !is_silent(stream)? {
                 return Err(Fail::from("no silence"));
@@ -254,6 +272,7 @@ fn talk(rt: &HostRuntime, server: &Started, steps: &str) -> Result<String, Fail>
 fn is_as_wanted(came: Option<&String>, verb: &str, wanted: &str) -> bool {
     match came {
         Some(came) if verb == "begins" => came.starts_with(wanted),
+        Some(came) if verb == "holds" => came.contains(wanted),
         Some(came) if verb == "lacks" => !came.contains(wanted),
         Some(came) => came.as_str() == wanted,
         None => true,
@@ -263,7 +282,7 @@ fn is_as_wanted(came: Option<&String>, verb: &str, wanted: &str) -> bool {
 /// A thousand mails fill a mailbox, and one less does not.
 #[test]
 fn thousand_mails(rt: HostRuntime) -> Result<(), Fail> {
-    let (mailbox, _mails) = unbounded::<Letter, Global>(rt.alloc())?;
+    let (mailbox, _mails) = unbounded::<Mail<NoPress, u8>, Global>(rt.alloc())?;
     for count in 0..1_000u32 {
         assert!(rt; !is_full(mailbox.len()), "{count} mails");
         assert!(rt; mailbox.send(&rt, Mail::End).is_ok());
@@ -272,12 +291,16 @@ fn thousand_mails(rt: HostRuntime) -> Result<(), Fail> {
     Ok(())
 }
 
-/// How many clients the lines have: their letters go up from A.
+/// How many clients the lines have: their letters go up from A, and those of statistics from a.
 fn clients_in(steps: &str) -> u64 {
-    let mut count = 0;
+    let (mut callers, mut viewers) = (0, 0);
     for line in steps.lines() {
         let letter = line.bytes().next().unwrap_or(b'A');
-        count = u64::max(count, letter.saturating_sub(b'A') as u64 + 1);
+        if letter.is_ascii_lowercase() {
+            viewers = u64::max(viewers, letter.saturating_sub(b'a') as u64 + 1);
+        } else {
+            callers = u64::max(callers, letter.saturating_sub(b'A') as u64 + 1);
+        }
     }
-    count
+    callers + viewers
 }

@@ -1,3 +1,4 @@
+pub mod AskedLemmas
 pub mod EscapeLemmas
 pub mod ItemLemmas
 pub mod JoinLemmas

@@ -1,4 +1,5 @@
 pub mod Answer
+pub mod Asked
 pub mod Cut
 pub mod Metrics
 pub mod Puts

@@ -7,7 +7,8 @@ ghost use Rattle.statistics_api.specs.Response.{told_by, as_json, page, for_prom
 
 use crate::metrics::metrics_text;
 use crate::page::PAGE;
-use crate::replies::{answer, method_not_allowed, out_of_memory};
+use crate::replies;
+use crate::replies::{answer, method_not_allowed};
 use crate::text::Text;
 use board::Sheet;
 use std::alloc::Global;
@@ -72,6 +73,14 @@ fn for_prometheus(text: String) -> Response
     }
 }
 
+/// Want of memory, which is told without any.
+pub fn out_of_memory() -> Response
+    ensures told { told_by result ≡ as_json out_of_memory }
+    ensures constant { is_written result.text ≡ false }
+{
+    as_json(replies::out_of_memory())
+}
+
 /// The metrics, or want of memory.
 fn metrics(alloc: Global, sheets: &[Sheet]) -> Response
     ensures told { (told_by result ≡ metrics sheets.now) ⊎ (told_by result ≡ as_json out_of_memory) }
@@ -79,7 +88,7 @@ fn metrics(alloc: Global, sheets: &[Sheet]) -> Response
 {
     match metrics_text(alloc, sheets) {
         Ok(text) => for_prometheus(text),
-        Err(_) => as_json(out_of_memory()),
+        Err(_) => out_of_memory(),
     }
 }
 

@@ -1,6 +1,6 @@
 //! Calls at one desk, one after another.
 
-ghost use Rattle.std.specs.Prelude.{◌≡◌};
+ghost use Rattle.std.specs.Prelude.{◌≡◌, []};
 
 use super::*;
 use std::mem;
@@ -20,7 +20,9 @@ impl Press for Counting {
 
     ghost stands = { λ _ _. Unit {0} };
 
-    ghost tells = { λ _ _. Unit {0} };
+    ghost place = { λ _. [] };
+
+    ghost tells = { λ _ _ _. Unit {0} };
 
     fn blank(&self) -> Option<Shown> {
         None

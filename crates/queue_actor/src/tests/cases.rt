@@ -181,7 +181,7 @@ ask 1: 1000 send a
 wait 2 => sent 0
 wait 0 => offered 0.1 a of 1000
 end 1
-join 1
+join
 ask 1: 2000 look
 wait 3 => ActorGone, with a pass: true
 == while a turn of one queue is held, another queue answers; the first queue answers once its turn is let go
@@ -198,17 +198,17 @@ free
 wait 0 => sent 0
 end 1
 end 2
-join 1
-join 1
+join
+join
 == two callers in threads of their own send to one queue: each is told the numbers of its own messages, and not of the other's
 queue jobs => 1
 start 1
 sends 7
 sends 8
-join 5
-join 5
+join => 5
+join => 5
 end 1
-join 1
+join
 == a poll in an actor's thread ends at the tick of the clock at which its time is up
 queue jobs => 1
 start 1
@@ -218,7 +218,7 @@ wait 1 => 0 visible, 1 entries at 50
 clock: 100
 wait 0 => offered
 end 1
-join 1
+join
 == a client that leaves while its poll waits in an actor's thread takes no message
 queue jobs => 1
 start 1
@@ -231,7 +231,7 @@ wait 0 => sent 0
 ask 1: 1000 look
 wait 1 => 1 visible, 2 entries at 1000
 end 1
-join 1
+join
 == while an actor waits for the turn of another queue that a dead letter is for, the directory answers others; the dead letter then arrives
 queue dead => 1
 queue jobs: policy 1 => 2
@@ -247,5 +247,5 @@ wait 0 => sent 0
 wait 1 => offered 0.1 a of 1000
 wait 2 => offered
 end 2
-join 1
+join
 call 1: 40000 look => 1 visible, 2 entries at 40000";

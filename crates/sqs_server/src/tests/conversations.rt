@@ -4,8 +4,9 @@ use super::*;
 
 /// A conversation's first line says what it shows; then come the lines of its configuration. Behind `--` each line
 /// is what a client does: `asks` an action with a body; `sends` bytes, a tilde for the end of a line; sends so many
-/// `chunks`, or pieces of `blanks`; `gets` a status and a body, or what `begins` so or `lacks` a text; `waits`, and
-/// gets nothing; `leaves`, at once or so many milliseconds later.
+/// `chunks`, or pieces of `blanks`; `gets` a status and a body, or what `begins` so, `holds` or `lacks` a text; `waits`,
+/// and gets nothing; `leaves`, at once or so many milliseconds later. A client with a small letter is one of the port
+/// for statistics: it `views` a path, and gets the content type too.
 const CONVERSATIONS: &str = r#"a creation, on a connection that its client asks to be closed
 --
 A sends POST / HTTP/1.1~Host: localhost~X-Amz-Target: AmazonSQS.CreateQueue~Content-Length: 20~Connection: close~~{"QueueName":"jobs"}
@@ -419,6 +420,64 @@ A waits for nothing
 A asks ListDeadLetterSourceQueues {"QueueUrl":"dead"}
 A gets 200 {"queueUrls":["http://localhost:9324/000000000000/b0","http://localhost:9324/000000000000/b1","http://localhost:9324/000000000000/b2","http://localhost:9324/000000000000/b3","http://localhost:9324/000000000000/b4","http://localhost:9324/000000000000/b5"]}
 
+statistics of a new queue, which go with it, and what is refused there
+--
+A asks CreateQueue {"QueueName":"jobs"}
+A gets 200 {"QueueUrl":"http://localhost:9324/000000000000/jobs"}
+a views /statistics/queues/none
+a gets 404 application/json {"message":"not found"}
+a views /statistics/queues/no%20name/rows
+a gets 404 application/json {"message":"not found"}
+a views /statistics/queues/jobs/alarms
+a gets 200 application/json {"alarms":[]}
+a views /statistics
+a gets 404 application/json {"message":"not found"}
+a sends POST /statistics/queues/none HTTP/1.1~Host: localhost~Content-Length: 2~~{}
+a gets 405 application/json {"message":"method not allowed"}
+a sends DELETE /metrics HTTP/1.1~Host: localhost~~
+a gets 405 application/json {"message":"method not allowed"}
+b sends GET /statistics/queues HTTP/1.1~Host: localhost~Content-Length: 8388609~~
+b gets 413 application/json {"message":"body too large"}
+a views /
+a begins 200 text/html; charset=utf-8 <!doctype html>
+a views /metrics
+a holds jutkariq_queue_messages_visible{queue="jobs"} 0
+A asks DeleteQueue {"QueueUrl":"jobs"}
+A gets 200 {}
+a views /statistics/queues/jobs
+a gets 404 application/json {"message":"not found"}
+a views /statistics/queues?all
+a gets 200 application/json {"queues":[]}
+A asks CreateQueue {"QueueName":"jobs"}
+A gets 200 {"QueueUrl":"http://localhost:9324/000000000000/jobs"}
+a views /statistics/queues/jobs
+a holds "delayed":0,"inFlight":0,"lines":1,"name":"jobs","visible":0}
+
+what is printed of each call, and of a queue that is asked nothing while time goes on
+[[queue]]
+name = "other"
+[[queue]]
+name = "jobs"
+[[alarm]]
+queue = "jobs"
+name = "deep"
+metric = "ApproximateNumberOfMessagesVisible"
+operator = "GreaterThanThreshold"
+threshold = 0
+minutes = 3
+--
+a views /statistics/queues/jobs/alarms
+a gets 200 application/json {"alarms":[{"name":"deep","state":"INSUFFICIENT_DATA"}]}
+A asks SendMessage {"QueueUrl":"jobs","MessageBody":"later","DelaySeconds":3}
+A begins 200 {"MD5OfMessageBody":"c18788c2f274c779da72d9854ea4bfbf"
+a views /statistics/queues/jobs
+a holds "delayed":1,"inFlight":0,"lines":2,"name":"jobs","visible":0}
+a views /statistics/queues
+a holds "delayed":1,"inFlight":0,"lines":2,"name":"jobs","visible":0},{"age":0,
+B leaves 6000
+a views /statistics/queues/jobs
+a holds "delayed":0,"inFlight":0,"lines":2,"name":"jobs","visible":1}
+
 eight connections that are open at once, each of which asks for one queue, sends a body of its own, and is answered
 --
 A asks CreateQueue {"QueueName":"jobs"}
@@ -473,19 +532,24 @@ fn conversations(rt: HostRuntime) -> Result<(), Fail> {
     Ok(())
 }
 
-/// The server ends when as many connections have closed as were asked for, and not before. One that is
-/// still open does not count, and does not keep it.
+/// The server ends when as many connections have closed as were asked for, at both ports together, and not before. One
+/// that is still open does not count, and does not keep it.
 #[test]
 fn closed_connections_are_counted(rt: HostRuntime) -> Result<(), Fail> {
     let alloc = rt.alloc();
     let server = start(&rt, &rt, "", 2)?;
-    let mut open = connect(&rt, &server)?;
+    let mut open = connect(&rt, server.address)?;
     for is_last in [false, true] {
         act(alloc, &mut open, "asks", "ListQueues {}")?;
         let told = next_reply(alloc, &mut open)?;
         assert_eq!(rt; told.as_str(), r#"200 {"QueueUrls":[]}"#);
-        let mut other = connect(&rt, &server)?;
-        act(alloc, &mut other, "asks", "ListQueues {}")?;
+        let port = if is_last {
+            server.statistics
+        } else {
+            server.address
+        };
+        let mut other = connect(&rt, port)?;
+        act(alloc, &mut other, "views", "/statistics/queues")?;
         next_reply(alloc, &mut other)?;
         drop(other);
         if !is_last {
@@ -500,9 +564,8 @@ fn closed_connections_are_counted(rt: HostRuntime) -> Result<(), Fail> {
 /// A port that is taken cannot be opened.
 #[test]
 fn taken_port_is_refused(rt: HostRuntime) -> Result<(), Fail> {
-    let runtime = Runtime::with_worker_threads(&rt, 1)?;
-    let first = listen(&rt, &runtime, SocketAddr::from((Ipv4Addr::LOCALHOST, 0)))?;
-    let Err(refused) = listen(&rt, &runtime, first.local_addr()?) else {
+    let first = listen(&rt, SocketAddr::from((Ipv4Addr::LOCALHOST, 0)), 1)?;
+    let Err(refused) = listen(&rt, first.address()?, 1) else {
         return Err(Fail::from("a port that is taken"));
     };
     assert_eq!(rt; refused, Refusal::Listen);

@@ -6,7 +6,7 @@ use Rattle.sqs_server.specs.Responses.{Judged}
 use Rattle.sqs_server.proofs.answering.first_stage.Goals as goal
 
 pub returns : goal.returns
-returns c =
+returns g c =
     let parts = c.into_parts-head in
     let hint = c.size_hint.result in
     let stage = c.judged.result in

@@ -1,6 +1,6 @@
 use denote.Param.Send.{sendable}
 use Rattle.std.proofs.Crossing.{crosses}
-use Rattle.queue_actor.proofs.ActorSending.{directory_send, directory_sync}
+use Rattle.sqs_server.proofs.ServerSending.{directory_send, directory_sync}
 use Rattle.sqs_server.proofs.queues.start_clock.Goals as goal
 
 pub spawn-telling-requires-send-F : goal.spawn-telling-requires-send-F

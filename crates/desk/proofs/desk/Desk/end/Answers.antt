@@ -9,5 +9,5 @@ fetch_add-ended-requires g c =
     let me : c.exchange-none.new.seat.me ≡ (v, (0, Some c.args.held) ∷ []) = c.exchange-none.ensures.3 ∙ ap (λ carried. (v, (0, Some c.args.held) ∷ rest carried)) c.requires.out in (
       search rules,
       search rules,
-      rw me (ends _ _ _ c.requires.turn.0 (v, (0, Some c.args.held) ∷ []) c.args.held call.made c.self.invariant.1 c.requires.turn.1 refl call.last call.queue call.answered),
+      rw me (ends _ _ _ c.requires.turn.0 (v, (0, Some c.args.held) ∷ []) c.args.held call.made c.self.invariant.1 c.requires.turn.1 refl call.last call.queue call.place call.answered),
     )

@@ -1,5 +1,6 @@
 use Rattle.std.proofs.Common.{◌≡◌, ℕ, [], ◌∷◌, ◌++◌, length, subst, sym, ap, ◌∙◌}
 use Rattle.queue_core.specs.Queue.{QueueHistory}
+use Rattle.desk.specs.Held.{Lying}
 use Rattle.desk.specs.Printed.{TurnReport, report_of, IsNextIn, IsPublicationRecord, IsPrinted}
 use Rattle.desk.proofs.PrintLemmas.{next_in, printed_more}
 use Rattle.desk.proofs.held.Held.print.Goals as goal
@@ -21,6 +22,6 @@ pub returns-clause-told : goal.returns-clause-told
 returns-clause-told g c =
     let told : ℕ = c.self.inside.told in (
       told,
-      subst (λ (q : QueueHistory). g.P.Press.tells (report_of q told) c.in_ok-told.told) (ap (λ x. x.queue) c.self.view_is)
-          (subst (λ (t : TurnReport). g.P.Press.tells t c.in_ok-told.told) c.in-Ok.ensures.ok c.in_ok-told.ensures.told),
+      subst (λ (x : Lying). g.P.Press.tells x.place (report_of x.queue told) c.in_ok-told.told) c.self.view_is
+          (subst (λ (t : TurnReport). g.P.Press.tells (g.P.Press.place c.self.inside.press) t c.in_ok-told.told) c.in-Ok.ensures.ok c.in_ok-told.ensures.told),
     )

@@ -1,4 +1,5 @@
 use Rattle.std.proofs.Common.{◌≡◌, [], subst, sym, ap, ◌∙◌, refl, true, false}
+use Rattle.queue_actor.specs.Calling.{LooksAtTick}
 use Rattle.queue_actor.specs.Serving.{TakesIn, Ends, Serves}
 use Rattle.queue_actor.specs.Waiting.{TakesAnswers}
 use Rattle.queue_actor.proofs.ServingLemmas.{Serving, serving_begins, serving_goes, serving_ends, serving_is_ended, takes_brought, takes_over}
@@ -62,6 +63,7 @@ loop-preserved g c =
     let taken = c.take_in-at.ensures.taken in
     let looked = c.look_over.ensures.looked in
     let at = c.take_in-at.result.0 in
+    let at_tick = subst (λ b. LooksAtTick c.limits.inside.in_flight at b c.look_at_tick-quiet.result c.loop.self.pass c.look_at_tick-quiet.new.self.pass) c.is_tick-is_tick.ensures c.look_at_tick-quiet.ensures in
     let takes = subst (λ b. TakesIn (g.D.Targets.was_taken_out c.args.directory.now) (g.D.Targets.was_retargeted c.args.directory.now) c.args.self.now.uid c.in-Some-next.mail c.loop.last c.loop.parked.items taken.0 c.take_in-at.new.parked.items at b) c.if-is_last.false
     (subst (λ asks. TakesIn (g.D.Targets.was_taken_out c.args.directory.now) (g.D.Targets.was_retargeted c.args.directory.now) c.args.self.now.uid c.in-Some-next.mail c.loop.last asks taken.0 c.take_in-at.new.parked.items at c.take_in-at.result.1) c.make_room.ensures.same taken.1) in (
       tt,
@@ -71,6 +73,6 @@ loop-preserved g c =
           c.in-Some-next.mail at taken.0 looked.0 c.take_in-at.new.parked.items c.look_over.new.parked.items c.move_parcels.new.self.pass
           c.next-in-loop.new.self c.take_in-at.new.mailbox c.look_over.new.mailbox
           c.loop.invariant.2 c.in-Some-next.ensures.some takes taken.2
-          (c.look_over.new.self.pass, looked.1, c.move_parcels.ensures.moved) looked.2,
+          (c.look_at_tick-quiet.result, c.look_at_tick-quiet.new.self.pass, c.look_over.new.self.pass, at_tick, looked.1, c.move_parcels.ensures.moved) looked.2,
       c.look_over.ensures.may,
     )

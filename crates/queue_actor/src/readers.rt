@@ -1,0 +1,104 @@
+//! The readers of the queues' statistics, one of each queue.
+
+ghost use Rattle.std.specs.Prelude.{◌≡◌, [], ◌∷◌, ◌++◌, map, IfSome, IfOk, IfErr, OnOk, OnErr};
+ghost use Rattle.message.specs.declared.fault.Fault.TheVariants.{OutOfMemory};
+ghost use Rattle.queue_actor.specs.Reading.{IsReadOf};
+
+use board::{Reader, Sheet};
+use message::{Fault, QueueName};
+use redrive::is_same_name;
+use std::alloc::Global;
+
+/// The reader of a queue's board, with the uid and the name of the queue.
+#[derive(Drop)]
+pub struct Shown {
+    pub uid: u64,
+    pub name: QueueName,
+    pub reader: Reader,
+    pub ghost named: { reader.given.name ≡ name },
+}
+
+impl Shown {
+    /// The reader of the board of a queue: the sheet that the board began with has the queue's name.
+    pub fn new(uid: u64, name: QueueName, reader: Reader) -> Shown
+        requires { reader.given.name ≡ name }
+        ensures { (result.uid ≡ uid) × (result.name ≡ name) × (result.reader ≡ reader) }
+    {
+        Shown { uid, name, reader }
+    }
+
+    /// What was printed last, as far as it is seen. It takes no turn of the queue. `OutOfMemory` is the only refusal.
+    fn read(&mut self, alloc: Global) -> Result<Sheet, Fault>
+        ensures read { IfOk result (IsReadOf self.old.reader.given) }
+        ensures name { IfOk result (λ sheet. sheet.name ≡ self.old.name) }
+        ensures same { (self.new.uid ≡ self.old.uid) × (self.new.name ≡ self.old.name) × (self.new.reader.given ≡ self.old.reader.given) }
+        ensures errors { IfErr result (λ fault. fault ≡ OutOfMemory) }
+    {
+        self.reader.read(alloc)
+    }
+}
+
+/// The readers of all queues that have one.
+#[derive(Drop)]
+pub(crate) struct Readers {
+    all: Vec<Shown>,
+}
+
+impl Readers {
+    /// None.
+    pub(crate) fn new(alloc: Global) -> Readers
+        ensures { result.all.items ≡ [] }
+    {
+        Readers {
+            all: Vec::new(alloc),
+        }
+    }
+
+    /// Adds the reader of a queue. `OutOfMemory` is the only refusal.
+    pub(crate) fn add(&mut self, shown: Shown) -> Result<(), Fault>
+        ensures ok { OnOk result (self.new.all.items ≡ self.old.all.items ++ shown ∷ []) }
+        ensures err { OnErr result (self.new.all.items ≡ self.old.all.items) }
+        ensures errors { IfErr result (λ fault. fault ≡ OutOfMemory) }
+    {
+        self.all.push(shown)?;
+        Ok(())
+    }
+
+    /// Takes out the reader of the queue of a uid.
+    pub(crate) fn remove(&mut self, uid: u64) -> Option<Shown>
+        ensures uid { IfSome result (λ shown. shown.uid ≡ uid) }
+    {
+        match self.all.iter().position(|shown| shown.uid == uid) {
+            Some(place) => Some(self.all.remove(place)),
+            None => None,
+        }
+    }
+
+    /// The statistics of the queue of a name, where it has a reader. `OutOfMemory` is the only refusal.
+    pub(crate) fn sheet(&mut self, alloc: Global, name: &QueueName) -> Result<Option<Sheet>, Fault>
+        ensures name { IfOk result (λ found. IfSome found (λ sheet. sheet.name ≡ name.now)) }
+        ensures errors { IfErr result (λ fault. fault ≡ OutOfMemory) }
+    {
+        let place = self
+            .all
+            .iter()
+            .position(|shown| is_same_name(&shown.name, name));
+        match place {
+            Some(place) => Ok(Some(self.all[place].read(alloc)?)),
+            None => Ok(None),
+        }
+    }
+
+    /// The statistics of all queues that have a reader, in the order in which they came. `OutOfMemory` is the only
+    /// refusal.
+    pub(crate) fn sheets(&mut self, alloc: Global) -> Result<Vec<Sheet>, Fault>
+        ensures names { IfOk result (λ sheets. map (λ sheet. sheet.name) sheets.items ≡ map (λ shown. shown.name) self.old.all.items) }
+        ensures errors { IfErr result (λ fault. fault ≡ OutOfMemory) }
+    {
+        let mut sheets = Vec::with_capacity(alloc, self.all.len())?;
+        for place in 0..self.all.len() {
+            sheets.push(self.all[place].read(alloc)?)?;
+        }
+        Ok(sheets)
+    }
+}

@@ -1,0 +1,54 @@
+-- What is sent at the port of the statistics (this project's own).
+use Rattle.std.specs.Prelude.{◌≡◌, ◌⊎◌, ℕ, nat_lt, MatchBool, List, [], codes}
+use Rattle.board.specs.Sheet.{Statistics}
+use Rattle.http.specs.Request as request
+use Rattle.http.specs.Response.{body_of, head_of}
+use Rattle.http.specs.StatusCode.{IsStatusCode}
+use Rattle.http.specs.declared.request.Request.{Request}
+use Rattle.http.specs.declared.response.Response.{Response}
+use Rattle.http_body.specs.SizeHint.{exact, lower}
+use Rattle.http_body.specs.declared.size_hint.SizeHint.{SizeHint}
+use Rattle.http_body_util.specs.declared.full.Full.{Full}
+use Rattle.http_header.specs.FieldValue.{FieldValue, plain_value}
+use Rattle.http_header.specs.HeaderMap.{Entries, insert}
+use Rattle.http_uri.specs.Uri.{uri_path}
+use Rattle.hyper.specs.Incoming.{size_left}
+use Rattle.hyper.specs.declared.body.incoming.Incoming.{Incoming}
+use Rattle.statistics_api.specs.Answer.{out_of_memory}
+use Rattle.statistics_api.specs.Response.{Told, as_json, response_of}
+use Rattle.tokio.specs.declared.net.stream.TcpStream.{TcpStream}
+use Rattle.sqs_server.specs.Head.{body_limit}
+use Rattle.sqs_server.specs.Sent.{HoldsBody}
+
+-- want of memory
+abbrev pub no_memory : Told
+no_memory = as_json out_of_memory
+
+-- where the body of a request is too long
+abbrev pub body_too_large : Told
+body_too_large = as_json (413, codes "{\"message\":\"body too large\"}")
+
+-- the headers of a response of a content type
+abbrev pub typed_headers : List ℕ → Entries FieldValue
+typed_headers kind = insert [] (codes "content-type") (plain_value kind)
+
+-- a response sends this: its status, its bytes, and the content type, unless there was no memory for that
+pub record Sends (told : Told) (response : Response (Full (List ℕ))) : Type 0 where
+  pub status : IsStatusCode told.0 → (head_of response).status ≡ told.0
+  pub body : HoldsBody (body_of response) told.2
+  pub headers : ((head_of response).headers ≡ typed_headers told.1) ⊎ ((head_of response).headers ≡ [])
+
+-- a method and a path are answered by the statistics of some queues, or there is no memory for that
+abbrev pub IsTold : List ℕ → List ℕ → Told → Type 0
+IsTold method path told = ((sheets : List Statistics) × (told ≡ response_of method path sheets)) ⊎ (told ≡ no_memory)
+
+-- the same, where the least size that a body can have is not too large
+abbrev pub IsJudgedBySize : List ℕ → List ℕ → ℕ → Told → Type 0
+IsJudgedBySize method path size told = MatchBool (nat_lt body_limit size) (told ≡ body_too_large) (IsTold method path told)
+
+-- a request is judged by the least size that its body can have, which is the announced one where there is one, by its method and by its path
+abbrev pub IsAnswered : Request (Incoming TcpStream) → Response (Full (List ℕ)) → Type 0
+IsAnswered asked response =
+    (hint : SizeHint) × (exact hint ≡ size_left (request.body_of asked).kind) × (told : Told)
+    × IsJudgedBySize (request.head_of asked).method (uri_path (request.head_of asked).uri) (lower hint) told
+    × (Sends told response ⊎ Sends no_memory response)

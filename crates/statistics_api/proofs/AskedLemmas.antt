@@ -1,0 +1,71 @@
+-- What a request is answered follows from the statistics that it asks for.
+use Rattle.std.proofs.Common.{◌≡◌, ◌≢◌, ℕ, Bool, true, false, cond, List, [], ◌∷◌, Option, Some, None, codes, bytes_eq, find, option_to_list, refl, sym, ap, ◌∙◌}
+use Rattle.board.specs.Sheet.{Statistics}
+use Rattle.statistics_api.specs.declared.routes.Route.{Route}
+use Rattle.statistics_api.specs.declared.routes.Route.TheVariants.{Queues, Queue, Rows, Alarms}
+use Rattle.statistics_api.specs.Answer.{Answer, queue_named, of_queue, told, if_allowed, answer_of, not_found, method_not_allowed}
+use Rattle.statistics_api.specs.Response.{Told, as_json, page, metrics, if_get, response_of}
+use Rattle.statistics_api.specs.Routes.{target_of}
+
+-- the first that is found is found again
+again-if : {X : Type 0} (p : X → Bool) (x : X) (xs : List X) (b : Bool) → p x ≡ b → find p (option_to_list (find p xs)) ≡ find p xs
+    → find p (option_to_list (cond b (Some x) (find p xs))) ≡ cond b (Some x) (find p xs)
+again-if p x xs true is rest = ap (λ (b : Bool). cond b (Some x) None) is
+again-if p x xs false is rest = rest
+
+again : {X : Type 0} (p : X → Bool) (xs : List X) → find p (option_to_list (find p xs)) ≡ find p xs
+again p [] = refl
+again p (x ∷ xs) = again-if p x xs (p x) refl (again p xs)
+
+told_again : (route : Route) (name : List ℕ) (sheets : List Statistics) → route ≢ Queues → told route name (option_to_list (queue_named name sheets)) ≡ told route name sheets
+told_again Queues name sheets other = absurd (other refl)
+told_again Queue name sheets other = ap (of_queue Queue) (again (λ s. bytes_eq s.name name) sheets)
+told_again Rows name sheets other = ap (of_queue Rows) (again (λ s. bytes_eq s.name name) sheets)
+told_again Alarms name sheets other = ap (of_queue Alarms) (again (λ s. bytes_eq s.name name) sheets)
+
+-- at each path but that of the metrics the answer alone depends on queues
+by_answer-if : (list all : Bool) (method : List ℕ) (xs ys : List Statistics) (a b : Answer) → all ≡ false → a ≡ b
+    → cond list (if_get method page) (cond all (if_get method (metrics xs)) (as_json a)) ≡ cond list (if_get method page) (cond all (if_get method (metrics ys)) (as_json b))
+by_answer-if true all method xs ys a b none same = refl
+by_answer-if false false method xs ys a b none same = ap as_json same
+by_answer-if false true method xs ys a b none same = absurd cc
+
+by_answer : (method path : List ℕ) (xs ys : List Statistics) → bytes_eq path (codes "/metrics") ≡ false → answer_of method path xs ≡ answer_of method path ys
+    → response_of method path xs ≡ response_of method path ys
+by_answer method path xs ys other same = by_answer-if (bytes_eq path (codes "/")) (bytes_eq path (codes "/metrics")) method xs ys (answer_of method path xs) (answer_of method path ys) other same
+
+-- a path of a queue
+pub enough_named : (method path name : List ℕ) (route : Route) (sheets : List Statistics) → bytes_eq path (codes "/metrics") ≡ false → Some (route, name) ≡ target_of path → route ≢ Queues
+    → response_of method path sheets ≡ response_of method path (option_to_list (queue_named name sheets))
+enough_named method path name route sheets other is one =
+    let there : (xs : List Statistics) → answer_of method path xs ≡ if_allowed method (Some (route, name)) xs = λ xs. ap (λ o. if_allowed method o xs) (sym is) in
+    let same : if_allowed method (Some (route, name)) sheets ≡ if_allowed method (Some (route, name)) (option_to_list (queue_named name sheets)) =
+    ap (λ (a : Answer). cond (bytes_eq method (codes "GET")) a method_not_allowed) (sym (told_again route name sheets one)) in
+    by_answer method path sheets (option_to_list (queue_named name sheets)) other (there sheets ∙ same ∙ sym (there (option_to_list (queue_named name sheets))))
+
+-- a path that is none
+pub enough_none : (method path : List ℕ) (sheets : List Statistics) → bytes_eq path (codes "/metrics") ≡ false → None ≡ target_of path
+    → response_of method path sheets ≡ response_of method path []
+enough_none method path sheets other is =
+    let there : (xs : List Statistics) → answer_of method path xs ≡ not_found = λ xs. ap (λ o. if_allowed method o xs) (sym is) in
+    by_answer method path sheets [] other (there sheets ∙ sym (there []))
+
+-- another method
+get_refused : (method : List ℕ) (told : Told) → bytes_eq method (codes "GET") ≡ false → if_get method told ≡ as_json method_not_allowed
+get_refused method told other = ap (λ (b : Bool). cond b told (as_json method_not_allowed)) other
+
+allowed_refused : (method : List ℕ) (o : Option (Route × List ℕ)) (xs ys : List Statistics) → bytes_eq method (codes "GET") ≡ false → if_allowed method o xs ≡ if_allowed method o ys
+allowed_refused method None xs ys other = refl
+allowed_refused method (Some t) xs ys other =
+    ap (λ (b : Bool). cond b (told t.0 t.1 xs) method_not_allowed) other ∙ sym (ap (λ (b : Bool). cond b (told t.0 t.1 ys) method_not_allowed) other)
+
+both-if : (list all : Bool) (p m n : Told) (a b : Answer) → m ≡ n → a ≡ b → cond list p (cond all m (as_json a)) ≡ cond list p (cond all n (as_json b))
+both-if true all p m n a b first second = refl
+both-if false true p m n a b first second = first
+both-if false false p m n a b first second = ap as_json second
+
+pub enough_refused : (method path : List ℕ) (sheets : List Statistics) → bytes_eq method (codes "GET") ≡ false → response_of method path sheets ≡ response_of method path []
+enough_refused method path sheets other =
+    both-if (bytes_eq path (codes "/")) (bytes_eq path (codes "/metrics")) (if_get method page) (if_get method (metrics sheets)) (if_get method (metrics []))
+    (answer_of method path sheets) (answer_of method path [])
+    (get_refused method (metrics sheets) other ∙ sym (get_refused method (metrics []) other)) (allowed_refused method (target_of path) sheets [] other)

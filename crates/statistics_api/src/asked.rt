@@ -1,0 +1,38 @@
+//! Which queues' statistics the answer to a request takes.
+
+ghost use Rattle.std.specs.Prelude.{◌≡◌, List};
+ghost use Rattle.board.specs.Sheet.{Statistics};
+ghost use Rattle.statistics_api.specs.Response.{response_of};
+ghost use Rattle.statistics_api.specs.Asked.{taken};
+
+use crate::routes::{Route, target_without_memory};
+
+/// Of which queues a request asks for statistics.
+#[derive(Clone, Copy, Debug)]
+pub enum Asked<'p> {
+    /// Of none: the answer is the same, whatever queues there are.
+    Nothing,
+    /// Of all.
+    Queues,
+    /// Of the one that has a name, if there is one.
+    Queue(&'p str),
+}
+
+/// Of which queues a request asks for statistics. Those of others do not change what [`respond`](crate::respond)
+/// answers.
+#[tactic(auto, using(crate::proofs::AskedLemmas::enough_named, crate::proofs::AskedLemmas::enough_none, crate::proofs::AskedLemmas::enough_refused))]
+pub fn asked_for<'p>(method: &str, path: &'p str) -> Asked<'p>
+    ensures enough { (sheets : List Statistics) → response_of method.now path.now sheets ≡ response_of method.now path.now (taken result sheets) }
+{
+    if method != "GET" {
+        return Asked::Nothing;
+    }
+    if path == "/metrics" {
+        return Asked::Queues;
+    }
+    match target_without_memory(path) {
+        None => Asked::Nothing,
+        Some(target) if target.route == Route::Queues => Asked::Queues,
+        Some(target) => Asked::Queue(target.name),
+    }
+}
