@@ -4,4 +4,5 @@ pub mod Placing
 pub mod PairLemmas
 pub mod Missing
 pub mod Copies
+pub mod OnlyReader
 pub mod Sending

@@ -1,3 +1,4 @@
 pub mod BodyLemmas
 pub mod ServerSending
 pub mod StageLemmas
+pub mod ViewLemmas

@@ -39,6 +39,7 @@ use Rattle.hyper.specs.contracts.rt.TokioTimer as tokio_timer
 use Rattle.hyper.specs.contracts.server.conn.http1.Connection as served
 use Rattle.std.specs.contracts.alloc.Global as heap_handle
 use Rattle.std.specs.contracts.result.Result as result
+use Rattle.std.specs.declared.sync.Wait as wait
 use Rattle.std.specs.contracts.impls.GlobalAllocator.TheImpl as allocator
 use Rattle.tokio.proofs.net.stream.TcpStream.TheSendSync as tcp
 use Rattle.tokio.specs.contracts.net.stream.TcpStream as stream
@@ -62,12 +63,12 @@ use Rattle.sqs_server.specs.contracts.stage.Stage as stage
 use Rattle.sqs_server.specs.contracts.statistics.StatisticsFront as statistics
 
 -- what a queue is served with, where the runtime may go to another thread
-module _ (T : RattleType) (s : IsSend T) where
+module _ (T : RattleType) (w : wait.Ghosts T.Denot) (s : IsSend T) where
   abbrev Prints : RattleType
   Prints = publisher.the_row T
 
   abbrev g : Ghosts Prints.Denot told.the_row.Denot
-  g = impl.ghosts T
+  g = impl.ghosts T w impl.no_dict impl.no_dict
 
   abbrev Slots : RattleType
   Slots = slot.the_row (answer.the_row Prints told.the_row g)
@@ -100,13 +101,13 @@ module _ (T : RattleType) (s : IsSend T) where
   pub directory_sync : IsSync (directory.the_row Prints Slots told.the_row g)
   directory_sync = directory_syncs Prints told.the_row g prints_send
 
-  queue_send : IsSend (queue.the_row T)
+  queue_send : IsSend (queue.the_row T w)
   queue_send = search (desk_send, desk_sync, pass_send, mail_send, sendable, crosses) depth 40 fits 100000
 
-  exchange_field_send : IsSend (exchange.the_field T).row
+  exchange_field_send : IsSend (exchange.the_field T w).row
   exchange_field_send =
       struct_send
-      (parts.shape (exchange.the_type T)) (
+      (parts.shape (exchange.the_type T w)) (
         search (sendable, crosses) depth 40 fits 100000,
         (
           search (mail_send, sendable, crosses) depth 40 fits 100000,
@@ -117,10 +118,10 @@ module _ (T : RattleType) (s : IsSend T) where
         ),
       )
 
-  stage_field_send : IsSend (stage.the_field T).row
+  stage_field_send : IsSend (stage.the_field T w).row
   stage_field_send =
       enum_send
-      (variants.shape (stage.the_type T)) (
+      (variants.shape (stage.the_type T w)) (
         (arriving.the_field_send, tt),
         (
           (creation.the_field_send, tt),
@@ -130,7 +131,7 @@ module _ (T : RattleType) (s : IsSend T) where
               (
                 search (sendable, crosses) depth 40 fits 100000,
                 (
-                  option.the_field_send (queue.the_row T) queue_send,
+                  option.the_field_send (queue.the_row T w) queue_send,
                   (search (sendable, crosses) depth 40 fits 100000, (step.the_field_send, tt)),
                 ),
               ),
@@ -143,23 +144,23 @@ module _ (T : RattleType) (s : IsSend T) where
         ),
       )
 
-pub front_send : (T : RattleType) → IsSend T → IsSend (front.the_row T)
-front_send T s =
-    let one = directory_send T s in
-    let both = directory_sync T s in
+pub front_send : (T : RattleType) (w : wait.Ghosts T.Denot) → IsSend T → IsSend (front.the_row T w)
+front_send T w s =
+    let one = directory_send T w s in
+    let both = directory_sync T w s in
     search (order.the_send, sendable, crosses) depth 40 fits 100000
 
-pub answering_send : (T : RattleType) → IsSend T → IsSend (answering.the_row T)
-answering_send T s =
+pub answering_send : (T : RattleType) (w : wait.Ghosts T.Denot) → IsSend T → IsSend (answering.the_row T w)
+answering_send T w s =
     recorded_send
-    (answering.the_field T).row
+    (answering.the_field T w).row
     _
     _
-    (answering.the_type T).to_one
+    (answering.the_type T w).to_one
     (
     struct_send
-    (parts.shape (answering.the_type T))
-    (global.the_field_send, (option.the_field_send (front.the_row T) (front_send T s), (stage_field_send T s, tt)))
+    (parts.shape (answering.the_type T w))
+    (global.the_field_send, (option.the_field_send (front.the_row T w) (front_send T w s), (stage_field_send T w s, tt)))
     )
 
 -- ---- connections
@@ -170,66 +171,66 @@ Body = full_body.the_row (shared_bytes.the_row heap_handle.the_row allocator.gho
 body_send : IsSend Body
 body_send = full.the_send _ (bytes.the_send _ _ global.the_send global.the_sync heap.the_frees)
 
-abbrev Served : RattleType → RattleType
-Served T = served.the_row stream.the_row (front.the_row T) Body (tokio_timer.the_row T) (response.the_row Body) error.the_row (answering.the_row T)
+abbrev Served : (T : RattleType) → wait.Ghosts T.Denot → RattleType
+Served T w = served.the_row stream.the_row (front.the_row T w) Body (tokio_timer.the_row T) (response.the_row Body) error.the_row (answering.the_row T w)
 
-served_send : (T : RattleType) → IsSend T → IsSend (Served T)
-served_send T s = connection.the_send _ _ _ _ _ _ _ tcp.the_send (front_send T s) body_send (timer.the_send T s) (answering_send T s)
+served_send : (T : RattleType) (w : wait.Ghosts T.Denot) → IsSend T → IsSend (Served T w)
+served_send T w s = connection.the_send _ _ _ _ _ _ _ tcp.the_send (front_send T w s) body_send (timer.the_send T s) (answering_send T w s)
 
-pub caller_send : (T : RattleType) → IsSend T → IsSend (guest_type.the_row (Served T) T)
-caller_send T s = guest.the_send (Served T) T (served_send T s) s
+pub caller_send : (T : RattleType) (w : wait.Ghosts T.Denot) → IsSend T → IsSend (guest_type.the_row (Served T w) T)
+caller_send T w s = guest.the_send (Served T w) T (served_send T w s) s
 
 -- those who ask for statistics
 
-pub statistics_send : (T : RattleType) → IsSend T → IsSend (statistics.the_row T)
-statistics_send T s =
-    let one = directory_send T s in
-    let both = directory_sync T s in
+pub statistics_send : (T : RattleType) (w : wait.Ghosts T.Denot) → IsSend T → IsSend (statistics.the_row T w)
+statistics_send T w s =
+    let one = directory_send T w s in
+    let both = directory_sync T w s in
     search (sendable, crosses) depth 40 fits 100000
 
-abbrev Viewed : RattleType → RattleType
-Viewed T = served.the_row stream.the_row (statistics.the_row T) Body (tokio_timer.the_row T) (response.the_row Body) error.the_row (ready.the_row (result.the_row (response.the_row Body) error.the_row))
+abbrev Viewed : (T : RattleType) → wait.Ghosts T.Denot → RattleType
+Viewed T w = served.the_row stream.the_row (statistics.the_row T w) Body (tokio_timer.the_row T) (response.the_row Body) error.the_row (ready.the_row (result.the_row (response.the_row Body) error.the_row))
 
-viewed_send : (T : RattleType) → IsSend T → IsSend (Viewed T)
-viewed_send T s = connection.the_send _ _ _ _ _ _ _ tcp.the_send (statistics_send T s) body_send (timer.the_send T s) (search (body_send, sendable, crosses) depth 40 fits 100000)
+viewed_send : (T : RattleType) (w : wait.Ghosts T.Denot) → IsSend T → IsSend (Viewed T w)
+viewed_send T w s = connection.the_send _ _ _ _ _ _ _ tcp.the_send (statistics_send T w s) body_send (timer.the_send T s) (search (body_send, sendable, crosses) depth 40 fits 100000)
 
-pub viewer_send : (T : RattleType) → IsSend T → IsSend (guest_type.the_row (Viewed T) T)
-viewer_send T s = guest.the_send (Viewed T) T (viewed_send T s) s
+pub viewer_send : (T : RattleType) (w : wait.Ghosts T.Denot) → IsSend T → IsSend (guest_type.the_row (Viewed T w) T)
+viewer_send T w s = guest.the_send (Viewed T w) T (viewed_send T w s) s
 
 -- ---- threads of their own
 
-pub serving_send : (T : RattleType) → IsSend T → IsSend (serving.the_row T)
-serving_send T s =
+pub serving_send : (T : RattleType) (w : wait.Ghosts T.Denot) → IsSend T → IsSend (serving.the_row T w)
+serving_send T w s =
     recorded_send
-    (serving.the_field T).row
+    (serving.the_field T w).row
     _
     _
-    (serving.the_type T).to_one
+    (serving.the_type T w).to_one
     (
     struct_send
-    (parts.shape (serving.the_type T)) (
+    (parts.shape (serving.the_type T w)) (
       s,
       (
         global.the_field_send,
         (
-          actor_field_send T s,
+          actor_field_send T w s,
           (
-            (let one = mail_send T s in search (channel.the_send, sendable, crosses) depth 40 fits 100000),
-            ((let one = directory_send T s in let both = directory_sync T s in search (sendable, crosses) depth 40 fits 100000), tt),
+            (let one = mail_send T w s in search (channel.the_send, sendable, crosses) depth 40 fits 100000),
+            ((let one = directory_send T w s in let both = directory_sync T w s in search (sendable, crosses) depth 40 fits 100000), tt),
           ),
         ),
       ),
     )
     )
 
-pub maker_send : (T : RattleType) → IsSend T → IsSend (maker.the_row T)
-maker_send T s =
-    let one = directory_send T s in
-    let both = directory_sync T s in
+pub maker_send : (T : RattleType) (w : wait.Ghosts T.Denot) → IsSend T → IsSend (maker.the_row T w)
+maker_send T w s =
+    let one = directory_send T w s in
+    let both = directory_sync T w s in
     search (order.the_send, channel.the_send, sendable, crosses) depth 40 fits 100000
 
-pub showing_send : (T : RattleType) → IsSend T → IsSend (showing.the_row T)
-showing_send T s =
-    let one = statistics_send T s in
+pub showing_send : (T : RattleType) (w : wait.Ghosts T.Denot) → IsSend T → IsSend (showing.the_row T w)
+showing_send T w s =
+    let one = statistics_send T w s in
     let other = timer.the_send T s in
     search (sendable, crosses) depth 40 fits 100000

@@ -1,6 +1,6 @@
 //! What comes over HTTP is asked of the queues, and what they answer is sent.
 
-ghost use Rattle.std.specs.Prelude.{◌≡◌, ◌⊎◌, Ok, Err, None, IfOk, IfErr, option_map};
+ghost use Rattle.std.specs.Prelude.{◌≡◌, ◌⊎◌, ⊤, Ok, Err, None, IfOk, IfErr, option_map};
 ghost use Rattle.futures.specs.Task.{IsArmed, Keeps};
 ghost use Rattle.aws_json.specs.declared.reply.ReplyShape.TheVariants as shapes;
 ghost use Rattle.message.specs.declared.fault.Fault.TheVariants.{OutOfMemory, QueueDoesNotExist};
@@ -78,6 +78,26 @@ fn refuses<R: Wait + Drop>(fault: Fault) -> Next<R>
     ensures { result ≡ told.refuses fault }
 {
     Next::Ends(Ok(refused(fault)))
+}
+
+/// Goes on where an order of a queue was refused. One of its name that came to be there meanwhile is looked at.
+fn unmade<R: Wait + Drop>(creation: Creation, fault: Fault) -> Next<R>
+    ensures { Makes {T = ⊤} creation (Err fault) result }
+{
+    match fault {
+        Fault::QueueNameExists => Next::On(Stage::Creating(creation)),
+        fault => refuses(fault),
+    }
+}
+
+/// Goes on where the look at a queue was refused. One that was taken out meanwhile is made anew.
+fn unseen<R: Wait + Drop>(creation: Creation, fault: Fault) -> Next<R>
+    ensures { Looked creation (Err fault) result }
+{
+    match fault {
+        Fault::ActorGone => Next::On(Stage::Creating(creation)),
+        fault => refuses(fault),
+    }
 }
 
 /// What comes to be sent of a body that did not come whole.
@@ -369,8 +389,7 @@ impl<R: Wait + Clock + Drop> Front<R> {
     {
         match made.outcome {
             Ok(()) => self.answers(Ok(ReplyShape::QueueUrl(creation.name))),
-            Err(Fault::QueueNameExists) => Next::On(Stage::Creating(creation)),
-            Err(fault) => refuses(fault),
+            Err(fault) => unmade(creation, fault),
         }
     }
 
@@ -511,8 +530,7 @@ impl<R: Wait + Clock + Drop> Front<R> {
     {
         match outcome {
             Ok(Performed { command: _, reply }) => self.seen(creation, reply),
-            Err(Fault::ActorGone) => Next::On(Stage::Creating(creation)),
-            Err(fault) => refuses(fault),
+            Err(fault) => unseen(creation, fault),
         }
     }
 

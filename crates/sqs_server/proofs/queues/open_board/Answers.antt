@@ -1,0 +1,12 @@
+use Rattle.std.proofs.Common.{ap, sym, ◌∙◌}
+use Rattle.board.specs.Shown.{Acquaintance}
+use Rattle.board.proofs.OnlyReader.{taken_is}
+use Rattle.sqs_server.proofs.queues.open_board.Goals as goal
+
+pub returns-in-Some-clause-book : goal.returns-in-Some-clause-book
+returns-in-Some-clause-book g c =
+    ap (λ (r : Acquaintance). r.book) (taken_is _ c.in-Some.reader c.pop.new.self.items (sym c.in_ok-printer.ensures.readers ∙ c.in-Some.ensures.items))
+
+pub returns-in-Some-clause-name : goal.returns-in-Some-clause-name
+returns-in-Some-clause-name g c =
+    ap (λ (r : Acquaintance). r.given.name) (taken_is _ c.in-Some.reader c.pop.new.self.items (sym c.in_ok-printer.ensures.readers ∙ c.in-Some.ensures.items)) ∙ c.in_ok-sheet.ensures.name
