@@ -1,5 +1,7 @@
 -- What is sent at the port of the statistics (this project's own).
-use Rattle.std.specs.Prelude.{◌≡◌, ◌⊎◌, ℕ, nat_lt, MatchBool, List, [], codes}
+use Rattle.std.specs.Prelude.{◌≡◌, ◌⊎◌, ℕ, nat_lt, ◌&&◌, MatchBool, List, [], codes}
+use Rattle.std.specs.List.{AllByRecursion}
+use Rattle.std.specs.Str.{bytes_eq}
 use Rattle.board.specs.Sheet.{Statistics}
 use Rattle.http.specs.Request as request
 use Rattle.http.specs.Response.{body_of, head_of}
@@ -14,7 +16,9 @@ use Rattle.http_header.specs.HeaderMap.{Entries, insert}
 use Rattle.http_uri.specs.Uri.{uri_path}
 use Rattle.hyper.specs.Incoming.{size_left}
 use Rattle.hyper.specs.declared.body.incoming.Incoming.{Incoming}
+use Rattle.queue_actor.specs.Reading.{IsReadUnder}
 use Rattle.statistics_api.specs.Answer.{out_of_memory}
+use Rattle.statistics_api.specs.Asked.{TellsOfQueues}
 use Rattle.statistics_api.specs.Response.{Told, as_json, response_of}
 use Rattle.tokio.specs.declared.net.stream.TcpStream.{TcpStream}
 use Rattle.sqs_server.specs.Head.{body_limit}
@@ -38,17 +42,23 @@ pub record Sends (told : Told) (response : Response (Full (List ℕ))) : Type 0 
   pub body : HoldsBody (body_of response) told.2
   pub headers : ((head_of response).headers ≡ typed_headers told.1) ⊎ ((head_of response).headers ≡ [])
 
--- a method and a path are answered by the statistics of some queues, or there is no memory for that
+-- these are statistics of queues, each as its board had them after some turns, under the name of the queue
+abbrev pub AreRead : List Statistics → Type 0
+AreRead sheets = AllByRecursion (λ sheet. IsReadUnder sheet.name sheet) sheets
+
+-- A method and a path are answered by what was read of queues. There may be no memory for an answer that tells of queues, and for no other.
 abbrev pub IsTold : List ℕ → List ℕ → Told → Type 0
-IsTold method path told = ((sheets : List Statistics) × (told ≡ response_of method path sheets)) ⊎ (told ≡ no_memory)
+IsTold method path told =
+    ((sheets : List Statistics) × AreRead sheets × (told ≡ response_of method path sheets)) ⊎ ((told ≡ no_memory) × TellsOfQueues method path)
 
--- the same, where the least size that a body can have is not too large
+-- the same, where a body of this least size is not too large for the one method whose bodies are looked at
 abbrev pub IsJudgedBySize : List ℕ → List ℕ → ℕ → Told → Type 0
-IsJudgedBySize method path size told = MatchBool (nat_lt body_limit size) (told ≡ body_too_large) (IsTold method path told)
+IsJudgedBySize method path size told =
+    MatchBool (bytes_eq method (codes "GET") && nat_lt body_limit size) (told ≡ body_too_large) (IsTold method path told)
 
--- a request is judged by the least size that its body can have, which is the announced one where there is one, by its method and by its path
+-- a request is judged by its method, by the least size that its body can have, which is the announced one where there is one, and by its path
 abbrev pub IsAnswered : Request (Incoming TcpStream) → Response (Full (List ℕ)) → Type 0
 IsAnswered asked response =
     (hint : SizeHint) × (exact hint ≡ size_left (request.body_of asked).kind) × (told : Told)
     × IsJudgedBySize (request.head_of asked).method (uri_path (request.head_of asked).uri) (lower hint) told
-    × (Sends told response ⊎ Sends no_memory response)
+    × Sends told response

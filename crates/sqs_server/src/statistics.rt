@@ -1,14 +1,16 @@
 //! The service of a connection to the port of the statistics: each request is answered from what was printed of the
 //! queues, and no queue's turn is taken.
 
-ghost use Rattle.std.specs.Prelude.{◌≡◌, ◌⊎◌, [], IfOk, IfErr};
+ghost use Rattle.std.specs.Prelude.{◌≡◌, ◌≢◌, ◌⊎◌, true, false, [], IfOk, IfErr, IsOk, IsOkAnd, IsSomeAnd};
 ghost use Rattle.http.specs.Response.{body_of, head_of};
 ghost use Rattle.http.specs.StatusCode.{IsStatusCode};
 ghost use Rattle.message.specs.declared.fault.Fault.TheVariants.{OutOfMemory};
+ghost use Rattle.statistics_api.specs.Asked.{TellsOfQueues};
 ghost use Rattle.statistics_api.specs.Response.{told_by};
-ghost use Rattle.statistics_api.specs.Text.{bytes_of};
+ghost use Rattle.statistics_api.specs.Text.{bytes_of, is_written};
+ghost use Rattle.statistics_api.specs.declared.asked.Asked.TheVariants.{Nothing};
 ghost use Rattle.sqs_server.specs.Sent.{HoldsBody};
-ghost use Rattle.sqs_server.specs.Viewed.{IsAnswered, IsJudgedBySize, IsTold, Sends, body_too_large, no_memory, typed_headers};
+ghost use Rattle.sqs_server.specs.Viewed.{AreRead, IsAnswered, IsJudgedBySize, IsTold, Sends, body_too_large, no_memory, typed_headers};
 
 use crate::head::BODY_LIMIT;
 use crate::queues::Queues;
@@ -54,7 +56,8 @@ impl<R: Wait + Copy + Drop> StatisticsFront<R> {
 
 /// What is told where the body of a request is too long.
 fn body_too_large() -> Told
-    ensures { told_by result ≡ body_too_large }
+    ensures told { told_by result ≡ body_too_large }
+    ensures constant { is_written result.text ≡ false }
 {
     Told {
         status: 413,
@@ -66,6 +69,7 @@ fn body_too_large() -> Told
 /// The bytes of a text. `OutOfMemory` is the only refusal, and a constant takes no memory.
 fn bytes_of(text: Text) -> Result<Bytes, Fault>
     ensures ok { IfOk result (λ bytes. bytes ≡ bytes_of text) }
+    ensures constant { is_written text ≡ false → IsOk result }
     ensures errors { IfErr result (λ fault. fault ≡ OutOfMemory) }
 {
     match text {
@@ -106,7 +110,7 @@ fn response_without_memory(alloc: Global) -> Response<Full<Bytes>>
 
 /// The response that sends what is told. A text that there is no memory to send is want of memory.
 fn response_of(alloc: Global, told: Told) -> Response<Full<Bytes>>
-    ensures { Sends (told_by told) result ⊎ Sends no_memory result }
+    ensures { Sends (told_by told) result ⊎ (Sends no_memory result × (is_written told.text ≡ true)) }
 {
     match bytes_of(told.text) {
         Ok(bytes) => response_with(alloc, told.status, told.content_type, bytes),
@@ -117,7 +121,8 @@ fn response_of(alloc: Global, told: Told) -> Response<Full<Bytes>>
 impl<R: Wait + Drop> StatisticsFront<R> {
     /// The statistics of the queue of a name, where there is one. `OutOfMemory` is the only refusal.
     fn sheets_named(&self, name: &str) -> Result<Vec<Sheet>, Fault>
-        ensures { IfErr result (λ fault. fault ≡ OutOfMemory) }
+        ensures read { IfOk result (λ sheets. AreRead sheets.items) }
+        ensures errors { IfErr result (λ fault. fault ≡ OutOfMemory) }
     {
         let mut sheets = Vec::new(self.alloc);
         if let Ok(name) = QueueName::read(name) {
@@ -130,7 +135,8 @@ impl<R: Wait + Drop> StatisticsFront<R> {
 
     /// The statistics that the answer to a request takes. `OutOfMemory` is the only refusal.
     fn sheets(&self, asked: Asked<'_>) -> Result<Vec<Sheet>, Fault>
-        ensures { IfErr result (λ fault. fault ≡ OutOfMemory) }
+        ensures read { IfOk result (λ sheets. AreRead sheets.items) }
+        ensures errors { IfErr result (λ fault. (fault ≡ OutOfMemory) × (asked ≢ Nothing)) }
     {
         match asked {
             Asked::Nothing => Ok(Vec::new(self.alloc)),
@@ -139,9 +145,10 @@ impl<R: Wait + Drop> StatisticsFront<R> {
         }
     }
 
-    /// What a method and a path are answered.
+    /// What a method and a path are answered. Only what tells of queues takes memory.
     fn told(&self, method: &str, path: &str) -> Told
-        ensures { IsTold method.now path.now (told_by result) }
+        ensures told { IsTold method.now path.now (told_by result) }
+        ensures written { is_written result.text ≡ true → TellsOfQueues method.now path.now }
     {
         match self.sheets(asked_for(method, path)) {
             Ok(sheets) => respond(self.alloc, method, path, sheets.as_slice()),
@@ -149,11 +156,13 @@ impl<R: Wait + Drop> StatisticsFront<R> {
         }
     }
 
-    /// The same, where the least size that a body can have is not too large.
+    /// The same, where the least size that a body can have is not too large for the one method whose bodies are
+    /// looked at.
     fn judged(&self, method: &str, path: &str, size: u64) -> Told
-        ensures { IsJudgedBySize method.now path.now size (told_by result) }
+        ensures told { IsJudgedBySize method.now path.now size (told_by result) }
+        ensures written { is_written result.text ≡ true → IsJudgedBySize method.now path.now size no_memory }
     {
-        if size > BODY_LIMIT {
+        if method == "GET" && size > BODY_LIMIT {
             return body_too_large();
         }
         self.told(method, path)
@@ -176,6 +185,8 @@ impl<R: Wait + Drop> Service<Request<Incoming>> for StatisticsFront<R> {
     type Error = hyper::Error;
 
     type Future = Ready<Result<Response<Full<Bytes>>, hyper::Error>>;
+
+    ghost calls = { λ _ request ready. IsSomeAnd ready.0 (λ given. IsOkAnd given (IsAnswered request)) };
 
     fn call(
         &self,

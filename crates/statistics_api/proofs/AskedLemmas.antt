@@ -1,10 +1,15 @@
 -- What a request is answered follows from the statistics that it asks for.
+use Rattle.std.proofs.lemmas.Slice.Eq.{bytes_eq-Decides}
+use Rattle.std.specs.Bool.{Decides}
+use Rattle.std.specs.Prelude.{⊥}
+use Rattle.metric_window.specs.Flows.{no_flows}
 use Rattle.std.proofs.Common.{◌≡◌, ◌≢◌, ℕ, Bool, true, false, cond, List, [], ◌∷◌, Option, Some, None, codes, bytes_eq, find, option_to_list, refl, sym, ap, ◌∙◌}
 use Rattle.board.specs.Sheet.{Statistics}
 use Rattle.statistics_api.specs.declared.routes.Route.{Route}
 use Rattle.statistics_api.specs.declared.routes.Route.TheVariants.{Queues, Queue, Rows, Alarms}
 use Rattle.statistics_api.specs.Answer.{Answer, queue_named, of_queue, told, if_allowed, answer_of, not_found, method_not_allowed}
 use Rattle.statistics_api.specs.Response.{Told, as_json, page, metrics, if_get, response_of}
+use Rattle.statistics_api.specs.Asked.{TellsOfQueues}
 use Rattle.statistics_api.specs.Routes.{target_of}
 
 -- the first that is found is found again
@@ -69,3 +74,63 @@ enough_refused method path sheets other =
     both-if (bytes_eq path (codes "/")) (bytes_eq path (codes "/metrics")) (if_get method page) (if_get method (metrics sheets)) (if_get method (metrics []))
     (answer_of method path sheets) (answer_of method path [])
     (get_refused method (metrics sheets) other ∙ sym (get_refused method (metrics []) other)) (allowed_refused method (target_of path) sheets [] other)
+
+-- ---- where numbers of queues are told
+
+-- a queue of a name, in which nothing has happened
+some_sheet : List ℕ → Statistics
+some_sheet name = record {
+  name = name;
+  lines = 0;
+  clock = 0;
+  gauges = record { visible = 0; delayed = 0; in_flight = 0; age = 0 };
+  current = no_flows;
+  rows = [];
+  alarms = [];
+}
+
+found_so : (route : Route) (name : List ℕ) (b : Bool) → b ≡ true → (of_queue route (cond b (Some (some_sheet name)) None)).0 ≡ 200
+found_so route name true is = refl
+found_so route name false is = absurd cc
+
+-- what is told of it
+told_of : (route : Route) (name : List ℕ) → (told route name (some_sheet name ∷ [])).0 ≡ 200
+told_of Queues name = refl
+told_of Queue name = found_so Queue name (bytes_eq name name) ((bytes_eq-Decides name name).1 refl)
+told_of Rows name = found_so Rows name (bytes_eq name name) ((bytes_eq-Decides name name).1 refl)
+told_of Alarms name = found_so Alarms name (bytes_eq name name) ((bytes_eq-Decides name name).1 refl)
+
+-- at a path that is none of the page and of the metrics
+status_by_answer : (at_page at_metrics : Bool) (a b : Told) (answer : Answer) → at_page ≡ false → at_metrics ≡ false → answer.0 ≡ 200
+    → (cond at_page a (cond at_metrics b (as_json answer))).0 ≡ 200
+status_by_answer false false a b answer p m is = is
+status_by_answer true m a b answer p none is = absurd cc
+status_by_answer false true a b answer p none is = absurd cc
+
+not_so : {P : Type 0} (b : Bool) → Decides b P → (P → ⊥) → b ≡ false
+not_so true decides no = absurd (no (decides.0 refl))
+not_so false decides no = refl
+
+-- the path of the metrics
+pub of_metrics : (method path : List ℕ) → bytes_eq method (codes "GET") ≡ true → bytes_eq path (codes "/metrics") ≡ true → TellsOfQueues method path
+of_metrics method path get all =
+    let is : path ≡ codes "/metrics" = (bytes_eq-Decides path (codes "/metrics")).0 all in (
+      [],
+      ap (λ (p : List ℕ). (response_of method p []).0) is ∙ ap (λ (b : Bool). (cond b (metrics []) (as_json method_not_allowed)).0) get,
+      λ page. (let e : true ≡ false = sym all ∙ ap (λ (p : List ℕ). bytes_eq p (codes "/metrics")) page in absurd cc),
+    )
+
+-- a path of queues
+pub of_named : (method path name : List ℕ) (route : Route) → bytes_eq method (codes "GET") ≡ true → bytes_eq path (codes "/metrics") ≡ false → Some (route, name) ≡ target_of path
+    → TellsOfQueues method path
+of_named method path name route get other is =
+    let no_page : path ≢ codes "/" = λ page. (let e : Some (route, name) ≡ None = is ∙ ap target_of page in absurd cc) in
+    let sheets = some_sheet name ∷ [] in
+    let answered : (answer_of method path sheets).0 ≡ 200 =
+    ap (λ (o : Option (Route × List ℕ)). (if_allowed method o sheets).0) (sym is)
+    ∙ ap (λ (b : Bool). (cond b (told route name sheets) method_not_allowed).0) get ∙ told_of route name in (
+      sheets,
+      status_by_answer (bytes_eq path (codes "/")) (bytes_eq path (codes "/metrics")) (if_get method page) (if_get method (metrics sheets)) (answer_of method path sheets)
+      (not_so (bytes_eq path (codes "/")) (bytes_eq-Decides path (codes "/")) no_page) other answered,
+      no_page,
+    )

@@ -1,9 +1,10 @@
 //! Which queues' statistics the answer to a request takes.
 
-ghost use Rattle.std.specs.Prelude.{◌≡◌, List};
+ghost use Rattle.std.specs.Prelude.{◌≡◌, ◌≢◌, List};
 ghost use Rattle.board.specs.Sheet.{Statistics};
 ghost use Rattle.statistics_api.specs.Response.{response_of};
-ghost use Rattle.statistics_api.specs.Asked.{taken};
+ghost use Rattle.statistics_api.specs.Asked.{taken, TellsOfQueues};
+ghost use Rattle.statistics_api.specs.declared.asked.Asked.TheVariants.{Nothing};
 
 use crate::routes::{Route, target_without_memory};
 
@@ -19,10 +20,11 @@ pub enum Asked<'p> {
 }
 
 /// Of which queues a request asks for statistics. Those of others do not change what [`respond`](crate::respond)
-/// answers.
-#[tactic(auto, using(crate::proofs::AskedLemmas::enough_named, crate::proofs::AskedLemmas::enough_none, crate::proofs::AskedLemmas::enough_refused))]
+/// answers, and where it asks for some, an answer can tell of them.
+#[tactic(auto, using(crate::proofs::AskedLemmas::enough_named, crate::proofs::AskedLemmas::enough_none, crate::proofs::AskedLemmas::enough_refused, crate::proofs::AskedLemmas::of_metrics, crate::proofs::AskedLemmas::of_named))]
 pub fn asked_for<'p>(method: &str, path: &'p str) -> Asked<'p>
     ensures enough { (sheets : List Statistics) → response_of method.now path.now sheets ≡ response_of method.now path.now (taken result sheets) }
+    ensures needed { result ≢ Nothing → TellsOfQueues method.now path.now }
 {
     if method != "GET" {
         return Asked::Nothing;

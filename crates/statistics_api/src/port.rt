@@ -113,6 +113,7 @@ pub fn respond(alloc: Global, method: &str, path: &str, sheets: &[Sheet]) -> Res
     ensures page { path.now ≡ codes "/" → told_by result ≡ response_of method.now path.now sheets.now }
     ensures exact { (response_of method.now path.now sheets.now).0 ≢ 200 → told_by result ≡ response_of method.now path.now sheets.now }
     ensures constant { (result.status ≡ 200) ⊎ (is_written result.text ≡ false) }
+    ensures page_constant { path.now ≡ codes "/" → is_written result.text ≡ false }
 {
     match path {
         "/" => page_to(method),
