@@ -1,7 +1,6 @@
 -- What a request is answered follows from the statistics that it asks for.
 use Rattle.std.proofs.lemmas.Slice.Eq.{bytes_eq-Decides}
 use Rattle.std.specs.Bool.{Decides}
-use Rattle.std.specs.Prelude.{⊥}
 use Rattle.metric_window.specs.Flows.{no_flows}
 use Rattle.std.proofs.Common.{◌≡◌, ◌≢◌, ℕ, Bool, true, false, cond, List, [], ◌∷◌, Option, Some, None, codes, bytes_eq, find, option_to_list, refl, sym, ap, ◌∙◌}
 use Rattle.board.specs.Sheet.{Statistics}
@@ -78,7 +77,7 @@ enough_refused method path sheets other =
 -- ---- where numbers of queues are told
 
 -- a queue of a name, in which nothing has happened
-some_sheet : List ℕ → Statistics
+abbrev some_sheet : List ℕ → Statistics
 some_sheet name = record {
   name = name;
   lines = 0;
@@ -108,8 +107,11 @@ status_by_answer true m a b answer p none is = absurd cc
 status_by_answer false true a b answer p none is = absurd cc
 
 not_so : {P : Type 0} (b : Bool) → Decides b P → (P → ⊥) → b ≡ false
-not_so true decides no = absurd (no (decides.0 refl))
-not_so false decides no = refl
+not_so true decides never = absurd (never (decides.0 refl))
+not_so false decides never = refl
+
+some_is_none : {X : Type 0} (x : X) → Some x ≡ None → ⊥
+some_is_none x e = absurd cc
 
 -- the path of the metrics
 pub of_metrics : (method path : List ℕ) → bytes_eq method (codes "GET") ≡ true → bytes_eq path (codes "/metrics") ≡ true → TellsOfQueues method path
@@ -117,14 +119,14 @@ of_metrics method path get all =
     let is : path ≡ codes "/metrics" = (bytes_eq-Decides path (codes "/metrics")).0 all in (
       [],
       ap (λ (p : List ℕ). (response_of method p []).0) is ∙ ap (λ (b : Bool). (cond b (metrics []) (as_json method_not_allowed)).0) get,
-      λ page. (let e : true ≡ false = sym all ∙ ap (λ (p : List ℕ). bytes_eq p (codes "/metrics")) page in absurd cc),
+      λ at. (let e : true ≡ false = sym all ∙ ap (λ (p : List ℕ). bytes_eq p (codes "/metrics")) at in absurd cc),
     )
 
 -- a path of queues
 pub of_named : (method path name : List ℕ) (route : Route) → bytes_eq method (codes "GET") ≡ true → bytes_eq path (codes "/metrics") ≡ false → Some (route, name) ≡ target_of path
     → TellsOfQueues method path
 of_named method path name route get other is =
-    let no_page : path ≢ codes "/" = λ page. (let e : Some (route, name) ≡ None = is ∙ ap target_of page in absurd cc) in
+    let no_page : path ≢ codes "/" = λ at. some_is_none (route, name) (is ∙ ap target_of at) in
     let sheets = some_sheet name ∷ [] in
     let answered : (answer_of method path sheets).0 ≡ 200 =
     ap (λ (o : Option (Route × List ℕ)). (if_allowed method o sheets).0) (sym is)

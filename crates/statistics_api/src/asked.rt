@@ -21,7 +21,7 @@ pub enum Asked<'p> {
 
 /// Of which queues a request asks for statistics. Those of others do not change what [`respond`](crate::respond)
 /// answers, and where it asks for some, an answer can tell of them.
-#[tactic(auto, using(crate::proofs::AskedLemmas::enough_named, crate::proofs::AskedLemmas::enough_none, crate::proofs::AskedLemmas::enough_refused, crate::proofs::AskedLemmas::of_metrics, crate::proofs::AskedLemmas::of_named))]
+#[tactic(auto, using(crate::proofs::AskedLemmas::enough_named, crate::proofs::AskedLemmas::enough_none, crate::proofs::AskedLemmas::enough_refused, crate::proofs::AskedLemmas::of_metrics))]
 pub fn asked_for<'p>(method: &str, path: &'p str) -> Asked<'p>
     ensures enough { (sheets : List Statistics) → response_of method.now path.now sheets ≡ response_of method.now path.now (taken result sheets) }
     ensures needed { result ≢ Nothing → TellsOfQueues method.now path.now }

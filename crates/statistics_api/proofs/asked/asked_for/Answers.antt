@@ -1,0 +1,19 @@
+-- Where it asks for numbers, the method is the one that is allowed, and the path is one of queues.
+use Rattle.std.proofs.Common.{rules, ◌≡◌, Bool, true, false, Some, codes, bytes_eq}
+use Rattle.statistics_api.specs.Routes.{target_of}
+use Rattle.statistics_api.proofs.AskedLemmas.{of_named}
+use Rattle.statistics_api.proofs.asked.asked_for.Goals as goal
+
+pub returns-in-Some-clause-needed : goal.returns-in-Some-clause-needed
+returns-in-Some-clause-needed c =
+    let get : bytes_eq c.args.method.now (codes "GET") ≡ true = search rules in
+    let other : bytes_eq c.args.path.now (codes "/metrics") ≡ false = search rules in
+    let there : Some (c.in-Some.target.route, c.in-Some.target.name.now) ≡ target_of c.args.path.now = search rules in
+    λ needed. of_named c.args.method.now c.args.path.now c.in-Some.target.name.now c.in-Some.target.route get other there
+
+pub returns-in-Some-2-clause-needed : goal.returns-in-Some-2-clause-needed
+returns-in-Some-2-clause-needed c =
+    let get : bytes_eq c.args.method.now (codes "GET") ≡ true = search rules in
+    let other : bytes_eq c.args.path.now (codes "/metrics") ≡ false = search rules in
+    let there : Some (c.in-Some.target.route, c.in-Some.target.name.now) ≡ target_of c.args.path.now = search rules in
+    λ needed. of_named c.args.method.now c.args.path.now c.in-Some.target.name.now c.in-Some.target.route get other there
