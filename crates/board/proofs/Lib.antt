@@ -1,7 +1,9 @@
 pub mod Prefixes
 pub mod Adding
 pub mod Placing
+pub mod Taken
 pub mod PairLemmas
+pub mod AlarmLemmas
 pub mod Missing
 pub mod Copies
 pub mod OnlyReader

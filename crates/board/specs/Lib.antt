@@ -1,4 +1,5 @@
 pub mod Sheet
+pub mod Queue
 pub mod Numbers
 pub mod Printed
 pub mod Shown

@@ -2,11 +2,14 @@
 
 ghost use Rattle.std.specs.Prelude.{◌≡◌, IfOk, IfErr};
 ghost use Rattle.message.specs.declared.fault.Fault.TheVariants.{OutOfMemory};
+ghost use Rattle.board.specs.Queue.{sheet_of};
 
+use crate::alarms::alarms_of;
 use alarm::AlarmState;
 use journal::Moment;
 use message::{Fault, QueueName};
 use metric_window::{Flows, Gauges, Row};
+use queue_core::QueueState;
 use std::alloc::Global;
 use std::marker::Model;
 
@@ -37,6 +40,24 @@ impl Model for Sheet {
 }
 
 impl Sheet {
+    /// The statistics of a queue at its clock, which whoever looked at it or opened it knows. `OutOfMemory`
+    /// is the only refusal.
+    pub fn of(alloc: Global, queue: &QueueState, at: Moment) -> Result<Sheet, Fault>
+        requires { at ≡ queue.now.clock }
+        ensures ok { IfOk result (λ sheet. sheet ≡ sheet_of queue.now) }
+        ensures errors { IfErr result (λ fault. fault ≡ OutOfMemory) }
+    {
+        Ok(Sheet {
+            name: queue.name(),
+            lines: queue.journal().len() as u64,
+            clock: at,
+            gauges: queue.gauges(),
+            current: queue.current(),
+            rows: queue.rows(alloc)?,
+            alarms: alarms_of(alloc, queue)?,
+        })
+    }
+
     /// The same again. `OutOfMemory` is the only refusal.
     pub(crate) fn copy(&self, alloc: Global) -> Result<Sheet, Fault>
         ensures ok { IfOk result (λ sheet. sheet ≡ self.now) }

@@ -4,33 +4,48 @@ ghost use Rattle.std.specs.Prelude.{◌≡◌, IfOk};
 ghost use Rattle.board.specs.Printed.{place_of};
 
 use super::*;
+use alarm::AlarmState;
 use desk::{Desk, NoGate, Pass};
-use journal::Moment;
+use journal::{Moment, Ticks};
 use message::{Content, Fault, QueueName};
-use queue_config::{Limits, Settings};
+use queue_config::{AlarmRule, Limits, Metric, Operator, Settings};
 use queue_core::{Command, QueueState};
 use std::alloc::Global;
 use std::sync::Wait;
 use std::test::Fail;
 
-/// A queue that was opened at 0 under the uid 1, with the default settings.
-fn open(alloc: Global) -> Result<QueueState, Fault> {
-    let (name, rules) = (QueueName::read("jobs")?, Vec::new(alloc));
+/// The rule of an alarm that is on where a message was visible at the end of the last minute.
+fn waiting() -> Result<AlarmRule, Fault> {
+    Ok(AlarmRule {
+        name: QueueName::read("waiting")?,
+        metric: Metric::ApproximateNumberOfMessagesVisible,
+        operator: Operator::GreaterThanThreshold,
+        threshold: 0,
+        minutes: 1,
+        breaches: 1,
+    })
+}
+
+/// A queue that was opened at 0 under the uid 1, with the default settings and one alarm.
+fn open(alloc: Global) -> Result<QueueState, Fault>
+    ensures { IfOk result (λ queue. queue.clock ≡ 0) }
+{
+    let (name, mut rules) = (QueueName::read("jobs")?, Vec::new(alloc));
+    rules.push(waiting()?)?;
     let (settings, limits) = (Settings::default(), Limits::default());
     QueueState::open(alloc, 1, name, settings, limits, rules, Moment::zero())
 }
 
-/// The sheet of a queue that was just opened.
-fn first_sheet(alloc: Global, queue: &QueueState) -> Sheet {
-    Sheet {
-        name: queue.name(),
-        lines: 1,
-        clock: Moment::zero(),
-        gauges: queue.gauges(),
-        current: queue.current(),
-        rows: Vec::new(alloc),
-        alarms: Vec::new(alloc),
-    }
+/// The sheet of a queue at a moment, to which its clock moves.
+fn sheet_at(
+    alloc: Global,
+    queue: &mut QueueState,
+    at: u64,
+    ticks: &mut Ticks,
+) -> Result<Sheet, Fault> {
+    let at = Moment::new(at).ok_or(Fault::InvalidParameterValue)?;
+    let look = queue.look(at, ticks);
+    Sheet::of(alloc, queue, look.clock)
 }
 
 /// The command that sends a body.
@@ -50,6 +65,14 @@ fn told(sheet: &Sheet) -> (u64, u64, u64) {
         sheet.clock.milliseconds(),
         sheet.gauges.visible,
     )
+}
+
+/// The name and the state of the alarm of a sheet, where it has one alone.
+fn alarm(sheet: &Sheet) -> Option<(&str, AlarmState)> {
+    match sheet.alarms.as_slice() {
+        [(name, state)] => Some((name.as_text(), *state)),
+        _ => None,
+    }
 }
 
 /// A desk whose turns are printed on a board, its pass, and a reader of the board.
@@ -77,7 +100,7 @@ impl<R: Wait + Copy + Drop> Talk<R> {
     fn open(host: &HostRuntime, rt: R) -> Result<Talk<R>, Fault> {
         let alloc = host.alloc();
         let queue = open(alloc)?;
-        let sheet = first_sheet(alloc, &queue);
+        let sheet = Sheet::of(alloc, &queue, Moment::zero())?;
         let (publisher, mut readers) = board(alloc, rt, &sheet, 1)?;
         let Some(reader) = readers.pop() else {
             return Err(Fault::UnsupportedOperation);
@@ -136,6 +159,28 @@ impl<R: Wait + Copy + Drop> Talk<R> {
             sheet => sheet,
         }
     }
+}
+
+/// A queue with no message, and with one that was sent in the minute before.
+#[test]
+fn alarm_of_a_queue(rt: HostRuntime) -> Result<(), Fail> {
+    let alloc = rt.alloc();
+    let (mut queue, mut ticks) = (open(alloc)?, Ticks::new(&rt));
+    let sheet = Sheet::of(alloc, &queue, Moment::zero())?;
+    assert_eq!(rt; told(&sheet), (1, 0, 0));
+    assert_eq!(rt;
+        alarm(&sheet),
+        Some(("waiting", AlarmState::InsufficientData))
+    );
+    let sheet = sheet_at(alloc, &mut queue, 60000, &mut ticks)?;
+    assert_eq!(rt; told(&sheet), (1, 60000, 0));
+    assert_eq!(rt; alarm(&sheet), Some(("waiting", AlarmState::Okay)));
+    let sent = send(alloc, "a")?;
+    let _reply = queue.perform(alloc, Moment::zero(), &sent, &mut ticks)?;
+    let sheet = sheet_at(alloc, &mut queue, 120000, &mut ticks)?;
+    assert_eq!(rt; told(&sheet), (2, 120000, 1));
+    assert_eq!(rt; alarm(&sheet), Some(("waiting", AlarmState::Alarm)));
+    Ok(())
 }
 
 #[test]

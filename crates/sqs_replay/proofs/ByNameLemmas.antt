@@ -12,11 +12,12 @@ use Rattle.message.specs.declared.fault.Fault.{Fault}
 use Rattle.message.specs.declared.fault.Fault.TheVariants.{QueueDoesNotExist, OutOfMemory}
 use Rattle.message.specs.Fault.{is_out_of_memory, Meets}
 use Rattle.board.specs.Sheet.{Statistics}
+use Rattle.board.specs.Queue.{sheet_of}
 use Rattle.statistics_api.specs.Texts.{comes_before, put_by_name, by_name}
 use Rattle.queue_core.specs.Queue.{QueueHistory, at_moment}
 use Rattle.redrive.specs.Listing.{put_name, in_order}
 use Rattle.redrive.specs.World.{World, queue_named, queue_of_uid, names_in_world, with_queue_changed, world_at_moment, IsRegistry}
-use Rattle.sqs_replay.specs.Sheets.{sheet_of, sheets_of}
+use Rattle.sqs_replay.specs.Sheets.{sheets_of}
 use Rattle.sqs_replay.specs.Served.{sheet_in, sheet_served, named_sheet_served}
 use Rattle.sqs_replay.specs.Answers.{IsOneOf}
 use Rattle.sqs_replay.proofs.SheetLemmas.{look-left, look-failed, look-queue}

@@ -9,6 +9,5 @@ pub mod Counts
 pub mod ReadFaults
 pub mod BatchLemmas
 pub mod MoveLemmas
-pub mod AlarmLemmas
 pub mod SheetLemmas
 pub mod ByNameLemmas

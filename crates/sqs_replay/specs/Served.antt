@@ -31,12 +31,13 @@ use Rattle.sqs_replay.specs.declared.answer.Timed.{Timed}
 use Rattle.sqs_replay.specs.declared.shown.Shown.{Shown}
 use Rattle.sqs_replay.specs.declared.shown.Shown.TheVariants as shown
 use Rattle.board.specs.Sheet as board
+use Rattle.board.specs.Queue.{sheet_of}
 use Rattle.statistics_api.specs.Texts.{sheet_text, sheets_text, rows_text, alarms_text}
 use Rattle.sqs_replay.specs.Cutting.{longest_line}
 use Rattle.sqs_replay.specs.InputLine.{input_line_of}
 use Rattle.redrive.specs.World.{World, queue_of_uid, found_uid, target_uid, create_answer, world_after_create, step_answer, world_after_step, delete_answer, world_after_delete, names_in_world, sources_answer, world_at_moment}
 use Rattle.sqs_replay.specs.Moves.{Moves, no_moves, all_moves}
-use Rattle.sqs_replay.specs.Sheets.{sheet_of, sheets_of}
+use Rattle.sqs_replay.specs.Sheets.{sheets_of}
 
 -- ---- what a line asks
 

@@ -1,30 +1,9 @@
--- The statistics of a queue, as its journal and its clock tell them (Amazon SQS metrics for CloudWatch; this project's own form).
-use Rattle.std.specs.Prelude.{ℕ, List, map, length}
-use Rattle.alarm.specs.declared.state.AlarmState.{AlarmState}
-use Rattle.message.specs.Content.{content_size}
-use Rattle.queue_core.specs.Metrics.{current_flows, window_rows, alarm_state_in}
-use Rattle.queue_core.specs.Queue.{QueueHistory}
-use Rattle.queue_core.specs.States.{gauges_of}
+-- The statistics of all queues, by name.
+use Rattle.std.specs.Prelude.{List, map}
 use Rattle.board.specs.Sheet.{Statistics}
+use Rattle.board.specs.Queue.{sheet_of}
 use Rattle.statistics_api.specs.Texts.{by_name}
 use Rattle.redrive.specs.World.{World}
 
--- the alarms of a queue, each by its name with its state, in the order of their rules
-abbrev pub alarms_of : QueueHistory → List (List ℕ × AlarmState)
-alarms_of q = map (λ rule. (rule.name, alarm_state_in content_size q.lines q.clock rule)) q.rules
-
--- the statistics of a queue at its clock
-abbrev pub sheet_of : QueueHistory → Statistics
-sheet_of q = record {
-  name = q.name;
-  lines = length q.lines;
-  clock = q.clock;
-  gauges = gauges_of q.lines q.clock;
-  current = current_flows content_size q.lines q.clock;
-  rows = window_rows content_size q.lines q.clock;
-  alarms = alarms_of q;
-}
-
--- those of all queues, by name
 abbrev pub sheets_of : World → List Statistics
 sheets_of w = by_name (map sheet_of w.queues)

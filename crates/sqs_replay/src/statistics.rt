@@ -1,6 +1,6 @@
 //! The statistics of queues, by their own calls.
 
-ghost use Rattle.std.specs.Prelude.{◌≡◌, ◌∷◌, map, slice_get, IfOk, IfErr, Ok};
+ghost use Rattle.std.specs.Prelude.{◌≡◌, ◌∷◌, map, IfOk, IfErr, Ok};
 ghost use Rattle.std.specs.Option.{ForSome};
 ghost use Rattle.message.specs.declared.fault.Fault.TheVariants.{OutOfMemory};
 ghost use Rattle.message.specs.Fault.{Meets};
@@ -8,59 +8,19 @@ ghost use Rattle.queue_core.specs.declared.reply.Reply.TheVariants.{Looked};
 ghost use Rattle.queue_core.specs.Queue.{look_of};
 ghost use Rattle.redrive.specs.World.{queue_of_uid, world_at_moment, IsRegistry};
 ghost use Rattle.sqs_replay.specs.Answers.{IsOneOf};
-ghost use Rattle.sqs_replay.specs.Sheets.{alarms_of, sheet_of, sheets_of};
+ghost use Rattle.sqs_replay.specs.Sheets.{sheets_of};
 ghost use Rattle.sqs_replay.specs.Served.{Leaves, sheet_in, sheet_served, named_sheet_served, asked_served};
 ghost use Rattle.sqs_replay.specs.declared.answer.Asked.TheVariants.{Statistics, Rows, Alarms};
 
 use crate::batch::serve_command;
 use crate::shown::Shown;
-use alarm::AlarmState;
 use aws_json::Listed;
 use board::Sheet;
 use journal::{Moment, Ticks};
 use message::{Fault, QueueName};
-use queue_core::{Command, Look, QueueState, Reply};
+use queue_core::{Command, Reply};
 use redrive::House;
 use std::alloc::Global;
-
-/// The alarm at a place among those of a queue, counted from 0, with its state.
-fn alarm_at(queue: &QueueState, index: usize) -> Option<(QueueName, AlarmState)>
-    ensures { result ≡ slice_get (alarms_of queue.now) index }
-{
-    let name = queue.alarm_name(index)?;
-    let state = queue.alarm_state(index)?;
-    Some((name, state))
-}
-
-/// The alarms of a queue with their states, in the order of their rules.
-fn alarms_of(alloc: Global, queue: &QueueState) -> Result<Vec<(QueueName, AlarmState)>, Fault>
-    ensures alarms { IfOk result (λ alarms. alarms.items ≡ alarms_of queue.now) }
-    ensures fault { IfErr result (λ fault. fault ≡ OutOfMemory) }
-{
-    let mut alarms = Vec::new(alloc);
-    while let Some(alarm) = alarm_at(queue, alarms.len()) {
-        alarms.push(alarm)?;
-    }
-    Ok(alarms)
-}
-
-/// The statistics of a queue that was looked at.
-fn sheet_of(alloc: Global, queue: &QueueState, look: &Look) -> Result<Sheet, Fault>
-    requires { look.now ≡ look_of queue.now }
-    ensures { Meets result (Ok (sheet_of queue.now)) }
-{
-    let rows = queue.rows(alloc)?;
-    let alarms = alarms_of(alloc, queue)?;
-    Ok(Sheet {
-        name: queue.name(),
-        lines: look.lines,
-        clock: look.clock,
-        gauges: queue.gauges(),
-        current: queue.current(),
-        rows,
-        alarms,
-    })
-}
 
 /// The statistics of the queue of a uid, where a look at it was answered so.
 fn sheet_in(alloc: Global, house: &House, uid: u64, reply: &Reply) -> Result<Sheet, Fault>
@@ -68,7 +28,7 @@ fn sheet_in(alloc: Global, house: &House, uid: u64, reply: &Reply) -> Result<She
     ensures { Meets result (sheet_in house.now uid) }
 {
     match (house.state(uid), reply) {
-        (Some(queue), Reply::Looked(look)) => sheet_of(alloc, queue, look),
+        (Some(queue), Reply::Looked(look)) => Sheet::of(alloc, queue, look.clock),
         _ => Err(Fault::QueueDoesNotExist),
     }
 }

@@ -1,7 +1,7 @@
 use Rattle.std.proofs.Common.{◌≡◌, ℕ, length, sym, ap, ◌∙◌, arith}
 use Rattle.std.specs.Prelude.{slice_get}
 use Rattle.board.specs.Shown.{with_states}
-use Rattle.board.proofs.PairLemmas.{taken-more, taken-all, fewer-left}
+use Rattle.board.proofs.Taken.{taken-more, taken-all, fewer-left}
 use Rattle.board.proofs.numbers.with_states.Goals as goal
 
 pub loop-alarm-preserved : goal.loop-alarm-preserved

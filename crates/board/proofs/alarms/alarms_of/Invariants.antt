@@ -1,6 +1,6 @@
 use Rattle.std.proofs.Common.{◌≡◌, ◌-◌, length, take}
-use Rattle.sqs_replay.specs.Sheets.{alarms_of}
-use Rattle.sqs_replay.proofs.statistics.alarms_of.Given as goal
+use Rattle.board.specs.Queue.{alarms_of}
+use Rattle.board.proofs.alarms.alarms_of.Given as goal
 
 abbrev pub invariant-loop-alarm : goal.invariant-loop-alarm
 invariant-loop-alarm l = l.alarms.items ≡ take (length l.alarms.items) (alarms_of l.queue)

@@ -1,13 +1,8 @@
--- The alarms of a queue, one after another.
-use Rattle.std.proofs.Common.{◌≡◌, ℕ, zero, suc, ◌+◌, ◌-◌, ◌<◌, ◌≤◌, List, [], ◌∷◌, ◌++◌, map, length, take, Option, Some, None, refl, sym, ap, ◌∙◌, arith}
-use Rattle.std.specs.Prelude.{slice_get, option_map}
+-- A list that is taken from another one after another.
+use Rattle.std.proofs.Common.{◌≡◌, ℕ, zero, suc, ◌+◌, ◌-◌, ◌<◌, ◌≤◌, List, [], ◌∷◌, ◌++◌, length, take, Some, None, sym, ap, ◌∙◌, arith}
+use Rattle.std.specs.Prelude.{slice_get}
 use Rattle.std.proofs.lemmas.List.{length-append, take_more, take_all}
 use Rattle.std.proofs.lemmas.Option.{slice_get_within, get_or_from_slice_get}
-
-pub slice_get-map : {X Y : Type 0} (f : X → Y) (xs : List X) (i : ℕ) → slice_get (map f xs) i ≡ option_map f (slice_get xs i)
-slice_get-map f [] i = refl
-slice_get-map f (x ∷ xs) zero = refl
-slice_get-map f (x ∷ xs) (suc i) = slice_get-map f xs i
 
 past-the-end : {X : Type 0} (xs : List X) (i : ℕ) → slice_get xs i ≡ None → length xs ≤ i
 past-the-end [] i h = omega arith
@@ -37,15 +32,3 @@ fewer-left all some new x here is =
 -- no more
 pub taken-all : {X : Type 0} (all some : List X) → slice_get all (length some) ≡ None → some ≡ take (length some) all → some ≡ all
 taken-all all some past h = h ∙ take_all (length some) all (past-the-end all (length some) past)
-
-pub both-parts : {X A B : Type 0} (f : X → A) (g : X → B) (o : Option X) (a : A) (b : B) → option_map f o ≡ Some a → option_map g o ≡ Some b → option_map {U = A × B} (λ x. (f x, g x)) o ≡ Some (a, b)
-both-parts f g None a b h k = absurd cc
-both-parts f g (Some x) a b h k =
-    let first : f x ≡ a = cc in
-    let second : g x ≡ b = cc in
-    rw (first, second) refl
-
--- neither part
-pub no-part : {X A B : Type 0} (f : X → A) (g : X → B) (o : Option X) → option_map f o ≡ None → option_map g o ≡ None
-no-part f g None h = refl
-no-part f g (Some x) h = absurd cc

@@ -3,8 +3,8 @@ use Rattle.std.specs.Prelude.{slice_get}
 use Rattle.message.specs.Content.{content_size}
 use Rattle.queue_config.specs.AlarmRules.{Rule}
 use Rattle.queue_core.specs.Metrics.{alarm_state_in}
-use Rattle.sqs_replay.proofs.AlarmLemmas.{slice_get-map, both-parts}
-use Rattle.sqs_replay.proofs.statistics.alarm_at.Goals as goal
+use Rattle.board.proofs.AlarmLemmas.{slice_get-map, both-parts}
+use Rattle.board.proofs.alarms.alarm_at.Goals as goal
 
 pub returns : goal.returns
 returns c =
