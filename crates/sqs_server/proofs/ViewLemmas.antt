@@ -6,12 +6,11 @@ use Rattle.std.proofs.lemmas.Slice.Eq.{bytes_eq-Decides}
 use Rattle.board.specs.Sheet.{Statistics}
 use Rattle.http.specs.declared.response.Response.{Response}
 use Rattle.http_body_util.specs.declared.full.Full.{Full}
-use Rattle.queue_actor.specs.Reading.{IsReadUnder}
 use Rattle.statistics_api.specs.Asked.{TellsOfQueues}
 use Rattle.statistics_api.specs.Response.{Told, response_of, told_by}
 use Rattle.statistics_api.specs.Text.{is_written}
 use Rattle.statistics_api.specs.declared.port.Response as answers
-use Rattle.sqs_server.specs.Viewed.{AreRead, IsTold, IsJudgedBySize, Sends, no_memory}
+use Rattle.sqs_server.specs.Viewed.{AreRead, IsReadUnder, IsTold, IsJudgedBySize, Sends, no_memory}
 
 -- one that was read under a name has that name
 pub read_alone : (name : List ℕ) (sheet : Statistics) → sheet.name ≡ name → IsReadUnder name sheet → AreRead (sheet ∷ [])

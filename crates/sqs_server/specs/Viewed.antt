@@ -16,7 +16,7 @@ use Rattle.http_header.specs.HeaderMap.{Entries, insert}
 use Rattle.http_uri.specs.Uri.{uri_path}
 use Rattle.hyper.specs.Incoming.{size_left}
 use Rattle.hyper.specs.declared.body.incoming.Incoming.{Incoming}
-use Rattle.queue_actor.specs.Reading.{IsReadUnder}
+use Rattle.queue_actor.specs.Reading.{IsReadOf}
 use Rattle.statistics_api.specs.Answer.{out_of_memory}
 use Rattle.statistics_api.specs.Asked.{TellsOfQueues}
 use Rattle.statistics_api.specs.Response.{Told, as_json, response_of}
@@ -41,6 +41,9 @@ pub record Sends (told : Told) (response : Response (Full (List ℕ))) : Type 0 
   pub status : IsStatusCode told.0 → (head_of response).status ≡ told.0
   pub body : HoldsBody (body_of response) told.2
   pub headers : ((head_of response).headers ≡ typed_headers told.1) ⊎ ((head_of response).headers ≡ [])
+
+abbrev pub IsReadUnder : List ℕ → Statistics → Type 0
+IsReadUnder name sheet = (given : Statistics) × (given.name ≡ name) × IsReadOf given sheet
 
 -- these are statistics of queues, each as its board had them after some turns, under the name of the queue
 abbrev pub AreRead : List Statistics → Type 0

@@ -4,12 +4,12 @@
 ghost use Rattle.std.specs.Prelude.{◌≡◌, nat_le, [], IfErr, IfOk};
 ghost use Rattle.std.specs.Arc.{arc_value};
 ghost use Rattle.board.specs.Printed.{place_of};
+ghost use Rattle.board.specs.Queue.{sheet_of};
 ghost use Rattle.desk.specs.Views.{first_knowledge};
 ghost use Rattle.message.specs.declared.fault.Fault.TheVariants.{OutOfMemory};
 ghost use Rattle.queue_core.specs.Kept.{opened_queue};
 
 use crate::clock::moment_of_day;
-use alarm::AlarmState;
 use board::{Publisher, Reader, Sheet, board};
 use crossbeam_channel::{Receiver, Sender, unbounded};
 use desk::{Desk, NoGate, Pass};
@@ -195,36 +195,6 @@ fn start_actor<R: Wait + Threads + Copy + Send + Drop + 'static>(
     }
 }
 
-/// The alarms of a queue with their states, in the order of their rules.
-fn alarms_of(alloc: Global, queue: &QueueState) -> Result<Vec<(QueueName, AlarmState)>, Fault>
-    ensures errors { IfErr result (λ fault. fault ≡ OutOfMemory) }
-{
-    let mut alarms = Vec::new(alloc);
-    let states = queue.alarm_states(alloc)?;
-    for (place, state) in states.iter().enumerate() {
-        if let Some(name) = queue.alarm_name(place) {
-            alarms.push((name, *state))?;
-        }
-    }
-    Ok(alarms)
-}
-
-/// The statistics of a queue that was opened at a moment. `OutOfMemory` is the only refusal.
-fn first_sheet(alloc: Global, queue: &QueueState, at: Moment) -> Result<Sheet, Fault>
-    ensures name { IfOk result (λ sheet. sheet.name ≡ queue.now.name) }
-    ensures errors { IfErr result (λ fault. fault ≡ OutOfMemory) }
-{
-    Ok(Sheet {
-        name: queue.name(),
-        lines: queue.journal().len() as u64,
-        clock: at,
-        gauges: queue.gauges(),
-        current: queue.current(),
-        rows: queue.rows(alloc)?,
-        alarms: alarms_of(alloc, queue)?,
-    })
-}
-
 /// A press for the turns of a queue that was opened at a moment, and the one reader of its board. `OutOfMemory` is
 /// the only refusal.
 fn open_board<R: Wait + Copy + Drop>(
@@ -233,12 +203,13 @@ fn open_board<R: Wait + Copy + Drop>(
     queue: &QueueState,
     at: Moment,
 ) -> Result<(Printer<R>, Reader), Fault>
+    requires { at ≡ queue.now.clock }
     ensures none { IfOk result (λ made. made.0.turns ≡ []) }
     ensures book { IfOk result (λ made. made.1.book ≡ made.0.book) }
-    ensures name { IfOk result (λ made. made.1.given.name ≡ queue.now.name) }
+    ensures given { IfOk result (λ made. made.1.given ≡ sheet_of queue.now) }
     ensures errors { IfErr result (λ fault. fault ≡ OutOfMemory) }
 {
-    let sheet = first_sheet(alloc, queue, at)?;
+    let sheet = Sheet::of(alloc, queue, at)?;
     let (printer, mut readers) = board(alloc, *rt, &sheet, 1)?;
     match readers.pop() {
         Some(reader) => Ok((printer, reader)),
@@ -257,7 +228,7 @@ fn open_desk<R: Wait + Copy + Drop>(
     at: Moment,
 ) -> Result<(Desk<Printer<R>>, Pass<Printer<R>>, Reader), Fault>
     ensures ok { IfOk result (λ made. made.1 ≡ first_knowledge made.0 (opened_queue uid new.name new.settings limits new.rules.items at) (place_of made.2.book)) }
-    ensures name { IfOk result (λ made. made.2.given.name ≡ new.name) }
+    ensures given { IfOk result (λ made. made.2.given ≡ sheet_of (opened_queue uid new.name new.settings limits new.rules.items at)) }
     ensures errors { IfErr result (λ fault. fault ≡ OutOfMemory) }
 {
     let state = QueueState::open(alloc, uid, new.name, new.settings, limits, new.rules, at)?;

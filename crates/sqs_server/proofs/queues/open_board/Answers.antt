@@ -1,3 +1,4 @@
+-- The one reader that is taken out is the one that was made.
 use Rattle.std.proofs.Common.{ap, sym, ◌∙◌}
 use Rattle.board.specs.Shown.{Acquaintance}
 use Rattle.board.proofs.OnlyReader.{taken_is}
@@ -7,6 +8,7 @@ pub returns-in-Some-clause-book : goal.returns-in-Some-clause-book
 returns-in-Some-clause-book g c =
     ap (λ (r : Acquaintance). r.book) (taken_is _ c.in-Some.reader c.pop.new.self.items (sym c.in_ok-printer.ensures.readers ∙ c.in-Some.ensures.items))
 
-pub returns-in-Some-clause-name : goal.returns-in-Some-clause-name
-returns-in-Some-clause-name g c =
-    ap (λ (r : Acquaintance). r.given.name) (taken_is _ c.in-Some.reader c.pop.new.self.items (sym c.in_ok-printer.ensures.readers ∙ c.in-Some.ensures.items)) ∙ c.in_ok-sheet.ensures.name
+pub returns-in-Some-clause-given : goal.returns-in-Some-clause-given
+returns-in-Some-clause-given g c =
+    ap (λ (r : Acquaintance). r.given) (taken_is _ c.in-Some.reader c.pop.new.self.items (sym c.in_ok-printer.ensures.readers ∙ c.in-Some.ensures.items))
+    ∙ c.in_ok-sheet.ensures.ok
