@@ -1,14 +1,13 @@
 //! The service of a connection to the port of the statistics: each request is answered from what was printed of the
 //! queues, and no queue's turn is taken.
 
-ghost use Rattle.std.specs.Prelude.{◌≡◌, ◌≢◌, ◌⊎◌, true, false, [], IfOk, IfErr, IsOk, IsOkAnd, IsSomeAnd};
+ghost use Rattle.std.specs.Prelude.{◌≡◌, ◌⊎◌, true, false, [], IfOk, IfErr, IsOk, IsOkAnd, IsSomeAnd};
 ghost use Rattle.http.specs.Response.{body_of, head_of};
 ghost use Rattle.http.specs.StatusCode.{IsStatusCode};
 ghost use Rattle.message.specs.declared.fault.Fault.TheVariants.{OutOfMemory};
 ghost use Rattle.statistics_api.specs.Asked.{TellsOfQueues};
 ghost use Rattle.statistics_api.specs.Response.{told_by};
 ghost use Rattle.statistics_api.specs.Text.{bytes_of, is_written};
-ghost use Rattle.statistics_api.specs.declared.asked.Asked.TheVariants.{Nothing};
 ghost use Rattle.sqs_server.specs.Sent.{HoldsBody};
 ghost use Rattle.sqs_server.specs.Viewed.{AreRead, IsAnswered, IsJudgedBySize, IsTold, Sends, body_too_large, no_memory, typed_headers};
 
@@ -133,12 +132,13 @@ impl<R: Wait + Drop> StatisticsFront<R> {
         Ok(sheets)
     }
 
-    /// The statistics that the answer to a request takes. `OutOfMemory` is the only refusal.
-    fn sheets(&self, asked: Asked<'_>) -> Result<Vec<Sheet>, Fault>
+    /// The statistics that the answer to a request takes. `OutOfMemory` is the only refusal, and only where an
+    /// answer can tell of queues.
+    fn sheets(&self, method: &str, path: &str) -> Result<Vec<Sheet>, Fault>
         ensures read { IfOk result (λ sheets. AreRead sheets.items) }
-        ensures errors { IfErr result (λ fault. (fault ≡ OutOfMemory) × (asked ≢ Nothing)) }
+        ensures errors { IfErr result (λ fault. (fault ≡ OutOfMemory) × TellsOfQueues method.now path.now) }
     {
-        match asked {
+        match asked_for(method, path) {
             Asked::Nothing => Ok(Vec::new(self.alloc)),
             Asked::Queues => self.queues.sheets(&self.rt, self.alloc),
             Asked::Queue(name) => self.sheets_named(name),
@@ -150,7 +150,7 @@ impl<R: Wait + Drop> StatisticsFront<R> {
         ensures told { IsTold method.now path.now (told_by result) }
         ensures written { is_written result.text ≡ true → TellsOfQueues method.now path.now }
     {
-        match self.sheets(asked_for(method, path)) {
+        match self.sheets(method, path) {
             Ok(sheets) => respond(self.alloc, method, path, sheets.as_slice()),
             Err(_) => out_of_memory(),
         }
