@@ -133,6 +133,6 @@ of_named method path name route get other is =
     ∙ ap (λ (b : Bool). (cond b (told route name sheets) method_not_allowed).0) get ∙ told_of route name in (
       sheets,
       status_by_answer (bytes_eq path (codes "/")) (bytes_eq path (codes "/metrics")) (if_get method page) (if_get method (metrics sheets)) (answer_of method path sheets)
-      (not_so (bytes_eq path (codes "/")) (bytes_eq-Decides path (codes "/")) no_page) other answered,
+          (not_so (bytes_eq path (codes "/")) (bytes_eq-Decides path (codes "/")) no_page) other answered,
       no_page,
     )

@@ -1,5 +1,5 @@
 -- Of which queues a request asks for statistics.
-use Rattle.std.specs.Prelude.{◌≡◌, ◌≢◌, ℕ, List, [], ◌∷◌, Option, Some, None, codes, option_to_list}
+use Rattle.std.specs.Prelude.{◌≡◌, ◌≢◌, ℕ, List, [], codes, option_to_list}
 use Rattle.board.specs.Sheet.{Statistics}
 use Rattle.statistics_api.specs.Answer.{queue_named}
 use Rattle.statistics_api.specs.Response.{response_of}

@@ -1,5 +1,5 @@
 -- Where it asks for numbers, the method is the one that is allowed, and the path is one of queues.
-use Rattle.std.proofs.Common.{rules, ◌≡◌, Bool, true, false, Some, codes, bytes_eq}
+use Rattle.std.proofs.Common.{rules, ◌≡◌, true, false, Some, codes, bytes_eq}
 use Rattle.statistics_api.specs.Routes.{target_of}
 use Rattle.statistics_api.proofs.AskedLemmas.{of_named}
 use Rattle.statistics_api.proofs.asked.asked_for.Goals as goal

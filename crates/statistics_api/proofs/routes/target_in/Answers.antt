@@ -1,4 +1,4 @@
-use Rattle.std.proofs.Common.{◌≡◌, Option, option_map, sym, ap, ◌∙◌}
+use Rattle.std.proofs.Common.{Option, option_map, sym, ap, ◌∙◌}
 use Rattle.statistics_api.specs.declared.routes.Target.{Target}
 use Rattle.statistics_api.proofs.PlainLemmas.{whole_name, cut_name, no_route}
 use Rattle.statistics_api.proofs.routes.target_in.Goals as goal
