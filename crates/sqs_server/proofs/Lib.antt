@@ -1,4 +1,5 @@
 pub mod BodyLemmas
 pub mod ServerSending
+pub mod Refusals
 pub mod StageLemmas
 pub mod ViewLemmas

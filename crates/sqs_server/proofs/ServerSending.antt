@@ -1,7 +1,7 @@
 -- What goes between the threads of the server, whose desks print on boards. Each type by the types of its fields, so that no search goes through all of them.
 use denote.RattleType.{RattleType}
 use denote.Enum.Declared as variants
-use denote.Param.Send.{IsSend, sendable, struct_send, enum_send, recorded_send}
+use denote.Param.Send.{IsSend, IsSync, sendable, struct_send, enum_send, recorded_send}
 use denote.Struct.Declared as parts
 use denote.Struct.Field.{unit-field}
 use Rattle.std.proofs.Crossing.{crosses}

@@ -10,29 +10,25 @@ use Rattle.statistics_api.specs.Asked.{TellsOfQueues}
 use Rattle.statistics_api.specs.Response.{Told, response_of, told_by}
 use Rattle.statistics_api.specs.Text.{is_written}
 use Rattle.statistics_api.specs.declared.port.Response as answers
-use Rattle.sqs_server.specs.Viewed.{AreRead, IsReadUnder, IsTold, IsJudgedBySize, Sends, no_memory}
-
--- one that was read under a name has that name
-pub read_alone : (name : List ℕ) (sheet : Statistics) → sheet.name ≡ name → IsReadUnder name sheet → AreRead (sheet ∷ [])
-read_alone name sheet is read = (subst (λ n. IsReadUnder n sheet) (sym is) read, tt)
+use Rattle.sqs_server.specs.Viewed.{IsTold, IsJudgedBySize, Sends, no_memory}
 
 -- there was no memory for an answer, which is not the page, and not one that takes none
-unwritten : (method path : List ℕ) (sheets : List Statistics) (told : Told) → AreRead sheets → told ≡ no_memory
+unwritten : (method path : List ℕ) (sheets : List Statistics) (told : Told) → told ≡ no_memory
     → (path ≡ codes "/" → told ≡ response_of method path sheets) → ((response_of method path sheets).0 ≢ 200 → told ≡ response_of method path sheets)
     → (at_page : Bool) → Decides at_page (path ≡ codes "/") → (good : Bool) → Decides good ((response_of method path sheets).0 ≡ 200) → IsTold method path told
-unwritten method path sheets told read is page exact true at good known = inl (sheets, read, page (at.0 refl))
-unwritten method path sheets told read is page exact false at true known =
+unwritten method path sheets told is page exact true at good known = inl (sheets, page (at.0 refl))
+unwritten method path sheets told is page exact false at true known =
     inr (is, (sheets, known.0 refl, λ there. (let e : false ≡ true = at.1 there in absurd cc)))
-unwritten method path sheets told read is page exact false at false known =
-    inl (sheets, read, exact (λ e. (let e' : false ≡ true = known.1 e in absurd cc)))
+unwritten method path sheets told is page exact false at false known =
+    inl (sheets, exact (λ e. (let e' : false ≡ true = known.1 e in absurd cc)))
 
--- what is told of sheets that were read
-pub told_by_sheets : (method path : List ℕ) (sheets : List Statistics) (told : Told) → AreRead sheets
+-- what is told of these sheets
+pub told_by_sheets : (method path : List ℕ) (sheets : List Statistics) (told : Told)
     → (told ≡ response_of method path sheets) ⊎ (told ≡ no_memory)
     → (path ≡ codes "/" → told ≡ response_of method path sheets) → ((response_of method path sheets).0 ≢ 200 → told ≡ response_of method path sheets) → IsTold method path told
-told_by_sheets method path sheets told read (inl e) page exact = inl (sheets, read, e)
-told_by_sheets method path sheets told read (inr e) page exact =
-    unwritten method path sheets told read e page exact (bytes_eq path (codes "/")) (bytes_eq-Decides path (codes "/"))
+told_by_sheets method path sheets told (inl e) page exact = inl (sheets, e)
+told_by_sheets method path sheets told (inr e) page exact =
+    unwritten method path sheets told e page exact (bytes_eq path (codes "/")) (bytes_eq-Decides path (codes "/"))
     ((response_of method path sheets).0 == 200) (unsigned_Decides (response_of method path sheets).0 200)
 
 -- a text that was written tells of queues

@@ -1,6 +1,5 @@
 -- What is sent at the port of the statistics (this project's own).
 use Rattle.std.specs.Prelude.{◌≡◌, ◌⊎◌, ℕ, nat_lt, ◌&&◌, MatchBool, List, [], codes}
-use Rattle.std.specs.List.{AllByRecursion}
 use Rattle.std.specs.Str.{bytes_eq}
 use Rattle.board.specs.Sheet.{Statistics}
 use Rattle.http.specs.Request as request
@@ -16,7 +15,6 @@ use Rattle.http_header.specs.HeaderMap.{Entries, insert}
 use Rattle.http_uri.specs.Uri.{uri_path}
 use Rattle.hyper.specs.Incoming.{size_left}
 use Rattle.hyper.specs.declared.body.incoming.Incoming.{Incoming}
-use Rattle.queue_actor.specs.Reading.{IsReadOf}
 use Rattle.statistics_api.specs.Answer.{out_of_memory}
 use Rattle.statistics_api.specs.Asked.{TellsOfQueues}
 use Rattle.statistics_api.specs.Response.{Told, as_json, response_of}
@@ -42,17 +40,9 @@ pub record Sends (told : Told) (response : Response (Full (List ℕ))) : Type 0 
   pub body : HoldsBody (body_of response) told.2
   pub headers : ((head_of response).headers ≡ typed_headers told.1) ⊎ ((head_of response).headers ≡ [])
 
-abbrev pub IsReadUnder : List ℕ → Statistics → Type 0
-IsReadUnder name sheet = (given : Statistics) × (given.name ≡ name) × IsReadOf given sheet
-
--- these are statistics of queues, each as its board had them after some turns, under the name of the queue
-abbrev pub AreRead : List Statistics → Type 0
-AreRead sheets = AllByRecursion (λ sheet. IsReadUnder sheet.name sheet) sheets
-
--- A method and a path are answered by what was read of queues. There may be no memory for an answer that tells of queues, and for no other.
+-- A method and a path are answered by the statistics of some queues. There may be no memory for an answer that tells of queues, and for no other.
 abbrev pub IsTold : List ℕ → List ℕ → Told → Type 0
-IsTold method path told =
-    ((sheets : List Statistics) × AreRead sheets × (told ≡ response_of method path sheets)) ⊎ ((told ≡ no_memory) × TellsOfQueues method path)
+IsTold method path told = ((sheets : List Statistics) × (told ≡ response_of method path sheets)) ⊎ ((told ≡ no_memory) × TellsOfQueues method path)
 
 -- the same, where a body of this least size is not too large for the one method whose bodies are looked at
 abbrev pub IsJudgedBySize : List ℕ → List ℕ → ℕ → Told → Type 0

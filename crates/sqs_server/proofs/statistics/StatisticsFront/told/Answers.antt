@@ -3,7 +3,7 @@ use Rattle.sqs_server.proofs.statistics.StatisticsFront.told.Goals as goal
 
 pub returns-in-Ok-clause-told : goal.returns-in-Ok-clause-told
 returns-in-Ok-clause-told g c =
-    told_by_sheets _ _ _ _ c.in-Ok.ensures.read c.respond.ensures.response c.respond.ensures.page c.respond.ensures.exact
+    told_by_sheets _ _ _ _ c.respond.ensures.response c.respond.ensures.page c.respond.ensures.exact
 
 pub returns-in-Ok-clause-written : goal.returns-in-Ok-clause-written
 returns-in-Ok-clause-written g c =
