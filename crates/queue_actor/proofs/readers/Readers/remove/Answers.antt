@@ -1,5 +1,5 @@
 -- What is taken out stood at the first place of the uid, between those that stay.
-use Rattle.std.proofs.Common.{◌≡◌, ℕ, ◌+◌, ◌==◌, List, ◌∷◌, ◌++◌, sym, ap, ◌∙◌, take, drop}
+use Rattle.std.proofs.Common.{◌+◌, ◌==◌, List, ◌∷◌, ◌++◌, sym, ap, ◌∙◌, take, drop}
 use Rattle.std.proofs.lemmas.Bool.{eqb-true}
 use Rattle.std.proofs.lemmas.List.{at_drop_more, take-append-drop}
 use Rattle.std.proofs.lemmas.List.Quantifiers.{position-Some}

@@ -1,11 +1,10 @@
 -- The first reader of the name is read, and no other.
-use Rattle.std.proofs.Common.{◌≡◌, ◌∙◌, Option, Some, List, sym, ap, subst, set, get_or, true}
+use Rattle.std.proofs.Common.{◌≡◌, ◌∙◌, Option, Some, sym, ap, subst, set}
 use Rattle.std.specs.List.{find}
 use Rattle.std.specs.Str.{bytes_eq}
 use Rattle.std.specs.Option.{IfSome, option_map}
 use Rattle.std.proofs.lemmas.List.Quantifiers.{position-Some}
 use Rattle.std.proofs.lemmas.Slice.Eq.{bytes_eq-Decides}
-use Rattle.board.specs.Sheet.{Statistics}
 use Rattle.queue_actor.specs.declared.readers.Shown.{Shown}
 use Rattle.queue_actor.specs.Reading.{sheet_of}
 use Rattle.queue_actor.proofs.ReaderLemmas.{HasOwnRecord, all_later_self, found_set, later_lent, none_found}
