@@ -2,5 +2,6 @@ pub mod AnswerLemmas
 pub mod Sending
 pub mod ServingLemmas
 pub mod MovingLemmas
+pub mod ReaderLemmas
 pub mod ActorSending
 pub mod ScriptLemmas

@@ -287,8 +287,8 @@ impl<P: Press, S: Drop> Directory<P, S> {
         self.readers.lock(rt).add(shown)
     }
 
-    /// The statistics of the queue of a name, where it has a reader. No turn of the queue is taken, and the lock of
-    /// the names is not held.
+    /// The statistics of the queue of a name, where it has a reader. This takes the lock of the readers, and no turn of
+    /// the queue and no lock of the names: so it is made, and tests show that it answers while a turn is held.
     pub fn sheet<R: Wait>(
         &self,
         rt: &R,
@@ -301,8 +301,8 @@ impl<P: Press, S: Drop> Directory<P, S> {
         self.readers.lock(rt).sheet(alloc, name)
     }
 
-    /// The statistics of all queues that have a reader. No turn of a queue is taken, and the lock of the names is
-    /// not held.
+    /// The statistics of all queues that have a reader. This too takes the lock of the readers alone, and tests show
+    /// that it answers while a turn is held.
     pub fn sheets<R: Wait>(&self, rt: &R, alloc: Global) -> Result<Vec<Sheet>, Fault>
         ensures errors { IfErr result (λ fault. fault ≡ OutOfMemory) }
     {

@@ -6,6 +6,7 @@ ghost use Rattle.std.specs.Arc.{arc_value};
 
 mod cases;
 mod fakes;
+mod reading;
 mod stage;
 
 use super::*;
