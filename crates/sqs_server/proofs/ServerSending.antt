@@ -8,8 +8,10 @@ use Rattle.std.proofs.Crossing.{crosses}
 use Rattle.std.below.std_heap.proofs.GlobalAllocator.TheSendSync as heap
 use Rattle.std.proofs.alloc.Global.TheSendSync as global
 use Rattle.std.proofs.option.Option.TheSendSync as option
+use Rattle.std.proofs.result.Result.TheSendSync as results
 use Rattle.crossbeam_channel.proofs.channel.Receiver.TheSendSync as channel
 use Rattle.futures.proofs.channel.oneshot.Receiver.TheSendSync as receiver
+use Rattle.futures.proofs.future.made.ready.Ready.TheSendSync as readies
 use Rattle.board.proofs.Sending.{publisher_send}
 use Rattle.board.specs.contracts.publisher.Publisher as publisher
 use Rattle.board.specs.contracts.publisher.PublisherPress.TheImpl as impl
@@ -30,9 +32,12 @@ use Rattle.queue_actor.specs.contracts.mail.Mail as mail
 use Rattle.bytes.proofs.shared.Bytes.TheSendSync as bytes
 use Rattle.bytes.specs.contracts.shared.Bytes as shared_bytes
 use Rattle.http.specs.contracts.response.Response as response
+use Rattle.http.proofs.response.Response.TheSendSync as responses
 use Rattle.http_body_util.proofs.full.Full.TheSendSync as full
 use Rattle.http_body_util.specs.contracts.full.Full as full_body
+use Rattle.hyper.proofs.error.Error.TheSendSync as errors
 use Rattle.hyper.proofs.rt.TokioTimer.TheSendSync as timer
+use Rattle.hyper.proofs.server.conn.http1.Builder.TheSendSync as builder
 use Rattle.hyper.proofs.server.conn.http1.Connection.TheSendSync as connection
 use Rattle.hyper.specs.contracts.error.Error as error
 use Rattle.hyper.specs.contracts.rt.TokioTimer as tokio_timer
@@ -42,16 +47,20 @@ use Rattle.std.specs.contracts.result.Result as result
 use Rattle.std.specs.declared.sync.Wait as wait
 use Rattle.std.specs.contracts.impls.GlobalAllocator.TheImpl as allocator
 use Rattle.tokio.proofs.net.stream.TcpStream.TheSendSync as tcp
+use Rattle.tokio.proofs.sync.semaphore.Semaphore.TheSendSync as semaphore
 use Rattle.tokio.specs.contracts.net.stream.TcpStream as stream
 use Rattle.sqs_server.proofs.arriving.Arriving.TheSendSync as arriving
 use Rattle.sqs_server.proofs.door.Guest.TheSendSync as guest
+use Rattle.sqs_server.proofs.notices.Notices.TheSendSync as notices
 use Rattle.sqs_server.proofs.plan.Step.TheSendSync as step
 use Rattle.sqs_server.proofs.queues.Made.TheSendSync as made
 use Rattle.sqs_server.proofs.queues.Order.TheSendSync as order
 use Rattle.sqs_server.proofs.reply.Sent.TheSendSync as sent
+use Rattle.sqs_server.proofs.serving.Port.TheSendSync as port
 use Rattle.sqs_server.proofs.stage.Creation.TheSendSync as creation
 use Rattle.sqs_server.proofs.stage.Purpose.TheSendSync as purpose
 use Rattle.sqs_server.specs.contracts.answering.Answering as answering
+use Rattle.sqs_server.specs.contracts.door.Exhibition as exhibition
 use Rattle.sqs_server.specs.contracts.door.Guest as guest_type
 use Rattle.sqs_server.specs.contracts.front.Front as front
 use Rattle.sqs_server.specs.contracts.queues.Maker as maker
@@ -182,17 +191,21 @@ caller_send T w s = guest.the_send (Served T w) T (served_send T w s) s
 
 -- those who ask for statistics
 
-pub statistics_send : (T : RattleType) (w : wait.Ghosts T.Denot) → IsSend T → IsSend (statistics.the_row T w)
-statistics_send T w s =
+statistics_field_send : (T : RattleType) (w : wait.Ghosts T.Denot) → IsSend T → IsSend (statistics.the_field T w).row
+statistics_field_send T w s =
     let one = directory_send T w s in
     let both = directory_sync T w s in
-    search (sendable, crosses) depth 40 fits 100000
+    struct_send (parts.shape (statistics.the_type T w)) (s, (global.the_field_send, (search (sendable, crosses) depth 40 fits 100000, tt)))
+
+statistics_send : (T : RattleType) (w : wait.Ghosts T.Denot) → IsSend T → IsSend (statistics.the_row T w)
+statistics_send T w s = recorded_send (statistics.the_field T w).row _ _ (statistics.the_type T w).to_one (statistics_field_send T w s)
 
 abbrev Viewed : (T : RattleType) → wait.Ghosts T.Denot → RattleType
 Viewed T w = served.the_row stream.the_row (statistics.the_row T w) Body (tokio_timer.the_row T) (response.the_row Body) error.the_row (ready.the_row (result.the_row (response.the_row Body) error.the_row))
 
 viewed_send : (T : RattleType) (w : wait.Ghosts T.Denot) → IsSend T → IsSend (Viewed T w)
-viewed_send T w s = connection.the_send _ _ _ _ _ _ _ tcp.the_send (statistics_send T w s) body_send (timer.the_send T s) (search (body_send, sendable, crosses) depth 40 fits 100000)
+viewed_send T w s = connection.the_send _ _ _ _ _ _ _ tcp.the_send (statistics_send T w s) body_send (timer.the_send T s)
+    (readies.the_send _ (results.the_send _ _ (responses.the_send Body body_send) errors.the_send))
 
 pub viewer_send : (T : RattleType) (w : wait.Ghosts T.Denot) → IsSend T → IsSend (guest_type.the_row (Viewed T w) T)
 viewer_send T w s = guest.the_send (Viewed T w) T (viewed_send T w s) s
@@ -229,8 +242,40 @@ maker_send T w s =
     let both = directory_sync T w s in
     search (order.the_send, channel.the_send, sendable, crosses) depth 40 fits 100000
 
+exhibition_field_send : (T : RattleType) (w : wait.Ghosts T.Denot) → IsSend T → IsSend (exhibition.the_field T w).row
+exhibition_field_send T w s =
+    struct_send
+    (parts.shape (exhibition.the_type T w)) (
+      s,
+      (
+        global.the_field_send,
+        (
+          builder.the_field_send _ (timer.the_send T s),
+          (
+            statistics_field_send T w s,
+            (notices.the_field_send, (search (semaphore.the_send, semaphore.the_sync, sendable, crosses) depth 40 fits 100000, tt)),
+          ),
+        ),
+      ),
+    )
+
 pub showing_send : (T : RattleType) (w : wait.Ghosts T.Denot) → IsSend T → IsSend (showing.the_row T w)
 showing_send T w s =
-    let one = statistics_send T w s in
-    let other = timer.the_send T s in
-    search (sendable, crosses) depth 40 fits 100000
+    recorded_send
+    (showing.the_field T w).row
+    _
+    _
+    (showing.the_type T w).to_one
+    (
+    struct_send
+    (parts.shape (showing.the_type T w)) (
+      s,
+      (
+        port.the_field_send,
+        (
+          exhibition_field_send T w s,
+          (notices.the_field_send, (search (semaphore.the_send, semaphore.the_sync, sendable, crosses) depth 40 fits 100000, tt)),
+        ),
+      ),
+    )
+    )
