@@ -1,16 +1,28 @@
 -- What is told at the port of the statistics.
-use Rattle.std.proofs.Common.{◌≡◌, ◌≢◌, ◌⊎◌, ℕ, subst, ◌==◌, Bool, true, false, List, [], ◌∷◌, codes, bytes_eq, inl, inr, refl, ap, sym, ◌∙◌, arith}
+use Rattle.std.proofs.Common.{Result, Ok, Err, IfErr, Bor, ◌≡◌, ◌≢◌, ◌⊎◌, ℕ, subst, ◌==◌, Bool, true, false, List, [], ◌∷◌, codes, bytes_eq, inl, inr, refl, ap, sym, ◌∙◌, arith}
 use Rattle.std.specs.Bool.{Decides}
 use Rattle.std.specs.Cmp.{unsigned_Decides}
 use Rattle.std.proofs.lemmas.Slice.Eq.{bytes_eq-Decides}
 use Rattle.board.specs.Sheet.{Statistics}
 use Rattle.http.specs.declared.response.Response.{Response}
 use Rattle.http_body_util.specs.declared.full.Full.{Full}
+use Rattle.message.specs.declared.fault.Fault.{Fault}
+use Rattle.message.specs.declared.fault.Fault.TheVariants.{OutOfMemory}
 use Rattle.statistics_api.specs.Asked.{TellsOfQueues}
+use Rattle.statistics_api.specs.declared.asked.Asked.{Asked}
+use Rattle.statistics_api.specs.declared.asked.Asked.TheVariants.{Nothing, Queue}
 use Rattle.statistics_api.specs.Response.{Told, response_of, told_by}
 use Rattle.statistics_api.specs.Text.{is_written}
 use Rattle.statistics_api.specs.declared.port.Response as answers
 use Rattle.sqs_server.specs.Viewed.{IsTold, IsJudgedBySize, Sends, no_memory}
+
+-- where queues are asked for, there may be no memory for them
+pub refused_of_queues : {X Q : Type 0} (given : Result X Fault) → IfErr given (λ fault. fault ≡ OutOfMemory) → Q → IfErr given (λ fault. (fault ≡ OutOfMemory) × Q)
+refused_of_queues (Ok sheets) refused needed = tt
+refused_of_queues (Err fault) refused needed = (refused, needed)
+
+pub one_is_asked_for : (asked : Asked) (name : Bor (List ℕ)) → asked ≡ Queue name → asked ≢ Nothing
+one_is_asked_for asked name is none = absurd cc
 
 -- there was no memory for an answer, which is not the page, and not one that takes none
 unwritten : (method path : List ℕ) (sheets : List Statistics) (told : Told) → told ≡ no_memory
