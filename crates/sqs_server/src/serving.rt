@@ -199,6 +199,38 @@ where
     Ok(())
 }
 
+/// What has the requests of a socket answered by these queues.
+fn reception<R>(
+    rt: &R,
+    runtime: &Runtime,
+    opened: Opened<R>,
+    notices: &Notices,
+    closed: &Arc<Semaphore>,
+) -> io::Result<Reception<R>>
+where
+    R: Wait + Clock + RandomSource + AllocGlobal + Copy + Send + Drop + 'static,
+{
+    let alloc = rt.alloc();
+    let timer = TokioTimer::new(*rt, runtime.handle().time().clone()?);
+    let Ok(notices) = notices.again() else {
+        return Err(io::ErrorKind::OutOfMemory.into());
+    };
+    let front = Front {
+        rt: *rt,
+        alloc,
+        queues: opened.queues,
+        orders: opened.orders,
+    };
+    Ok(Reception {
+        rt: *rt,
+        alloc,
+        http: Builder::new(alloc, RandomState::new(rt)?).timer(timer),
+        front,
+        notices,
+        closed: Arc::try_clone(closed)?,
+    })
+}
+
 /// Lets connections in that are answered over HTTP/1.1, at both ports.
 fn let_in<R>(
     rt: &R,
@@ -226,28 +258,11 @@ where
         mut runtime,
         listener,
     } = requests;
-    let timer = TokioTimer::new(*rt, runtime.handle().time().clone()?);
     let closed = Arc::new(alloc, Semaphore::new(alloc, 0)?)?;
     let enough = closings(&closed, connections)?;
     show(rt, statistics, &opened.queues, &notices, &closed)?;
-    let front = Front {
-        rt: *rt,
-        alloc,
-        queues: opened.queues,
-        orders: opened.orders,
-    };
-    let counted = (Arc::try_clone(&closed)?, enough);
-    let Ok(own_notices) = notices.again() else {
-        return Err(io::ErrorKind::OutOfMemory.into());
-    };
-    let welcome = Reception {
-        rt: *rt,
-        alloc,
-        http: Builder::new(alloc, RandomState::new(rt)?).timer(timer),
-        front,
-        notices: own_notices,
-        closed,
-    };
+    let welcome = reception(rt, &runtime, opened, &notices, &closed)?;
+    let counted = (closed, enough);
     keep_door(rt, &mut runtime, listener, welcome, notices, counted)
 }
 
