@@ -60,6 +60,7 @@ use Rattle.sqs_server.proofs.serving.Port.TheSendSync as port
 use Rattle.sqs_server.proofs.stage.Creation.TheSendSync as creation
 use Rattle.sqs_server.proofs.stage.Purpose.TheSendSync as purpose
 use Rattle.sqs_server.specs.contracts.answering.Answering as answering
+use Rattle.sqs_server.specs.contracts.door.Caller as caller
 use Rattle.sqs_server.specs.contracts.door.Exhibition as exhibition
 use Rattle.sqs_server.specs.contracts.door.Guest as guest_type
 use Rattle.sqs_server.specs.contracts.front.Front as front
@@ -186,8 +187,14 @@ Served T w = served.the_row stream.the_row (front.the_row T w) Body (tokio_timer
 served_send : (T : RattleType) (w : wait.Ghosts T.Denot) → IsSend T → IsSend (Served T w)
 served_send T w s = connection.the_send _ _ _ _ _ _ _ tcp.the_send (front_send T w s) body_send (timer.the_send T s) (answering_send T w s)
 
-pub caller_send : (T : RattleType) (w : wait.Ghosts T.Denot) → IsSend T → IsSend (guest_type.the_row (Served T w) T)
-caller_send T w s = guest.the_send (Served T w) T (served_send T w s) s
+pub caller_send : (T : RattleType) (w : wait.Ghosts T.Denot) → IsSend T → IsSend (caller.the_row T w)
+caller_send T w s =
+    recorded_send
+    (caller.the_field T w).row
+    _
+    _
+    (caller.the_type T w).to_one
+    (struct_send (parts.shape (caller.the_type T w)) (guest.the_field_send (Served T w) T (served_send T w s) s, tt))
 
 -- those who ask for statistics
 

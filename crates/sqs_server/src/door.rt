@@ -39,9 +39,6 @@ pub struct Guest<C, R> {
     closed: Arc<Semaphore>,
 }
 
-/// A guest over a socket.
-pub type Caller<R> = Guest<Connection<TcpStream, Front<R>, Full<Bytes>, TokioTimer<R>>, R>;
-
 /// A guest over a socket who asks for statistics.
 pub type Viewer<R> = Guest<
     Connection<TcpStream, StatisticsFront<R>, Full<Bytes>, TokioTimer<R>>,
@@ -67,6 +64,25 @@ impl<C: Future<Output = hyper::Result<()>>, R: Wait + Drop> Future for Guest<C, 
         }
         self.closed.add_permits(1);
         Poll::Ready(())
+    }
+}
+
+/// A guest over a socket whose requests queues answer. It is a type of its own, so that who has it served need not
+/// know what its connection is made of.
+#[derive(Drop)]
+pub struct Caller<R: Wait + Clock + Copy + Drop> {
+    guest: Guest<Connection<TcpStream, Front<R>, Full<Bytes>, TokioTimer<R>>, R>,
+}
+
+impl<R: Wait + Clock + Copy + Drop> Future for Caller<R> {
+    type Output = ();
+
+    ghost can_poll = { λ c. ⟦<Guest<Connection<TcpStream, Front<R>, Full<Bytes>, TokioTimer<R>>, R> as Future>⟧.can_poll c.guest };
+
+    ghost needs = { λ c. ⟦<Guest<Connection<TcpStream, Front<R>, Full<Bytes>, TokioTimer<R>>, R> as Future>⟧.needs c.guest };
+
+    fn poll(&mut self, cx: &mut Context<'_>) -> Poll<()> {
+        self.guest.poll(cx)
     }
 }
 
@@ -98,13 +114,14 @@ impl<R: Wait + Clock + Copy + Send + Drop + 'static> Welcome for Reception<R> {
         let (Ok(front), Ok(notices)) = (self.front.again(), self.notices.again()) else {
             return Err(io::ErrorKind::OutOfMemory.into());
         };
-        Ok(Guest {
+        let guest = Guest {
             rt: self.rt,
             alloc: self.alloc,
             connection: self.http.serve_connection(socket, front),
             notices,
             closed: Arc::try_clone(&self.closed)?,
-        })
+        };
+        Ok(Caller { guest })
     }
 }
 

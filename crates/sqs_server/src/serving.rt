@@ -231,6 +231,25 @@ where
     })
 }
 
+/// Lets connections in at the port for requests until enough have closed.
+fn receive<R>(
+    rt: &R,
+    requests: Port,
+    welcome: Reception<R>,
+    notices: Notices,
+    counted: (Arc<Semaphore>, Option<AcquireOwned>),
+) -> io::Result<()>
+where
+    R: Wait + Threads + Clock + RandomSource + AllocGlobal + Copy + Send + Sync + Drop + 'static,
+    requires { IfSome counted.1 CanAcquire }
+{
+    let Port {
+        mut runtime,
+        listener,
+    } = requests;
+    keep_door(rt, &mut runtime, listener, welcome, notices, counted)
+}
+
 /// Lets connections in that are answered over HTTP/1.1, at both ports.
 fn let_in<R>(
     rt: &R,
@@ -241,29 +260,14 @@ fn let_in<R>(
     connections: Option<u64>,
 ) -> io::Result<()>
 where
-    R: Wait
-        + Threads
-        + Clock
-        + RandomSource
-        + AllocGlobal
-        + Eprint
-        + Copy
-        + Send
-        + Sync
-        + Drop
-        + 'static,
+    R: Wait + Threads + Clock + RandomSource + AllocGlobal + Copy + Send + Sync + Drop + 'static,
 {
     let alloc = rt.alloc();
-    let Port {
-        mut runtime,
-        listener,
-    } = requests;
     let closed = Arc::new(alloc, Semaphore::new(alloc, 0)?)?;
     let enough = closings(&closed, connections)?;
     show(rt, statistics, &opened.queues, &notices, &closed)?;
-    let welcome = reception(rt, &runtime, opened, &notices, &closed)?;
-    let counted = (closed, enough);
-    keep_door(rt, &mut runtime, listener, welcome, notices, counted)
+    let welcome = reception(rt, &requests.runtime, opened, &notices, &closed)?;
+    receive(rt, requests, welcome, notices, (closed, enough))
 }
 
 /// Serves the queues of a configuration at two open ports, the one for requests and the one for statistics, until as
