@@ -1,5 +1,5 @@
 -- The statistics of all queues, by name: the same as those of the names that are listed.
-use Rattle.std.proofs.Common.{◌≡◌, ℕ, suc, zero, ◌+◌, ◌<◌, ◌≤◌, Bool, true, false, cond, List, [], ◌∷◌, ◌++◌, length, get_or, take, map, max, Option, Some, None, Result, Ok, Err, MatchBool, inl, inr, refl, sym, ap, subst, ◌∙◌, arith}
+use Rattle.std.proofs.Common.{◌≡◌, ℕ, suc, zero, ◌+◌, ◌<◌, ◌≤◌, Bool, true, false, cond, List, [], ◌∷◌, ◌++◌, length, get_or, take, map, max, Option, Some, Result, Ok, Err, MatchBool, inl, inr, refl, sym, ap, subst, ◌∙◌, arith}
 use Rattle.std.specs.Prelude.{⊤, nat_eq, filter, fold}
 use Rattle.std.specs.Option.{option_map_or}
 use Rattle.std.specs.List.{find, starts_with, IsDistinct, AllByRecursion}
@@ -10,15 +10,15 @@ use Rattle.redrive.proofs.RegistryLemmas.{some_queue}
 use Rattle.std.proofs.lemmas.Slice.Eq.{bytes_eq-Decides}
 use Rattle.message.specs.declared.fault.Fault.{Fault}
 use Rattle.message.specs.declared.fault.Fault.TheVariants.{QueueDoesNotExist, OutOfMemory}
-use Rattle.message.specs.Fault.{is_out_of_memory, Meets}
+use Rattle.message.specs.Fault.{Meets}
 use Rattle.board.specs.Sheet.{Statistics}
 use Rattle.board.specs.Queue.{sheet_of}
-use Rattle.statistics_api.specs.Texts.{comes_before, put_by_name, by_name}
+use Rattle.statistics_api.specs.Texts.{comes_before, put_by_name}
 use Rattle.queue_core.specs.Queue.{QueueHistory, at_moment}
 use Rattle.redrive.specs.Listing.{put_name, in_order}
 use Rattle.redrive.specs.World.{World, queue_named, queue_of_uid, names_in_world, with_queue_changed, world_at_moment, IsRegistry}
 use Rattle.sqs_replay.specs.Sheets.{sheets_of}
-use Rattle.sqs_replay.specs.Served.{sheet_in, sheet_served, named_sheet_served}
+use Rattle.sqs_replay.specs.Served.{sheet_served, named_sheet_served}
 use Rattle.sqs_replay.specs.Answers.{IsOneOf}
 use Rattle.sqs_replay.proofs.SheetLemmas.{look-left, look-failed, look-queue}
 use Rattle.sqs_replay.proofs.Stages.{memory_or_other}

@@ -1,12 +1,12 @@
 -- What the moves of dead letters leave, one parcel on.
-use Rattle.std.proofs.Common.{◌≡◌, ℕ, suc, zero, ◌+◌, ◌-◌, ◌<◌, ◌≤◌, arith, Bool, true, false, cond, List, [], ◌∷◌, ◌++◌, Option, Result, Ok, Err, MatchBool, refl, sym, ap, subst, inl, inr, ◌∙◌}
-use Rattle.std.specs.Prelude.{⊤, ◌⊎◌}
+use Rattle.std.proofs.Common.{◌≡◌, ℕ, suc, ◌+◌, ◌-◌, ◌<◌, ◌≤◌, arith, Bool, true, false, List, [], ◌∷◌, ◌++◌, Option, Result, Err, MatchBool, refl, sym, ap, subst, inl, inr, ◌∙◌}
+use Rattle.std.specs.Prelude.{⊤}
 use Rattle.message.specs.declared.fault.Fault.{Fault}
 use Rattle.message.specs.declared.fault.Fault.TheVariants.{OutOfMemory}
 use Rattle.message.specs.Fault.{is_out_of_memory, Meets}
 use Rattle.queue_core.specs.declared.reply.Reply.{Reply}
 use Rattle.redrive.specs.declared.moved.Moved.{Moved}
-use Rattle.redrive.specs.World.{World, arrive_answer, world_after_hand_over, needs_confirmation, answer_of_halves, confirm_answer, world_after_confirm, move_answer, IsHandedOver, IsConfirmed, IsMoved}
+use Rattle.redrive.specs.World.{World, arrive_answer, world_after_hand_over, needs_confirmation, answer_of_halves, confirm_answer, world_after_confirm, move_answer, IsHandedOver, IsMoved}
 use Rattle.sqs_replay.specs.Answers.{IsOneOf}
 use Rattle.sqs_replay.specs.Moves.{world_between, confirmed_world, world_after_move, move_stages, goes_on, some_moves}
 use Rattle.sqs_replay.specs.Served.{Leaves, moves_after}

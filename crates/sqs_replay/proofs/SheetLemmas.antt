@@ -1,16 +1,7 @@
 -- Rows one minute on, and what a look leaves of a queue.
-use Rattle.std.proofs.Common.{◌≡◌, ℕ, ◌+◌, ◌-◌, ◌<◌, ◌≤◌, Bool, true, false, cond, List, [], ◌∷◌, ◌++◌, map, max, Option, Some, None, Result, Ok, Err, refl, sym, ap, ◌∙◌, arith}
-use Rattle.std.specs.Prelude.{nat_le, nat_lt}
-use Rattle.std.specs.List.{range_with_len}
+use Rattle.std.proofs.Common.{◌≡◌, ℕ, true, Option, Some, None, Result, Ok, Err, refl, sym, ap, ◌∙◌}
 use Rattle.std.specs.Option.{ForSome}
-use Rattle.std.proofs.lemmas.Bool.Decides.{nat_tests}
 use Rattle.std.proofs.lemmas.Cmp.{nat_eq_equiv}
-use Rattle.std.proofs.lemmas.List.FromFn.{map-range_with_len_more}
-use Rattle.journal.specs.declared.entry.Entry.{Entry}
-use Rattle.metric_window.specs.declared.row.Row.{Row}
-use Rattle.metric_window.specs.Window.{window_start, window_end}
-use Rattle.queue_core.specs.Messages.{created_time}
-use Rattle.queue_core.specs.Metrics.{metric_row, row_of, window_rows}
 use Rattle.message.specs.declared.fault.Fault.{Fault}
 use Rattle.message.specs.declared.fault.Fault.TheVariants.{QueueDoesNotExist, OutOfMemory}
 use Rattle.queue_core.specs.declared.command.Command.TheVariants.{Look}

@@ -1,4 +1,4 @@
-use Rattle.std.proofs.Common.{◌≡◌, sym, ◌∙◌, arith}
+use Rattle.std.proofs.Common.{◌≡◌, ◌∙◌, arith}
 use Rattle.sqs_replay.specs.Moves.{goes_on}
 use Rattle.sqs_replay.proofs.MoveLemmas.{Moving-begin, over_world, over_stage, stop_stage, last_world, next_moving}
 use Rattle.sqs_replay.proofs.moves.some_moves.Goals as goal

@@ -1,4 +1,4 @@
-use Rattle.std.proofs.Common.{◌≡◌, List, ℕ, map, sym, ap, subst, ◌∙◌}
+use Rattle.std.proofs.Common.{◌≡◌, sym, subst, ◌∙◌}
 use Rattle.redrive.specs.World.{World, world_at_moment}
 use Rattle.sqs_replay.proofs.ByNameLemmas.{at-moment-twice, listed-sheets}
 use Rattle.sqs_replay.proofs.statistics.all_sheets.Goals as goal
