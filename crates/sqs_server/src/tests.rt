@@ -302,5 +302,5 @@ fn clients_in(steps: &str) -> u64 {
             callers = u64::max(callers, letter.saturating_sub(b'A') as u64 + 1);
         }
     }
-    callers + viewers
+    callers.saturating_add(viewers)
 }
