@@ -15,8 +15,8 @@ import sys
 import threading
 import time
 
-SENDS = 3_000
-READS = 2_000
+SENDS = 40_000
+READS = 5_000
 RUNS = 5
 READERS = (("no reader", 0, 1.0), ("10 readers", 10, 1.0), ("100 readers", 100, 1.0), ("one reader without a pause", 1, 0.0))
 PATHS = ("/statistics/queues/watched", "/statistics/queues/watched/rows", "/statistics/queues/watched/alarms")
@@ -102,8 +102,7 @@ def sends(readers, pause):
 
 
 def main():
-    line = Line(9324)
-    line.ask(call("CreateQueue", '{"QueueName":"watched"}'))
+    Line(9324).ask(call("CreateQueue", '{"QueueName":"watched"}'))
     found = {}
     for _ in range(RUNS):
         for name, readers, pause in READERS:
@@ -116,7 +115,7 @@ def main():
         middle = statistics.median(taken)
         more = f", {100 * (middle / without - 1):+.1f} %" if name.startswith("a send, ") and name != "a send, no reader" else ""
         print(f"{name}: {middle:.1f} ({min(taken):.1f} to {max(taken):.1f}){more}")
-    line.ask(call("DeleteQueue", '{"QueueUrl":"watched"}'))
+    Line(9324).ask(call("DeleteQueue", '{"QueueUrl":"watched"}'))
 
 
 if __name__ == "__main__":
