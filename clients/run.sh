@@ -7,15 +7,13 @@ set -eu
 cd "$(dirname "$0")/.."
 
 server=crates/sqs_server/out/sqs_server
-port=9324
-
 stop() {
     echo "clients/run.sh: $1" >&2
     exit 1
 }
 
 listens() {
-    python3 -c "import socket; socket.create_connection(('127.0.0.1', $port), 1).close()" 2>/dev/null
+    python3 -c "import socket; socket.create_connection(('127.0.0.1', $1), 1).close()" 2>/dev/null
 }
 
 [ -x "$server" ] || stop "no server yet: build it by 'make run', and end that one by Ctrl-C"
@@ -26,15 +24,17 @@ if [ "${1:-tours}" = tours ]; then
 elif [ "$1" = rate ]; then
     command -v ab >/dev/null || stop "no ab: install Debian's package apache2-utils"
 fi
-! listens || stop "port $port is taken: end what listens there first"
+for port in 9324 9325; do
+    ! listens "$port" || stop "port $port is taken: end what listens there first"
+done
 
 "$server" crates/sqs_server/example.toml &
 trap 'kill $! 2>/dev/null || true' EXIT
 for _ in 1 2 3 4 5 6 7 8 9 10; do
-    listens && break
+    listens 9324 && break
     sleep 0.2
 done
-listens || stop "the server does not listen"
+listens 9324 || stop "the server does not listen"
 
 if [ "${1:-tours}" = tours ]; then
     clients/tour.py
