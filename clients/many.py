@@ -2,8 +2,8 @@
 """Times a server that has 1,000 queues: how long it takes to find one, to list all, and to send while another client lists.
 
 Usage: many.py, with the server started before, as clients/run.sh does. Each request is one of its own over a connection that is kept
-open, and is answered before the next. It makes the queues that are missing, and prints milliseconds: the middle, and the largest of
-the best 99 in a hundred.
+open, and is answered before the next. It makes the queues that are missing, up to the limit of 1,000 with the configured ones, and
+prints milliseconds: the middle, and the largest of the best 99 in a hundred.
 """
 
 import http.client

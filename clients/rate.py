@@ -1,10 +1,10 @@
 #!/usr/bin/env python3
 """Times 10,000 sends to the server: by one connection that is kept open, by eight, and by 64.
 
-Usage: rate.py, with the server started before, as clients/run.sh does. The sends come from `ab`. Each time the queue is new, since a
-queue that has many entries is slower. Beside them, in turn with them: nginx with a constant reply of the same length, where it is
-installed, and the replay, where it is built, with as many sends in a file. It prints the middle of five runs, with the slowest and
-the fastest, in requests a second.
+Usage: rate.py, with the server started before, as clients/run.sh does. The sends come from `ab`. Each time the queue is new, so
+that all runs are alike. Beside them, in turn with them: nginx with a constant reply of the same length, where it is installed, and
+the replay, where it is built, with as many sends in a file. It prints the middle of five runs, with the slowest and the fastest, in
+requests a second.
 """
 
 import os

@@ -19,7 +19,8 @@ listens() {
 [ -x "$server" ] || stop "no server yet: build it by 'make run', and end that one by Ctrl-C"
 command -v python3 >/dev/null || stop "no python3: install Debian's package python3"
 if [ "${1:-tours}" = tours ]; then
-    python3 -c 'import boto3' 2>/dev/null || stop "no boto3: install Debian's package python3-boto3, of 2024 or later"
+    python3 -c 'import boto3; raise SystemExit(tuple(map(int, boto3.__version__.split(".")[:2])) < (1, 34))' 2>/dev/null ||
+        stop "no boto3 of 2024 or later: install Debian 13's package python3-boto3, or boto3 by pip"
     command -v aws >/dev/null || stop "no aws: install Debian's package awscli, of 2024 or later"
 elif [ "$1" = rate ]; then
     command -v ab >/dev/null || stop "no ab: install Debian's package apache2-utils"

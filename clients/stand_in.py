@@ -133,7 +133,10 @@ def main(words):
     """Serves until it is ended."""
     if len(words) > 2 or not all(it.isdigit() for it in words):
         sys.exit("usage: stand_in.py [PORT [QUEUES]]")
-    server = serving(int(words[0]) if words else 9325, int(words[1]) if len(words) > 1 else 5)
+    try:
+        server = serving(int(words[0]) if words else 9325, int(words[1]) if len(words) > 1 else 5)
+    except OSError as error:
+        sys.exit(f"stand_in.py: the port cannot be opened: {error.strerror}")
     print(f"http://127.0.0.1:{server.server_address[1]}/", flush=True)
     try:
         server.serve_forever()
