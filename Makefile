@@ -11,7 +11,7 @@
 PREFIX ?= /usr/local
 
 run:
-	@echo 'The server is proved and built first, where it has changed: about 40 minutes at its first run, on 4 processors.'
+	@echo 'The server is proved and built first, where it has changed: 40 minutes to an hour at its first run, on 4 processors.'
 	@echo 'Then it listens at http://localhost:9324, and at http://localhost:9325 for statistics, until Ctrl-C ends it.'
 	cd crates/sqs_server && rt run -- example.toml
 
