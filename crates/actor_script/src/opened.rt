@@ -1,0 +1,49 @@
+//! Queues that are opened and served.
+
+ghost use Rattle.std.specs.Prelude.{◌≡◌, IfOk};
+ghost use Rattle.std.specs.Arc.{arc_value};
+
+use crate::types::{Client, Letter, Place};
+use crossbeam_channel::unbounded;
+use desk::{Desk, NoPress, Pass};
+use journal::Moment;
+use message::{Fault, QueueName};
+use queue_actor::{Actor, Served};
+use queue_config::{Limits, Settings};
+use queue_core::QueueState;
+use std::alloc::Global;
+use std::sync::Arc;
+
+/// A desk of a queue that was opened at 0 under a uid and a name, to be shared, and its first pass.
+fn opened(
+    rt: &HostRuntime,
+    alloc: Global,
+    uid: u64,
+    name: QueueName,
+    settings: Settings,
+    limits: Limits,
+) -> Result<(Arc<Desk<NoPress>>, Pass<NoPress>), Fault>
+    ensures desk { IfOk result (λ r. r.1.desk ≡ arc_value r.0) }
+    ensures queue { IfOk result (λ r. (r.1.start.uid ≡ uid) × (r.1.start.name ≡ name) × (r.1.start.limits ≡ limits)) }
+{
+    let rules = Vec::new(alloc);
+    let state = QueueState::open(alloc, uid, name, settings, limits, rules, Moment::zero())?;
+    let (desk, pass) = Desk::new(rt, alloc, state, NoPress)?;
+    Ok((Arc::new(alloc, desk)?, pass))
+}
+
+/// A queue that is served under a uid and a name, and its actor's place.
+pub(crate) fn served(
+    rt: &HostRuntime,
+    alloc: Global,
+    uid: u64,
+    name: QueueName,
+    settings: Settings,
+    limits: Limits,
+) -> Result<(Client, Place), Fault> {
+    let (mailbox, mails) = unbounded::<Letter, Global>(alloc)?;
+    let (desk, mut pass) = opened(rt, alloc, uid, name, settings, limits)?;
+    let own = desk.pass(&mut pass);
+    let actor = Actor::new(Arc::try_clone(&desk)?, own, uid, limits);
+    Ok((Served::new(uid, name, desk, pass, mailbox), (actor, mails)))
+}
