@@ -1,7 +1,0 @@
-use denote.Param.Send.{sendable}
-use Rattle.std.proofs.Crossing.{crosses}
-use Rattle.queue_actor.proofs.ActorSending.{directory_send, directory_sync}
-use Rattle.queue_actor.proofs.tests.stage.Stage.send.Goals as goal
-
-pub spawn-requires-send-F : goal.spawn-requires-send-F
-spawn-requires-send-F g c κs = search (directory_send, directory_sync, sendable, crosses) depth 40 fits 100000
