@@ -35,12 +35,12 @@ pub(crate) fn begin<R: Wait>(
 }
 
 /// The queue of the uid 1.
-pub(crate) fn first_queue<R: Wait>(rt: &R, queues: &Shared) -> Option<Client> {
+fn first_queue<R: Wait>(rt: &R, queues: &Shared) -> Option<Client> {
     queues.find_uid(rt, 1).ok()?
 }
 
 /// Sends a text five times to the queue of the uid 1, all before the first answer.
-pub(crate) fn begin_five<R: Wait + AllocGlobal>(
+fn begin_five<R: Wait + AllocGlobal>(
     rt: &R,
     queues: &Shared,
     text: &str,
@@ -54,7 +54,7 @@ pub(crate) fn begin_five<R: Wait + AllocGlobal>(
 }
 
 /// Waits for an answer, and gives the number of the message that was sent.
-pub(crate) fn number_of<R: Wait + RandomSource + AllocGlobal>(
+fn number_of<R: Wait + RandomSource + AllocGlobal>(
     rt: &R,
     future: AskFuture<NoPress>,
 ) -> Option<u64> {
@@ -65,7 +65,7 @@ pub(crate) fn number_of<R: Wait + RandomSource + AllocGlobal>(
 }
 
 /// Waits for answers, one after another, and keeps the numbers of the messages that were sent.
-pub(crate) fn keep_numbers<R: Wait + RandomSource + AllocGlobal>(
+fn keep_numbers<R: Wait + RandomSource + AllocGlobal>(
     rt: &R,
     begun: Vec<AskFuture<NoPress>>,
     numbers: &mut Vec<u64>,
@@ -78,8 +78,8 @@ pub(crate) fn keep_numbers<R: Wait + RandomSource + AllocGlobal>(
     Some(())
 }
 
-/// Counts the messages of an answer that have a body which ends a text, under one of these numbers.
-pub(crate) fn count_own(answer: &Answer<NoPress>, text: &str, numbers: &[u64]) -> Option<u64> {
+/// Counts the messages of an answer which have one of these numbers, and a body with which a text ends.
+fn count_own(answer: &Answer<NoPress>, text: &str, numbers: &[u64]) -> Option<u64> {
     let Ok(Reply::Received(offers)) = answer.reply() else {
         return None;
     };

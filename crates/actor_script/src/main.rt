@@ -20,7 +20,8 @@ use std::random::RandomSource;
 use std::sync::Wait;
 use std::thread::Threads;
 
-/// Plays the script of standard input. Status 0, or 1 where it cannot be read or told, or memory ran out.
+/// Plays the script of standard input. Status 0, or 1 where it cannot be read or told, or there is no memory to tell an
+/// answer. A line that finds no memory is answered so.
 fn main(rt: HostRuntime) -> ExitCode {
     match played(&rt, rt) {
         Ok(()) => ExitCode::from(0),
@@ -28,7 +29,7 @@ fn main(rt: HostRuntime) -> ExitCode {
     }
 }
 
-/// Plays the script of standard input.
+/// Plays the script of standard input. The runtime comes twice: as itself, and as what `main` may do with it.
 fn played<R: Wait + Threads + RandomSource + AllocGlobal + Copy + Send + 'static>(
     rt: &R,
     host: HostRuntime,

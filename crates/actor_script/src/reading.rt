@@ -82,8 +82,8 @@ fn first_sheet(alloc: Global, name: QueueName, queue: &QueueState) -> Sheet
 
 /// A queue that was opened at 0 under the uid 1 and a name, to which no call was made.
 fn printing<R: Wait + Copy + Drop>(
-    host: &HostRuntime,
     rt: R,
+    host: &HostRuntime,
     name: QueueName,
 ) -> Result<Printing<R>, Fault>
     ensures { IfOk result (λ r. r.1.desk ≡ r.0) }
@@ -101,16 +101,16 @@ fn printing<R: Wait + Copy + Drop>(
     Ok((desk, pass, Shown::new(1, name, reader)))
 }
 
-/// What a directory tells in a turn of a queue that asks it there: the entries after the turn before, as the sheet of the
-/// name has them, and all sheets.
+/// What a directory tells in each of two turns of a queue, in which it is asked: the entries after the turn before, as
+/// the sheet of the name has them, and all sheets. The queue does a command in each turn, which is not to be refused.
 pub(crate) fn told_in_a_turn<R: Wait>(
     rt: &R,
     host: &HostRuntime,
     name: QueueName,
     sent: &Command,
-) -> Result<(u64, u64), Fault> {
+) -> Result<((u64, u64), (u64, u64)), Fault> {
     let alloc = host.alloc();
-    let (desk, mut pass, shown) = printing(host, rt, name)?;
+    let (desk, mut pass, shown) = printing(rt, host, name)?;
     let directory = Shared::new(alloc, Limits::default())?;
     directory.show(rt, shown)?;
     let witness = Witness {
@@ -120,11 +120,12 @@ pub(crate) fn told_in_a_turn<R: Wait>(
         one: AtomicU64::new(0),
         all: AtomicU64::new(0),
     };
-    let _first = desk
+    let _ = desk
         .ask(rt, alloc, &mut pass, Moment::zero(), sent, &witness)
-        .reply;
-    let _second = desk
+        .reply?;
+    let first = witness.told();
+    let _ = desk
         .ask(rt, alloc, &mut pass, Moment::zero(), sent, &witness)
-        .reply;
-    Ok(witness.told())
+        .reply?;
+    Ok((first, witness.told()))
 }

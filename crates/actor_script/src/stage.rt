@@ -87,15 +87,20 @@ fn settings(alloc: Global, words: &str) -> Result<(Settings, u64), Fault> {
     }
 }
 
-/// The limits that words say: one message may be in flight (`narrow`), or a journal has one entry (`full`).
-fn limits(words: &str) -> Limits {
+/// The limits that words say: one message may be in flight (`narrow`), or a journal has one entry (`full`); the
+/// default ones beside a policy, and where there are no words.
+fn limits(words: &str) -> Result<Limits, Fault> {
     let mut limits = Limits::default();
     match words {
         "narrow" => limits.in_flight = 1,
         "full" => limits.max_lines = 1,
-        _ => {}
+        _ => {
+            if !words.is_empty() && !words.starts_with("policy ") {
+                return Err(Fault::UnsupportedOperation);
+            }
+        }
     }
-    limits
+    Ok(limits)
 }
 
 /// An actor, what it takes its mail from, and what else its thread works with.
@@ -224,7 +229,8 @@ impl Stage {
     fn serve<R: Wait>(&mut self, rt: &R, name: &str, words: &str) -> Result<u64, Fault> {
         let alloc = self.host.alloc();
         let name = QueueName::read(name)?;
-        let (uid, limits) = (self.entered(rt, name)?, limits(words));
+        let limits = limits(words)?;
+        let uid = self.entered(rt, name)?;
         let (settings, target) = settings(alloc, words)?;
         let (client, place) = served(&self.host, alloc, uid, name, settings, limits)?;
         self.places.push(place)?;
@@ -271,8 +277,8 @@ impl Stage {
         }
     }
 
-    /// Does what a word says of the directory, or takes the next mail. The number is the uid of a queue, 0 for
-    /// none, how many names there are, the moment of a mail, or 1 where it was done.
+    /// Does what a word says of the directory; any other word is handed on. The number is the uid of a queue, 0 for
+    /// none, how many names there are, or 1 where it was done, else 0.
     fn of_directory<R: Wait>(&mut self, rt: &R, words: (&str, &str, &str)) -> Result<u64, Fault> {
         let (verb, who, text) = words;
         let (alloc, directory) = (self.host.alloc(), &self.directory);
@@ -290,7 +296,8 @@ impl Stage {
         }
     }
 
-    /// Does what a word says of an actor, of the clock, or of the turn that is held: 1 where it was done.
+    /// Does what a word says of a queue, of its actor, or of the clock; any other word is handed on. The number is the uid
+    /// of a queue that is served, the moment of a mail, the entries that were told, or 1 where it was done.
     fn of_actor<R: Wait>(&mut self, rt: &R, words: (&str, &str, &str)) -> Result<u64, Fault> {
         let (verb, who, text) = words;
         match verb {
@@ -344,12 +351,12 @@ impl Stage {
         Ok(1)
     }
 
-    /// Has a queue under a name do a command twice, and asks for its statistics in each of the two turns. The number is how
-    /// many entries they told in the second, where all told the same.
+    /// Has a fresh queue under a name do a command twice, and asks a directory of its own for its statistics in each of
+    /// the two turns. The number is how many entries they told in the second, where they told one in the first.
     fn witness<R: Wait>(&self, rt: &R, name: &str, text: &str) -> Result<u64, Fault> {
         let (name, command) = (QueueName::read(name)?, command(self.host.alloc(), text)?);
         match told_in_a_turn(rt, &self.host, name, &command)? {
-            (one, all) if one == all => Ok(one),
+            ((1, 1), (one, all)) if one == all => Ok(one),
             _ => Err(Fault::UnsupportedOperation),
         }
     }
@@ -408,7 +415,6 @@ impl Stage {
     fn answer<R: Wait>(&mut self, rt: &R, line: &str) -> Result<(), Fault> {
         let (head, text) = line.split_once(": ").unwrap_or((line, ""));
         let (verb, who) = head.split_once(' ').unwrap_or((head, ""));
-        self.text.clear();
         match verb {
             "run" => self.run(rt, who, text),
             "call" => self.call(rt, who, text),

@@ -7,7 +7,7 @@ use queue_core::{Command, Maximum, Offer, Reply, Timeout};
 use std::alloc::Global;
 
 /// A message leaves after one receive.
-pub(crate) const POLICY: &str =
+const POLICY: &str =
     r#"{"deadLetterTargetArn":"arn:aws:sqs:elasticmq:000000000000:dead","maxReceiveCount":1}"#;
 
 /// The number that a text is.
@@ -21,8 +21,8 @@ pub(crate) fn moment(text: &str) -> Result<Moment, Fault> {
     Moment::new(number(text)?).ok_or(Fault::InvalidParameterValue)
 }
 
-/// The command that a text says: `send` a body, `policy` with the uid of a target, `receive`, `peek`, which is a
-/// receive that leaves its messages visible, `look` or `close`.
+/// The command that a text says: `send` a body, `policy` with the uid of a target, 0 for none, `receive`, `look` or
+/// `close`.
 pub(crate) fn command(alloc: Global, text: &str) -> Result<Command, Fault> {
     let (verb, rest) = text.split_once(' ').unwrap_or((text, ""));
     match verb {
@@ -32,7 +32,6 @@ pub(crate) fn command(alloc: Global, text: &str) -> Result<Command, Fault> {
             Ok(Command::Send { content, delay })
         }
         "receive" => receive(None),
-        "peek" => receive(Timeout::new(0)),
         "policy" => {
             let (wish, target) = policy(alloc, rest)?;
             Ok(Command::Set { wish, target })
@@ -65,7 +64,7 @@ pub(crate) fn parts(text: &str) -> (&str, &str, &str) {
     (at, call, until)
 }
 
-/// Tells an answer. An offered message has its number, its receipt, its body and when it was sent.
+/// Tells an answer. Of the messages that are offered the first alone is told.
 pub(crate) fn tell(text: &mut String, reply: &Result<Reply, Fault>) -> Result<(), Fault> {
     match reply {
         Ok(Reply::Sent(posted)) => Ok(write!(text, "sent {}", posted.number)?),
@@ -81,8 +80,8 @@ pub(crate) fn tell(text: &mut String, reply: &Result<Reply, Fault>) -> Result<()
     }
 }
 
-/// Tells an offer.
-pub(crate) fn tell_offer(text: &mut String, offer: &Offer) -> Result<(), Fault> {
+/// Tells an offered message: its number, its receipt, its body and when it was sent.
+fn tell_offer(text: &mut String, offer: &Offer) -> Result<(), Fault> {
     let (body, at) = (offer.content.body(), offer.sent.milliseconds());
     Ok(write!(
         text,

@@ -36,13 +36,12 @@ fn opened(
     alloc: Global,
     uid: u64,
     name: QueueName,
-    settings: Settings,
     limits: Limits,
 ) -> Result<(Arc<Desk<NoPress>>, Pass<NoPress>), Fault>
     ensures desk { IfOk result (λ r. r.1.desk ≡ arc_value r.0) }
     ensures queue { IfOk result (λ r. (r.1.start.uid ≡ uid) × (r.1.start.name ≡ name) × (r.1.start.limits ≡ limits)) }
 {
-    let rules = Vec::new(alloc);
+    let (settings, rules) = (Settings::default(), Vec::new(alloc));
     let state = QueueState::open(alloc, uid, name, settings, limits, rules, Moment::zero())?;
     let (desk, pass) = Desk::new(rt, alloc, state, NoPress)?;
     Ok((Arc::new(alloc, desk)?, pass))
@@ -54,11 +53,10 @@ fn served(
     alloc: Global,
     uid: u64,
     name: QueueName,
-    settings: Settings,
     limits: Limits,
 ) -> Result<(Client, Place), Fault> {
     let (mailbox, mails) = unbounded::<Letter, Global>(alloc)?;
-    let (desk, mut pass) = opened(rt, alloc, uid, name, settings, limits)?;
+    let (desk, mut pass) = opened(rt, alloc, uid, name, limits)?;
     let own = desk.pass(&mut pass);
     let actor = Actor::new(Arc::try_clone(&desk)?, own, uid, limits);
     Ok((Served::new(uid, name, desk, pass, mailbox), (actor, mails)))
@@ -95,8 +93,7 @@ fn entries_of(answer: &Answer<NoPress>) -> Result<u64, Fault> {
 fn entered<R: Wait>(rt: &R, host: &HostRuntime, queues: &Shared) -> Result<Place, Fault> {
     let (alloc, name) = (host.alloc(), QueueName::read("jobs")?);
     let uid = queues.enter(rt, alloc, name)?;
-    let (settings, limits) = (Settings::default(), Limits::default());
-    let (client, place) = served(host, alloc, uid, name, settings, limits)?;
+    let (client, place) = served(host, alloc, uid, name, Limits::default())?;
     queues.serve(rt, client, 0)?;
     Ok(place)
 }
@@ -121,7 +118,7 @@ fn looked_at<R: Wait>(
 }
 
 /// A queue is served, and a look at it is asked and answered: how many entries it has. `OutOfMemory` where any allocation
-/// was refused, but where a task finds no memory to be woken: it goes on.
+/// was refused, but where a task finds no memory to be woken, and an actor none for one poll more: they go on.
 fn looked<R: Wait>(rt: &R, host: HostRuntime) -> Result<u64, Fault> {
     let queues = Shared::new(host.alloc(), Limits::default())?;
     let place = entered(rt, &host, &queues)?;
