@@ -1,28 +1,29 @@
-# `make run` proves and builds the server and starts it with a small configuration; Ctrl-C ends it. `make replay` proves and builds the
-# replay and runs it on its stored example; `make try` runs the same with no proof. `make install` puts both programs into PREFIX/bin.
-# `make test` is what each commit must pass: the edits can be applied, each crate has a verdict that holds, and all tests pass. It takes
-# minutes where the verdicts hold. `make prove` proves everything from nothing, and writes every verdict anew. `make verdicts` says which
-# hold. `make clients` tours the server that `make run` built, with boto3 and the AWS command line; `make rate` times it, `make many` with
-# 1,000 queues, and `make watched` while its statistics are read. `make wrong-bodies` tries the edits that the gate leaves out; with
-# CRATE=name those of one crate. `make refuse` runs the tests of refused memory once for each allocation. `make page` shows the statistics
-# page with numbers that were made up, and `make page-test` tries it in a browser, and behind it that of the server, where it is built.
-# `make bench` times the replay that `make replay` built. `make table` puts what the verdicts say into docs/PROOFS.md.
-.PHONY: run replay try install test prove verdicts table clients rate many watched wrong-bodies refuse bench page page-test
+# `make run` starts the server with a small configuration, until Ctrl-C, and `make replay` the replay on its stored example: the proved programs
+# where they were built, else the same code compiled without a proof, as `make try` runs the replay in any case. `make build` proves and builds both, and
+# `make install` puts them into PREFIX/bin. `make test` is what each commit must pass: the edits can be applied, each crate has a verdict that holds, and
+# all tests pass. It takes minutes where the verdicts hold. `make prove` proves everything from nothing, and writes every verdict anew. `make verdicts` says
+# which hold. `make clients` tours the server, with boto3 and the AWS command line; `make rate` times the proved one, `make many` with 1,000 queues, and
+# `make watched` while its statistics are read; `make bench` times the proved replay. `make wrong-bodies` tries the edits that the gate leaves out; with
+# CRATE=name those of one crate. `make refuse` runs the tests of refused memory once for each allocation. `make page` shows the statistics page with numbers
+# that were made up, and `make page-test` tries it in a browser, and behind it that of the server. `make table` puts what the verdicts say into docs/PROOFS.md.
+.PHONY: run replay try build install test prove verdicts table clients rate many watched wrong-bodies refuse bench page page-test
 PREFIX ?= /usr/local
 
 run:
-	@echo 'The server is proved and built first, where it has changed: 40 minutes to an hour at its first run, on 4 processors.'
-	@echo 'Then it listens at http://localhost:9324, and at http://localhost:9325 for statistics, until Ctrl-C ends it.'
-	cd crates/sqs_server && rt run -- example.toml
+	@tools/run sqs_server crates/sqs_server/example.toml
 
 replay:
-	cd crates/sqs_replay && rt run < stdin
+	@tools/run sqs_replay < crates/sqs_replay/stdin
 
 try:
-	cd crates/sqs_replay && rt try < stdin
+	@program=$$(tools/compile sqs_replay) && "$$program" < crates/sqs_replay/stdin
 
-install:
-	tools/install $(DESTDIR)$(PREFIX)
+build:
+	tools/build
+
+install: build
+	install -d $(DESTDIR)$(PREFIX)/bin
+	install -m 755 crates/sqs_server/out/sqs_server crates/sqs_replay/out/sqs_replay $(DESTDIR)$(PREFIX)/bin
 
 test:
 	tools/test
@@ -55,10 +56,10 @@ refuse:
 	tools/refuse-allocations
 
 bench:
-	tools/bench
+	clients/bench.py
 
 page:
 	clients/stand_in.py
 
 page-test:
-	tools/page-test
+	clients/page_test.py

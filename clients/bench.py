@@ -1,9 +1,9 @@
 #!/usr/bin/env python3
 """Times the replay against the number of messages, and writes what it finds as a table and as a picture.
 
-usage: tools/bench [--most N] [--seconds S] [--runs R] [--moto] [PROGRAM..]
+usage: clients/bench.py [--most N] [--seconds S] [--runs R] [--moto] [PROGRAM..]
 
-The program is crates/sqs_replay/out/sqs_replay, as `make replay` builds it, unless others are named, which then take turns. It makes its
+The program is crates/sqs_replay/out/sqs_replay, as `make build` makes it, unless others are named, which then take turns. It makes its
 inputs itself, of 1,000 messages and ten times as many up to N (100,000 unless another is named), and runs each R times (3) with at most
 S processor seconds (60). With --moto the same work goes through moto's queues in memory, by boto3, where both are installed. It prints the
 middle of the runs in processor seconds (user time) and the most memory that was resident, where less than some 12 MB shows as that, since a
@@ -233,7 +233,7 @@ def main(words):
     programs = programs or [f"{ROOT}/crates/sqs_replay/out/sqs_replay"]
     for it in programs:
         if not os.path.isfile(it):
-            print(f"bench: there is no {it}; `make replay` proves and builds it", file=sys.stderr)
+            print(f"bench: there is no {it}; `make build` proves and builds it", file=sys.stderr)
             return 2
     names = {it: "the replay" if len(programs) == 1 else f"{'before' if at == 0 else 'after'}" for at, it in enumerate(programs)}
     found = measured(programs, most, limit, runs)

@@ -1,12 +1,11 @@
 #!/usr/bin/env python3
 """Tries the page of the statistics in a real browser, and ends with one line 'N passed, M failed'.
 
-usage: tools/page-test [PICTURE]
+usage: clients/page_test.py [PICTURE]
 
 It starts headless Chromium, and asks it by its debugging pipe what the page holds: the text of each queue, and nothing of how it looks.
-The page comes from clients/stand_in.py, whose numbers are known and some of whose names are no queue's. Where crates/sqs_server/out has a
-server that serves the page, that one is tried behind it, with queues that it fills. PICTURE is a file that a picture of the page is
-written to. The status is 1 where something is not as it should be, and 3 where there is no Chromium.
+The page comes from clients/stand_in.py, whose numbers are known and some of whose names are no queue's. Behind it that of the server is tried, with
+queues that it fills: the program that `make run` starts. PICTURE is a file that a picture of the page is written to. The status is 1 where something is not as it should be, and 3 where there is no Chromium.
 """
 import base64
 import fcntl
@@ -28,7 +27,6 @@ sys.dont_write_bytecode = True
 import stand_in  # noqa: E402
 
 BROWSERS = ("chromium", "chromium-browser", "google-chrome", "google-chrome-stable")
-SERVER = f"{ROOT}/crates/sqs_server/out/sqs_server"
 PATIENCE = 60.0
 
 # What the page holds: of each queue that stands there its name, and the texts of what is drawn.
@@ -305,14 +303,12 @@ def serves_page():
 
 
 def check_server(checks, browser):
-    """Tries the page over the server that was built, with the queues of its example, which are filled: both have one state with the page."""
-    if not os.access(SERVER, os.X_OK):
-        print("page-test: no server is built, so the page was tried with the stand-in alone: `make run` builds one")
-        return
-    server = subprocess.Popen([SERVER, f"{ROOT}/crates/sqs_server/example.toml"], stdin=subprocess.DEVNULL, stderr=subprocess.DEVNULL)
+    """Tries the page over the server, with the queues of its example, which are filled: both have one state with the page."""
+    program = subprocess.run([f"{ROOT}/tools/run", "--which", "sqs_server"], stdout=subprocess.PIPE, text=True, check=True).stdout.strip()
+    server = subprocess.Popen([program, f"{ROOT}/crates/sqs_server/example.toml"], stdin=subprocess.DEVNULL, stderr=subprocess.DEVNULL)
     try:
         if not serves_page():
-            print("page-test: the server that is built serves no page on port 9325, so the page was tried with the stand-in alone")
+            checks.check("the server serves a page on port 9325", False)
             return
         for number in range(7):
             call("SendMessage", {"QueueUrl": "jobs", "MessageBody": f"message {number}"})

@@ -1,12 +1,11 @@
 #!/bin/sh
-# Starts the server that `make run` has built, has clients call it, and ends it.
+# Starts the server, has clients call it, and ends it: the program that `make run` starts, or for a measurement the proved one.
 # Usage: run.sh [rate | many | watched]. Without an argument the tours of boto3 and of the AWS command line; with `rate` how many sends a second it
 # answers, beside the replay and, where it is installed, nginx; with `many` how long requests take where there are 1,000 queues; with
 # `watched` how long a send takes while statistics are read.
 set -eu
 cd "$(dirname "$0")/.."
 
-server=crates/sqs_server/out/sqs_server
 stop() {
     echo "clients/run.sh: $1" >&2
     exit 1
@@ -16,7 +15,6 @@ listens() {
     python3 -c "import socket; socket.create_connection(('127.0.0.1', $1), 1).close()" 2>/dev/null
 }
 
-[ -x "$server" ] || stop "no server yet: build it by 'make run', and end that one by Ctrl-C"
 command -v python3 >/dev/null || stop "no python3: install Debian's package python3"
 if [ "${1:-tours}" = tours ]; then
     python3 -c 'import boto3; raise SystemExit(tuple(map(int, boto3.__version__.split(".")[:2])) < (1, 34))' 2>/dev/null ||
@@ -29,9 +27,18 @@ for port in 9324 9325; do
     ! listens "$port" || stop "port $port is taken: end what listens there first"
 done
 
+if [ "${1:-tours}" = tours ]; then
+    server=$(tools/run --which sqs_server)
+else
+    server=$(python3 -B -c 'import sys; sys.path.insert(0, "tools"); import crates; print(crates.built(crates.Crates(), "sqs_server") or "")')
+    [ -n "$server" ] || stop "no proved server of the code as it stands: 'make build' makes it"
+fi
 "$server" crates/sqs_server/example.toml &
 trap 'kill $! 2>/dev/null || true' EXIT
-for _ in 1 2 3 4 5 6 7 8 9 10; do
+trap 'exit 130' INT
+trap 'exit 143' TERM
+trap 'exit 129' HUP
+for _ in $(seq 25); do
     listens 9324 && break
     sleep 0.2
 done

@@ -112,8 +112,14 @@ def build_sum(repository, name):
     return sum_of(repository.root, paths, [it.encode() for it in texts])
 
 
+def mark(repository, name, out, total):
+    """Returns what stands beside something that was built: the sum of what it is made of, and what `rt` says of what it made there."""
+    return total + (text_of(f"{out}/{name}.stamp" if repository.is_program(name) else f"{out}/rlib/stamp") or " none")
+
+
 def built(repository, name):
-    """Returns the path of what was built of a crate, or None where the crate has changed since, or was never built."""
+    """Returns the path of what was built of a crate, or None where the crate has changed since, was built otherwise since, or was never built."""
     out = f"{repository.folder(name)}/out"
     made = f"{out}/{name}" if repository.is_program(name) else f"{out}/rlib/{name}.rlib"
-    return made if os.path.exists(made) and text_of(f"{out}/{name}.built") == build_sum(repository, name) else None
+    is_here = os.path.exists(made) and os.path.exists(f"{out}/{name}.built")
+    return made if is_here and text_of(f"{out}/{name}.built") == mark(repository, name, out, build_sum(repository, name)) else None
