@@ -55,14 +55,15 @@ message_items-all uid names patterns os vs i past h =
     sym (items_then-end vs) ∙ ap (λ (rest : List Offer). items_then vs (message_items uid names patterns rest)) (sym (drop_all i os past)) ∙ h
 
 -- what is left of the names, one on and at the end
-pub url_items-drop : (names : List (List ℕ)) (i : ℕ) (name : List ℕ) → i < length names → name ≡ get_or names i name
-    → url_items (drop i names) ≡ item (string (queue_url name)) (url_items (drop (i + 1) names))
-url_items-drop names i name lt is =
-    at_drop_more url_items names i name lt ∙ ap (λ (x : List ℕ). item (string (queue_url x)) (url_items (drop (i + 1) names))) (sym is)
+pub url_items-drop : (port : ℕ) (names : List (List ℕ)) (i : ℕ) (name : List ℕ) → i < length names → name ≡ get_or names i name
+    → url_items port (drop i names) ≡ item (string (queue_url port name)) (url_items port (drop (i + 1) names))
+url_items-drop port names i name lt is =
+    at_drop_more (url_items port) names i name lt ∙ ap (λ (x : List ℕ). item (string (queue_url port x)) (url_items port (drop (i + 1) names))) (sym is)
 
-pub url_items-all : (names : List (List ℕ)) (vs : List Value) (i : ℕ) → length names ≤ i → items_then vs (url_items (drop i names)) ≡ url_items names → items_view vs ≡ url_items names
-url_items-all names vs i past h =
-    sym (items_then-end vs) ∙ ap (λ (rest : List (List ℕ)). items_then vs (url_items rest)) (sym (drop_all i names past)) ∙ h
+pub url_items-all : (port : ℕ) (names : List (List ℕ)) (vs : List Value) (i : ℕ) → length names ≤ i → items_then vs (url_items port (drop i names)) ≡ url_items port names
+    → items_view vs ≡ url_items port names
+url_items-all port names vs i past h =
+    sym (items_then-end vs) ∙ ap (λ (rest : List (List ℕ)). items_then vs (url_items port rest)) (sym (drop_all i names past)) ∙ h
 
 -- what is left of the answers that were done, one on and at the end
 pub done_items-drop : (xs : List BatchAnswer) (i : ℕ) (a : BatchAnswer) → i < length xs → a ≡ get_or xs i a → done_items (drop i xs) ≡ done_item a.id a.answer (done_items (drop (i + 1) xs))
@@ -174,9 +175,9 @@ queue_attributes_float : (queue : List ℕ) (look : Look) (ms : Members) (xs : L
 queue_attributes_float queue look ms [] h = h
 queue_attributes_float queue look ms (a ∷ xs) h = queue_attributes_float queue look (put_given (queue_attribute_name a) (queue_attribute_text queue look a) ms) xs (put_given_float (queue_attribute_name a) (queue_attribute_text queue look a) ms h)
 
-urls_float : (names : List (List ℕ)) → items_have_float (url_items names) ≡ false
-urls_float [] = refl
-urls_float (name ∷ names) = or_both _ _ refl (urls_float names)
+urls_float : (port : ℕ) (names : List (List ℕ)) → items_have_float (url_items port names) ≡ false
+urls_float port [] = refl
+urls_float port (name ∷ names) = or_both _ _ refl (urls_float port names)
 
 done_float : (id : List ℕ) (reply : EntryReply) → has_float (done_data id reply) ≡ false
 done_float id (entries.Sent content number) = put_sent_float content number (put (codes "Id") (string id) no_members) refl
@@ -198,13 +199,13 @@ failed_items_float : (xs : List BatchAnswer) → items_have_float (failed_items 
 failed_items_float [] = refl
 failed_items_float (a ∷ xs) = failed_item_float a.id a.answer (failed_items xs) (failed_items_float xs)
 
-pub reply_data-float : (shape : ReplyShape) → has_float (reply_data shape) ≡ false
-reply_data-float (QueueUrl name) = refl
-reply_data-float (Sent content id) = put_sent_float content id no_members refl
-reply_data-float (QueueUrls names) = or_both _ _ (urls_float names) refl
-reply_data-float (SourceQueueUrls names) = or_both _ _ (urls_float names) refl
-reply_data-float (Attributes None queue look) = refl
-reply_data-float (Attributes (Some names) queue look) = or_both _ _ (queue_attributes_float queue look no_members names.asked refl) refl
-reply_data-float (Messages uid names patterns offers) = offers_float (length offers == 0) _ _ (items_float uid names patterns offers)
-reply_data-float (Batch answers) = or_both _ _ (failed_items_float answers) (or_both _ _ (done_items_float answers) refl)
-reply_data-float Nothing = refl
+pub reply_data-float : (port : ℕ) (shape : ReplyShape) → has_float (reply_data port shape) ≡ false
+reply_data-float port (QueueUrl name) = refl
+reply_data-float port (Sent content id) = put_sent_float content id no_members refl
+reply_data-float port (QueueUrls names) = or_both _ _ (urls_float port names) refl
+reply_data-float port (SourceQueueUrls names) = or_both _ _ (urls_float port names) refl
+reply_data-float port (Attributes None queue look) = refl
+reply_data-float port (Attributes (Some names) queue look) = or_both _ _ (queue_attributes_float queue look no_members names.asked refl) refl
+reply_data-float port (Messages uid names patterns offers) = offers_float (length offers == 0) _ _ (items_float uid names patterns offers)
+reply_data-float port (Batch answers) = or_both _ _ (failed_items_float answers) (or_both _ _ (done_items_float answers) refl)
+reply_data-float port Nothing = refl

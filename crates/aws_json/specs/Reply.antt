@@ -31,9 +31,9 @@ use Rattle.aws_json.specs.declared.batch.EntryReply.TheVariants as entries
 use Rattle.aws_json.specs.declared.reply.ReplyShape.{ReplyShape}
 use Rattle.aws_json.specs.declared.reply.ReplyShape.TheVariants.{QueueUrl, QueueUrls, SourceQueueUrls, Sent, Attributes, Messages, Batch, Nothing}
 
--- the URL of a queue: host, port and account are this project's own choice, after ElasticMQ
-abbrev pub queue_url : List ℕ → List ℕ
-queue_url name = codes "http://localhost:9324/000000000000/" ++ name
+-- the URL of a queue where requests are answered at a port: host and account are this project's own choice, after ElasticMQ
+abbrev pub queue_url : ℕ → List ℕ → List ℕ
+queue_url port name = codes "http://localhost:" ++ decimal port ++ codes "/000000000000/" ++ name
 
 -- the name by which policies and other services know a queue
 abbrev pub queue_arn : List ℕ → List ℕ
@@ -85,16 +85,16 @@ attributes_data (Some names) queue look = object (member (codes "Attributes") (o
 -- ---- URLs
 
 -- the URL of a queue
-abbrev pub url_data : List ℕ → Data
-url_data name = object (member (codes "QueueUrl") (string (queue_url name)) no_members)
+abbrev pub url_data : ℕ → List ℕ → Data
+url_data port name = object (member (codes "QueueUrl") (string (queue_url port name)) no_members)
 
-abbrev pub url_items : List (List ℕ) → Items
-url_items [] = no_items
-url_items (name ∷ names) = item (string (queue_url name)) (url_items names)
+abbrev pub url_items : ℕ → List (List ℕ) → Items
+url_items port [] = no_items
+url_items port (name ∷ names) = item (string (queue_url port name)) (url_items port names)
 
 -- the URLs of queues, under a key
-abbrev pub urls_data : List ℕ → List (List ℕ) → Data
-urls_data key names = object (member key (array (url_items names)) no_members)
+abbrev pub urls_data : ℕ → List ℕ → List (List ℕ) → Data
+urls_data port key names = object (member key (array (url_items port names)) no_members)
 
 -- ---- sends
 
@@ -212,13 +212,13 @@ done_items (a ∷ rest) = done_item a.id a.answer (done_items rest)
 abbrev pub batch_data : List BatchAnswer → Data
 batch_data answers = object (member (codes "Failed") (array (failed_items answers)) (member (codes "Successful") (array (done_items answers)) no_members))
 
--- one equation a reply
-abbrev pub reply_data : ReplyShape → Data
-reply_data (QueueUrl name) = url_data name
-reply_data (Sent content id) = sent_data content id
-reply_data (QueueUrls names) = urls_data (codes "QueueUrls") names
-reply_data (SourceQueueUrls names) = urls_data (codes "queueUrls") names
-reply_data (Attributes names queue look) = attributes_data names queue look
-reply_data (Messages uid names patterns offers) = messages_data uid names patterns offers
-reply_data (Batch answers) = batch_data answers
-reply_data Nothing = object no_members
+-- one equation a reply, of who answers requests at a port
+abbrev pub reply_data : ℕ → ReplyShape → Data
+reply_data port (QueueUrl name) = url_data port name
+reply_data port (Sent content id) = sent_data content id
+reply_data port (QueueUrls names) = urls_data port (codes "QueueUrls") names
+reply_data port (SourceQueueUrls names) = urls_data port (codes "queueUrls") names
+reply_data port (Attributes names queue look) = attributes_data names queue look
+reply_data port (Messages uid names patterns offers) = messages_data uid names patterns offers
+reply_data port (Batch answers) = batch_data answers
+reply_data port Nothing = object no_members

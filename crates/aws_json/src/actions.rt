@@ -33,7 +33,7 @@ const ATTRIBUTES: (&str, Kind) = ("Attributes", Kind::NamedTexts);
 
 /// The actions that are served.
 #[derive(Clone, Copy, Debug, PartialEq, Eq)]
-enum Action {
+pub(crate) enum Action {
     CreateQueue,
     SetQueueAttributes,
     PurgeQueue,
@@ -124,7 +124,7 @@ fn send_message(alloc: Global, body: &Value) -> Result<Request, Fault>
 }
 
 /// How many messages a receive asks for: one where it does not say.
-fn maximum_given(number: Option<Option<u64>>) -> Result<Maximum, Fault>
+pub(crate) fn maximum_given(number: Option<Option<u64>>) -> Result<Maximum, Fault>
     ensures { result ≡ maximum_given number }
 {
     let messages = within(1, u64::from(MOST_OFFERS), number)?.unwrap_or(1);
@@ -197,7 +197,7 @@ fn batch(alloc: Global, kind: EntryKind, body: &Value) -> Result<Request, Fault>
 }
 
 /// The action of a name, where it is served.
-fn action_named(name: &str) -> Option<Action>
+pub(crate) fn action_named(name: &str) -> Option<Action>
     ensures { result ≡ action_named name.now }
 {
     match name {

@@ -134,7 +134,7 @@ fn all_system_attributes() -> &'static [SystemAttribute]
 }
 
 /// A name in a list.
-fn name_text(name: &Value) -> &str
+pub(crate) fn name_text(name: &Value) -> &str
     ensures { result.now ≡ name_text (view name.now) }
 {
     match name.as_str() {
@@ -175,7 +175,7 @@ fn has_queue_attribute(name: &str, attributes: &[QueueAttribute]) -> bool
 }
 
 /// Whether a client may ask for an attribute of a queue by the name.
-fn is_queue_name(name: &str) -> bool
+pub(crate) fn is_queue_name(name: &str) -> bool
     ensures { result ≡ is_queue_name name.now }
 {
     name == "All" || has_queue_attribute(name, all_queue_attributes()) || is_ignored(name)
@@ -258,7 +258,7 @@ fn is_unanswered(name: &str) -> bool
 }
 
 /// Whether a client may ask for an attribute of a message by the name.
-fn is_system_name(name: &str) -> bool
+pub(crate) fn is_system_name(name: &str) -> bool
     ensures { result ≡ is_system_name name.now }
 {
     name == "All" || has_system_attribute(name, all_system_attributes()) || is_unanswered(name)

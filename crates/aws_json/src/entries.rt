@@ -21,10 +21,10 @@ use serde_json::{Map, Value};
 use std::alloc::Global;
 
 /// How many entries a batch has at most (Amazon SQS API Reference, `SendMessageBatch`).
-const MOST_ENTRIES: usize = 10;
+pub(crate) const MOST_ENTRIES: usize = 10;
 
 /// How many bytes a batch sends at most (Amazon SQS API Reference, `SendMessageBatch`).
-const LONGEST_BATCH: u64 = 262_144;
+pub(crate) const LONGEST_BATCH: u64 = 262_144;
 
 /// The name of an entry in its batch.
 const ID: (&str, Kind) = ("Id", Kind::Text);
@@ -57,7 +57,7 @@ fn bytes_of_base64(alloc: Global, text: &str) -> Result<Vec<u8>, Fault>
 }
 
 /// A message attribute as it is given, which `Content::new` judges.
-fn attribute_given(alloc: Global, name: &str, body: &Value) -> Result<Attribute, Fault>
+pub(crate) fn attribute_given(alloc: Global, name: &str, body: &Value) -> Result<Attribute, Fault>
     ensures { Meets result (Ok (attribute_given name.now (view body.now))) }
 {
     let kind = text_or_empty("DataType", body);
@@ -100,7 +100,7 @@ fn given_attributes(
 }
 
 /// The text of a body, which has to be there and to be one.
-fn given_body(text: Option<&str>) -> Result<&str, Fault>
+pub(crate) fn given_body(text: Option<&str>) -> Result<&str, Fault>
     ensures { result_map (λ s. s.now) result ≡ given_body (option_map (λ s. s.now) text.entry) }
 {
     let text = text.ok_or(Fault::InvalidParameterValue)?;
@@ -111,7 +111,7 @@ fn given_body(text: Option<&str>) -> Result<&str, Fault>
 }
 
 /// A delay in seconds, where there is one.
-fn delay_within(number: Option<Option<u64>>) -> Result<Option<Delay>, Fault>
+pub(crate) fn delay_within(number: Option<Option<u64>>) -> Result<Option<Delay>, Fault>
     ensures { result ≡ within 0 longest_delay number }
 {
     match within(0, u64::from(LONGEST_DELAY), number)? {
@@ -239,7 +239,7 @@ fn entry_command(alloc: Global, kind: EntryKind, entry: &Value) -> Result<Comman
 }
 
 /// An entry's id, which has to be there and is of the form of a queue's name.
-fn entry_id(text: Option<&str>) -> Result<QueueName, Fault>
+pub(crate) fn entry_id(text: Option<&str>) -> Result<QueueName, Fault>
     ensures { result ≡ entry_id (option_map (λ s. s.now) text.entry) }
 {
     match text {
@@ -263,7 +263,7 @@ fn entry_of(alloc: Global, kind: EntryKind, item: &Value) -> Result<BatchEntry, 
 }
 
 /// The entries, or that an id is missing or not one.
-fn entries_of(alloc: Global, kind: EntryKind, items: &[Value]) -> Result<Entries, Fault>
+pub(crate) fn entries_of(alloc: Global, kind: EntryKind, items: &[Value]) -> Result<Entries, Fault>
     ensures { Meets result (entries_of kind (items_view items.now)) }
 {
     let mut entries = Entries::empty(alloc);
@@ -299,7 +299,7 @@ fn have_equal_ids(entries: &[BatchEntry]) -> bool
 }
 
 /// How many bytes an entry sends; an entry with a fault of its own sends none.
-fn entry_size(entry: &BatchEntry) -> u64
+pub(crate) fn entry_size(entry: &BatchEntry) -> u64
     ensures { result ≡ entry_size entry.now }
 {
     match &entry.command {

@@ -6,14 +6,16 @@
 //!   one after another. A batch is a list of [`Entries`], each a queue's command or its own fault.
 //! - [`reply_text`]: the JSON text of a reply. Of a batch it is the [`BatchAnswers`].
 //! - [`fault_text`] and [`status`]: the JSON text and the status of a refusal.
+//! - [`explain`]: what was wrong with a request that was refused, in words.
 //! - [`QueueAttribute`] and [`SystemAttribute`]: the attributes that a client asks for by their names.
 //!   [`Patterns`]: which message attributes a receive asks for.
 //! - [`Prefix`] and [`QueueNames`]: which queues a client lists, and which there are.
 //! - [`Listed`]: a list, which contracts see as such.
 //! - [`read_object`]: the JSON object that a body is. [`read_queue`]: the queue that it names.
 //!
-//! Each contract is exact: it names the value, or the one refusal, that a definition in `specs/`
-//! computes from the bytes. Want of memory is the one thing that may come in its place.
+//! Each contract but that of [`explain`] is exact: it names the value, or the one refusal, that a
+//! definition in `specs/` computes from the bytes. Want of memory is the one thing that may come in
+//! its place.
 #![tactic(auto)]
 
 mod actions;
@@ -21,6 +23,7 @@ mod attribute_names;
 mod batch;
 mod batch_reply;
 mod entries;
+mod explanation;
 mod listed;
 mod members;
 mod message_reply;
@@ -39,6 +42,7 @@ mod text;
 pub use actions::{parse, read_queue};
 pub use attribute_names::{QueueAttribute, SystemAttribute};
 pub use batch::{BatchAnswer, BatchAnswers, BatchEntry, Entries, EntryReply};
+pub use explanation::explain;
 pub use listed::Listed;
 pub use members::read_object;
 pub use refusal::{fault_text, status};

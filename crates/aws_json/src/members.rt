@@ -145,7 +145,7 @@ fn have_texts(members: &Map<String, Value>) -> bool
 }
 
 /// Whether a member is a text, where it is there.
-fn may_be_text(name: &str, body: &Value) -> bool
+pub(crate) fn may_be_text(name: &str, body: &Value) -> bool
     ensures { result ≡ may_be_text name.now (view body.now) }
 {
     match body.get(name) {
@@ -155,7 +155,7 @@ fn may_be_text(name: &str, body: &Value) -> bool
 }
 
 /// Whether the value is an object whose members that count are texts.
-fn is_attribute(value: &Value) -> bool
+pub(crate) fn is_attribute(value: &Value) -> bool
     ensures { result ≡ is_attribute (view value.now) }
 {
     value.is_object()
@@ -199,7 +199,7 @@ fn is_of_kind(kind: Kind, value: &Value) -> bool
 }
 
 /// Whether a member is of a kind, where it is there.
-fn has_kind(body: &Value, name: &str, kind: Kind) -> bool
+pub(crate) fn has_kind(body: &Value, name: &str, kind: Kind) -> bool
     ensures { result ≡ has_kind name.now kind (view body.now) }
 {
     match body.get(name) {

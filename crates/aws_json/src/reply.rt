@@ -12,7 +12,7 @@ use crate::batch::BatchAnswers;
 use crate::batch_reply::{batch_reply, sent_reply};
 use crate::listed::Listed;
 use crate::message_reply::messages_reply;
-use crate::queue_reply::attributes_reply;
+use crate::queue_reply::{attributes_reply, decimal};
 use crate::request::{AttributeNames, ReceiveNames};
 use crate::selection::Patterns;
 use message::{Content, Fault, MessageId, QueueName};
@@ -68,52 +68,60 @@ pub enum ReplyShape {
     Nothing,
 }
 
-/// The URL of a queue, always with this host, port and account.
-fn queue_url(alloc: Global, name: &QueueName) -> Result<String, Fault>
-    ensures { Meets (result_map (λ s. string_bytes s) result) (Ok (queue_url name.now)) }
+/// The URL of a queue, always with this host and account.
+fn queue_url(alloc: Global, port: u16, name: &QueueName) -> Result<String, Fault>
+    ensures { Meets (result_map (λ s. string_bytes s) result) (Ok (queue_url port name.now)) }
 {
-    let mut url = String::from_str(alloc, "http://localhost:9324/000000000000/")?;
+    let digits = decimal(alloc, u64::from(port))?;
+    let mut url = String::from_str(alloc, "http://localhost:")?;
+    url.push_str(digits.as_str())?;
+    url.push_str("/000000000000/")?;
     url.push_str(name.as_text())?;
     Ok(url)
 }
 
 /// The URLs of queues, under a key.
-fn urls_reply(alloc: Global, key: &str, names: &[QueueName]) -> Result<Value, Fault>
-    ensures { Meets (result_map view result) (Ok (urls_data key.now names.now)) }
+fn urls_reply(alloc: Global, port: u16, key: &str, names: &[QueueName]) -> Result<Value, Fault>
+    ensures { Meets (result_map view result) (Ok (urls_data port key.now names.now)) }
 {
-    let urls = url_values(alloc, names)?;
+    let urls = url_values(alloc, port, names)?;
     Ok(json!(in alloc; {key: urls})?)
 }
 
 /// The URLs of queues, one after another.
-fn url_values(alloc: Global, names: &[QueueName]) -> Result<Vec<Value>, Fault>
-    ensures ok { IfOk result (λ urls. items_view urls.items ≡ url_items names.now) }
+fn url_values(alloc: Global, port: u16, names: &[QueueName]) -> Result<Vec<Value>, Fault>
+    ensures ok { IfOk result (λ urls. items_view urls.items ≡ url_items port names.now) }
     ensures errors { IfErr result (λ fault. fault ≡ OutOfMemory) }
 {
     let mut urls = Vec::new(alloc);
     for name in names {
-        urls.push(Value::from(queue_url(alloc, name)?))?;
+        urls.push(Value::from(queue_url(alloc, port, name)?))?;
     }
     Ok(urls)
 }
 
 /// The URL of a queue.
-fn url_reply(alloc: Global, name: &QueueName) -> Result<Value, Fault>
-    ensures { Meets (result_map view result) (Ok (url_data name.now)) }
+fn url_reply(alloc: Global, port: u16, name: &QueueName) -> Result<Value, Fault>
+    ensures { Meets (result_map view result) (Ok (url_data port name.now)) }
 {
-    let url = queue_url(alloc, name)?;
+    let url = queue_url(alloc, port, name)?;
     Ok(json!(in alloc; {"QueueUrl": url})?)
 }
 
 /// What a client is answered, as JSON.
-fn reply_value(alloc: Global, shape: &ReplyShape) -> Result<Value, Fault>
-    ensures { Meets (result_map view result) (Ok (reply_data shape.now)) }
+fn reply_value(alloc: Global, port: u16, shape: &ReplyShape) -> Result<Value, Fault>
+    ensures { Meets (result_map view result) (Ok (reply_data port shape.now)) }
 {
     match shape {
-        ReplyShape::QueueUrl(name) => url_reply(alloc, name),
+        ReplyShape::QueueUrl(name) => url_reply(alloc, port, name),
         ReplyShape::Sent { content, id } => sent_reply(alloc, content, *id),
-        ReplyShape::QueueUrls(names) => urls_reply(alloc, "QueueUrls", names.as_slice()),
-        ReplyShape::SourceQueueUrls(names) => urls_reply(alloc, "queueUrls", names.as_slice()),
+        ReplyShape::QueueUrls(names) => urls_reply(alloc, port, "QueueUrls", names.as_slice()),
+        ReplyShape::SourceQueueUrls(names) => urls_reply(
+            alloc,
+            port,
+            "queueUrls",
+            names.as_slice(),
+        ),
         ReplyShape::Attributes { names, queue, look } => {
             attributes_reply(alloc, names, queue, look)
         }
@@ -128,12 +136,13 @@ fn reply_value(alloc: Global, shape: &ReplyShape) -> Result<Value, Fault>
     }
 }
 
-/// The JSON text of a reply, without blanks. `OutOfMemory` is the only refusal.
-pub fn reply_text(alloc: Global, shape: &ReplyShape) -> Result<String, Fault>
+/// The JSON text of a reply, without blanks. The port is the one at which requests are answered: the URLs of queues have
+/// it. `OutOfMemory` is the only refusal.
+pub fn reply_text(alloc: Global, port: u16, shape: &ReplyShape) -> Result<String, Fault>
     ensures { Meets (result_map (λ s. string_bytes s) result)
-        (Ok (compact_text (reply_data shape.now))) }
+        (Ok (compact_text (reply_data port shape.now))) }
 {
-    let value = reply_value(alloc, shape)?;
+    let value = reply_value(alloc, port, shape)?;
     let text = value.to_string(alloc)?;
     Ok(text)
 }

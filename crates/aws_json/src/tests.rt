@@ -3,6 +3,8 @@
 //! `crates/sqs_replay/cases`. Answers were worked out from docs/PROFILE.md by hand; digests were
 //! computed with Python's `hashlib`.
 
+mod explanation;
+
 use super::*;
 use journal::{Moment, Origin, Ticks};
 use message::{Content, Fault, MessageId, QueueName};
@@ -86,8 +88,12 @@ fn told(alloc: Global, ticks: &mut Ticks, line: &str) -> Result<String, Fault> {
     match line.split_once(' ') {
         Some(("read", request)) => told_request(alloc, &request_of(alloc, request)?),
         Some(("names", body)) => told_queue(alloc, body),
-        Some(_) => reply_text(alloc, &shape_of(alloc, request_of(alloc, line)?, ticks)?),
-        None => reply_text(alloc, &ReplyShape::Batch(BatchAnswers::new(alloc))),
+        Some(_) => reply_text(
+            alloc,
+            9324,
+            &shape_of(alloc, request_of(alloc, line)?, ticks)?,
+        ),
+        None => reply_text(alloc, 9324, &ReplyShape::Batch(BatchAnswers::new(alloc))),
     }
 }
 

@@ -234,9 +234,9 @@ abbrev pub line_served : World → Result Timed Fault → Served (Result Shown F
 line_served w (Ok timed) = timed_served w timed
 line_served w (Err fault) = unchanged w (Err fault)
 
--- the JSON text of what is shown
+-- the JSON text of what is shown; no request comes to a port, so URLs have that of the server where it is told no other
 abbrev pub shown_text : Shown → List ℕ
-shown_text (shown.Reply shape) = compact_text (reply_data shape)
+shown_text (shown.Reply shape) = compact_text (reply_data 9324 shape)
 shown_text (shown.Queue sheet) = sheet_text sheet
 shown_text (shown.Queues sheets) = sheets_text sheets
 shown_text (shown.Rows sheet) = rows_text sheet.rows

@@ -37,33 +37,65 @@ pub use input_line::{InputLine, line_form, read_line};
 use journal::Ticks;
 pub use lines::{LINE_LIMIT, Lines, one_return_is_dropped, pieces_join_to_the_bytes};
 pub use program::Refusal;
-use program::{configuration_in, default_configuration, finish, path_among};
+use program::{Ending, Wanted, arguments_among, configuration_in, default_configuration, finish};
 use queue_config::Config;
 pub use run::run_lines;
 pub use shown::Shown;
+use startup::VERSION;
 use std::process::ExitCode;
 use std::{env, fs, io};
 pub use whole::replay;
 
+/// What `--help` tells.
+const HELP: &str = "\
+Answers requests that carry their own times, a line each, from standard input to standard output.
+
+usage: sqs_replay [config.toml]
+       sqs_replay --help | --version
+
+config.toml   the configuration: limits, queues and alarms; the usual limits and no queue where it is not given
+
+A line is a time in milliseconds, an action and the body of the request, as
+1000 CreateQueue {\"QueueName\":\"jobs\"}
+";
+
 /// Runs the replay on standard input and output, with the configuration of the file that its one
 /// argument names, or that of an empty text. Status 0, 1 for a fault, and 2 for wrong arguments.
 fn main(rt: HostRuntime) -> ExitCode {
-    finish(&rt, replay_input(&rt))
+    finish(&rt, start(&rt))
+}
+
+/// Does as the arguments say.
+fn start(rt: &HostRuntime) -> Result<(), Ending> {
+    match arguments_among(env::args(rt))? {
+        Wanted::Run(path) => replay_input(rt, path),
+        Wanted::Help => {
+            let _ = rt.print(HELP);
+            Ok(())
+        }
+        Wanted::Version => {
+            let _ = rt.println(format_args!("sqs_replay {VERSION}"));
+            Ok(())
+        }
+    }
 }
 
 /// Runs the replay on standard input and output.
-fn replay_input(rt: &HostRuntime) -> Result<(), Refusal> {
-    let config = configuration(rt)?;
+fn replay_input(rt: &HostRuntime, path: Option<String>) -> Result<(), Ending> {
+    let config = configuration(rt, path)?;
     let mut ticks = Ticks::new(rt);
     let mut inlet = Device::new(rt.reader());
     let mut outlet = Device::new(io::writer(rt));
-    replay(rt.alloc(), config, &mut inlet, &mut outlet, &mut ticks).map_err(Refusal::Replay)
+    match replay(rt.alloc(), config, &mut inlet, &mut outlet, &mut ticks) {
+        Ok(()) => Ok(()),
+        Err(fault) => Err(Ending::from(Refusal::Replay(fault))),
+    }
 }
 
-/// The configuration of the file that the one argument names, or that of an empty text.
-fn configuration(rt: &HostRuntime) -> Result<Config, Refusal> {
-    match path_among(env::args(rt))? {
-        Some(path) => configuration_in(rt.alloc(), fs::read(rt, path.as_str())),
-        None => default_configuration(rt.alloc()),
+/// The configuration of the file of a path, or that of an empty text.
+fn configuration(rt: &HostRuntime, path: Option<String>) -> Result<Config, Ending> {
+    match path {
+        Some(path) => configuration_in(rt.alloc(), path.as_str(), fs::read(rt, path.as_str())),
+        None => Ok(default_configuration(rt.alloc())?),
     }
 }

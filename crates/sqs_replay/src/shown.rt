@@ -11,6 +11,9 @@ use message::Fault;
 use statistics_api::{alarms_text, rows_text, sheet_text, sheets_text};
 use std::alloc::Global;
 
+/// The port in the URLs of queues: that of the server where it is told no other.
+const PORT: u16 = 9324;
+
 /// What a line is answered.
 #[derive(Debug, Drop)]
 pub enum Shown {
@@ -31,7 +34,7 @@ pub(crate) fn shown_text(alloc: Global, shown: &Shown) -> Result<String, Fault>
     ensures { Meets (result_map (λ s. string_bytes s) result) (Ok (shown_text shown.now)) }
 {
     match shown {
-        Shown::Reply(shape) => reply_text(alloc, shape),
+        Shown::Reply(shape) => reply_text(alloc, PORT, shape),
         Shown::Queue(sheet) => sheet_text(alloc, sheet),
         Shown::Queues(sheets) => sheets_text(alloc, sheets.as_slice()),
         Shown::Rows(sheet) => rows_text(alloc, sheet.rows.as_slice()),

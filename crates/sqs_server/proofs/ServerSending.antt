@@ -50,16 +50,19 @@ use Rattle.tokio.proofs.net.stream.TcpStream.TheSendSync as tcp
 use Rattle.tokio.proofs.sync.semaphore.Semaphore.TheSendSync as semaphore
 use Rattle.tokio.specs.contracts.net.stream.TcpStream as stream
 use Rattle.sqs_server.proofs.arriving.Arriving.TheSendSync as arriving
+use Rattle.sqs_server.proofs.arriving.Asked.TheSendSync as asked
 use Rattle.sqs_server.proofs.door.Guest.TheSendSync as guest
 use Rattle.sqs_server.proofs.notices.Notices.TheSendSync as notices
 use Rattle.sqs_server.proofs.plan.Step.TheSendSync as step
 use Rattle.sqs_server.proofs.queues.Made.TheSendSync as made
 use Rattle.sqs_server.proofs.queues.Order.TheSendSync as order
+use Rattle.sqs_server.proofs.register.Register.TheSendSync as register
 use Rattle.sqs_server.proofs.reply.Sent.TheSendSync as sent
 use Rattle.sqs_server.proofs.serving.Port.TheSendSync as port
 use Rattle.sqs_server.proofs.stage.Creation.TheSendSync as creation
 use Rattle.sqs_server.proofs.stage.Purpose.TheSendSync as purpose
 use Rattle.sqs_server.specs.contracts.answering.Answering as answering
+use Rattle.sqs_server.specs.contracts.arriving.Asked as asked_type
 use Rattle.sqs_server.specs.contracts.door.Caller as caller
 use Rattle.sqs_server.specs.contracts.door.Exhibition as exhibition
 use Rattle.sqs_server.specs.contracts.door.Guest as guest_type
@@ -158,7 +161,7 @@ pub front_send : (T : RattleType) (w : wait.Ghosts T.Denot) → IsSend T → IsS
 front_send T w s =
     let one = directory_send T w s in
     let both = directory_sync T w s in
-    search (order.the_send, sendable, crosses) depth 40 fits 100000
+    search (order.the_send, register.the_send, register.the_sync, sendable, crosses) depth 40 fits 100000
 
 pub answering_send : (T : RattleType) (w : wait.Ghosts T.Denot) → IsSend T → IsSend (answering.the_row T w)
 answering_send T w s =
@@ -170,7 +173,7 @@ answering_send T w s =
     (
     struct_send
     (parts.shape (answering.the_type T w))
-    (global.the_field_send, (option.the_field_send (front.the_row T w) (front_send T w s), (stage_field_send T w s, tt)))
+    (global.the_field_send, (option.the_field_send (front.the_row T w) (front_send T w s), (stage_field_send T w s, (option.the_field_send asked_type.the_row asked.the_send, tt))))
     )
 
 -- ---- connections
@@ -202,7 +205,14 @@ statistics_field_send : (T : RattleType) (w : wait.Ghosts T.Denot) → IsSend T 
 statistics_field_send T w s =
     let one = directory_send T w s in
     let both = directory_sync T w s in
-    struct_send (parts.shape (statistics.the_type T w)) (s, (global.the_field_send, (search (sendable, crosses) depth 40 fits 100000, tt)))
+    struct_send
+    (parts.shape (statistics.the_type T w)) (
+      s,
+      (
+        global.the_field_send,
+        (search (sendable, crosses) depth 40 fits 100000, (search (register.the_send, register.the_sync, sendable, crosses) depth 40 fits 100000, tt)),
+      ),
+    )
 
 statistics_send : (T : RattleType) (w : wait.Ghosts T.Denot) → IsSend T → IsSend (statistics.the_row T w)
 statistics_send T w s = recorded_send (statistics.the_field T w).row _ _ (statistics.the_type T w).to_one (statistics_field_send T w s)

@@ -1,5 +1,5 @@
 -- What the future of a response gives: a request is judged by its head, its stages follow one another, and what the last one ends with is sent.
-use Rattle.std.specs.Prelude.{◌≡◌, ◌⊎◌, ⊤, ℕ, List, [], Bool, true, false, Option, Some, None, Result, Ok, Err}
+use Rattle.std.specs.Prelude.{◌≡◌, ◌⊎◌, ⊤, ℕ, is_some, codes, List, [], Bool, Option, Some, None, Result, Ok, Err}
 use Rattle.http.specs.Request as request
 use Rattle.http.specs.Response.{body_of, head_of}
 use Rattle.http.specs.StatusCode.{IsStatusCode}
@@ -9,6 +9,7 @@ use Rattle.http.specs.declared.response.Response.{Response}
 use Rattle.http_body.specs.SizeHint.{exact, lower}
 use Rattle.http_body.specs.declared.size_hint.SizeHint.{SizeHint}
 use Rattle.http_body_util.specs.Collected.{IsCollectOf}
+use Rattle.http_header.specs.HeaderMap.{get}
 use Rattle.http_body_util.specs.declared.full.Full.{Full}
 use Rattle.hyper.specs.Incoming.{size_left}
 use Rattle.hyper.specs.declared.body.incoming.Incoming.{Incoming}
@@ -41,6 +42,10 @@ abbrev pub Responds : Result Sent Error → Result (Response (Full (List ℕ))) 
 Responds (Ok sent) given = (response : Response (Full (List ℕ))) × (given ≡ Ok response) × Holds sent response
 Responds (Err error) given = given ≡ Err error
 
+-- whether a head tells an origin
+abbrev pub has_origin : Parts → Bool
+has_origin head = is_some (get head.headers (codes "origin"))
+
 -- R is the runtime that the server waits by
 module _ {R : Type 0} where
   -- ---- how a request begins
@@ -56,32 +61,40 @@ module _ {R : Type 0} where
   abbrev pub IsFirst : Request (Incoming TcpStream) → Stage R → Type 0
   IsFirst asked stage =
       (hint : SizeHint) × (exact hint ≡ size_left (request.body_of asked).kind)
-      × Judged (request.head_of asked) (request.body_of asked) (denial_of (request.head_of asked).method (lower hint)) stage
+      × Judged (request.head_of asked) (request.body_of asked) (denial_of (has_origin (request.head_of asked)) (request.head_of asked).method (lower hint)) stage
 
-  -- ---- how it ends
-
-  -- a request that is at a stage may end so: turn by turn
-  pub data MayEnd : Stage R → Result Sent Error → Type 0 where
-    ends : {stage : Stage R} → {ended : Result Sent Error} → Turns stage (Goes (Ends ended)) → MayEnd stage ended
-    goes : {stage next : Stage R} → {ended : Result Sent Error} → Turns stage (Goes (On next)) → MayEnd next ended → MayEnd stage ended
-    waits : {stage left : Stage R} → {ended : Result Sent Error} → Turns stage (Waits left) → MayEnd left ended → MayEnd stage ended
+  -- ---- where it waits or ends
 
   -- a fact of where a request waits
   abbrev pub OnHeld : Halt R → Type 0 → Type 0
   OnHeld (halts.Waits stage) P = P
   OnHeld (halts.Ends ended) P = ⊤
 
-  -- a request that is at a stage may end as it has ended; or what it waits at may end only as it may
-  abbrev pub Halts : Stage R → Halt R → Type 0
-  Halts stage (halts.Waits left) = (ended : Result Sent Error) → MayEnd left ended → MayEnd stage ended
-  Halts stage (halts.Ends ended) = MayEnd stage ended
-
   -- where there was no memory to begin, what is known by the head is sent, and else that refusal
   abbrev pub without_memory : Stage R → Sent
   without_memory (stages.Sending sent) = sent
   without_memory stage = refused OutOfMemory
 
-  -- a request that is at a stage may get this, where there was memory to begin, and where there was none
-  abbrev pub Gives : Bool → Stage R → Result (Response (Full (List ℕ))) Error → Type 0
-  Gives true stage given = (ended : Result Sent Error) × MayEnd stage ended × Responds ended given
-  Gives false stage given = Responds (Ok (without_memory stage)) given
+-- the same, of a server that answers requests at a port
+module _ {R : Type 0} (port : ℕ) where
+  -- ---- how it ends
+
+  -- a request that is at a stage may end so: turn by turn
+  pub data MayEnd : Stage R → Result Sent Error → Type 0 where
+    ends : {stage : Stage R} → {ended : Result Sent Error} → Turns port stage (Goes (Ends ended)) → MayEnd stage ended
+    goes : {stage next : Stage R} → {ended : Result Sent Error} → Turns port stage (Goes (On next)) → MayEnd next ended → MayEnd stage ended
+    waits : {stage left : Stage R} → {ended : Result Sent Error} → Turns port stage (Waits left) → MayEnd left ended → MayEnd stage ended
+
+  -- a request that is at a stage may end as it has ended; or what it waits at may end only as it may
+  abbrev pub Halts : Stage R → Halt R → Type 0
+  Halts stage (halts.Waits left) = (ended : Result Sent Error) → MayEnd left ended → MayEnd stage ended
+  Halts stage (halts.Ends ended) = MayEnd stage ended
+
+  -- a request that is at a stage may get this, where there was memory to begin
+  abbrev pub Gives : Stage R → Result (Response (Full (List ℕ))) Error → Type 0
+  Gives stage given = (ended : Result Sent Error) × MayEnd stage ended × Responds ended given
+
+-- a request that is at a stage may get this, by the port of the front that answers it, or where there was no memory for one
+abbrev pub IsGiven : {R : Type 0} → Option ℕ → Stage R → Result (Response (Full (List ℕ))) Error → Type 0
+IsGiven (Some port) stage given = Gives port stage given
+IsGiven None stage given = Responds (Ok (without_memory stage)) given

@@ -9,11 +9,12 @@ use Rattle.aws_json.specs.Reply.{reply_data}
 use Rattle.aws_json.specs.FaultText.{fault_body, fault_status}
 use Rattle.aws_json.specs.declared.reply.ReplyShape.{ReplyShape}
 use Rattle.sqs_server.specs.declared.head.Denial.{Denial}
-use Rattle.sqs_server.specs.declared.head.Denial.TheVariants.{MethodNotAllowed, BodyTooLarge}
+use Rattle.sqs_server.specs.declared.head.Denial.TheVariants.{FromPage, MethodNotAllowed, BodyTooLarge}
 use Rattle.sqs_server.specs.declared.reply.Sent.{Sent}
 
 -- where a request is not looked at
 abbrev pub denied : Denial → Sent
+denied FromPage = record { status = 403; body = codes "{\"message\":\"requests of web pages are not answered\"}" }
 denied MethodNotAllowed = record { status = 405; body = codes "{\"message\":\"method not allowed\"}" }
 denied BodyTooLarge = record { status = 413; body = codes "{\"message\":\"body too large\"}" }
 
@@ -25,10 +26,10 @@ busy = record { status = 500; body = codes "{\"__type\":\"com.amazonaws.sqs#Serv
 abbrev pub refused : Fault → Sent
 refused fault = record { status = fault_status fault; body = fault_body fault }
 
--- a reply, or a refusal
-abbrev pub sent_for : Result ReplyShape Fault → Sent
-sent_for (Ok shape) = record { status = 200; body = compact_text (reply_data shape) }
-sent_for (Err fault) = refused fault
+-- a reply, or a refusal, of a server that answers requests at a port
+abbrev pub sent_for : ℕ → Result ReplyShape Fault → Sent
+sent_for port (Ok shape) = record { status = 200; body = compact_text (reply_data port shape) }
+sent_for port (Err fault) = refused fault
 
 -- the headers of every reply (AWS JSON 1.0)
 abbrev pub reply_headers : Entries FieldValue

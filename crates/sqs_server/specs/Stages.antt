@@ -120,12 +120,6 @@ module _ {R : Type 0} where
   abbrev pub refuses : Fault → Next R
   refuses fault = Ends (Ok (refused fault))
 
-  -- an answer; a reply that there is no memory for is told as that refusal
-  abbrev pub Tells : Result ReplyShape Fault → Next R → Type 0
-  Tells answer next =
-      (sent : Sent) × (next ≡ Ends (Ok sent)) × ((sent ≡ sent_for answer) ⊎ (sent ≡ refused OutOfMemory))
-      × IfErr answer (λ fault. sent ≡ refused fault)
-
   -- ---- queues
 
   -- a queue was found that was opened under a name, and this holds of it; or the request is turned away
@@ -138,6 +132,37 @@ module _ {R : Type 0} where
   abbrev pub Targets : List ℕ → RequestedAttributes → (ℕ → Type 0) → Next R → Type 0
   Targets own wish P next =
       (found : Result ℕ Fault) × IsTarget own (requested_target wish) found × IfOk found P × IfErr found (λ fault. next ≡ refuses fault)
+
+  -- ---- a queue is asked or ordered
+
+  -- A command is sent to a queue at a moment, with its desk and its pass, and waits so many seconds at most for its answer. A mail that could not be put
+  -- has left the pass where it was.
+  abbrev pub Asks : Queue R → ℕ → Command → ℕ → Asking → Type 0
+  Asks queue at command seconds asking =
+      IfSent asking (λ asked source. asked ≡ question (arc_value queue.desk) queue.pass at command (wait_limit at seconds))
+      × IfUnsent asking (λ kept. kept ≡ queue.pass) × (asking ≢ Asking.Over)
+
+  -- One is ordered, and what became of it is awaited where it is told. The client may be turned away
+  abbrev pub Ordered : Creation → ℕ → Next R → Type 0
+  Ordered creation target next =
+      ((order : Order) × IsOrder creation target order
+      × ((made : Receiver Made) × (canceled_source order.made ≡ completed_source made) × (next ≡ On (stages.Making creation made))))
+      ⊎ ((next ≡ refuses OutOfMemory) ⊎ (next ≡ Ends (Ok busy)))
+
+  -- ---- turns
+
+  -- a stage goes on, and this holds of it; or it waits, and this holds of the stage that is left
+  abbrev pub Leads : (Next R → Type 0) → (Stage R → Type 0) → Turn R → Type 0
+  Leads goes waits (Goes next) = goes next
+  Leads goes waits (Waits stage) = waits stage
+
+-- the same, of a server that answers requests at a port
+module _ {R : Type 0} (port : ℕ) where
+  -- an answer; a reply that there is no memory for is told as that refusal
+  abbrev pub Tells : Result ReplyShape Fault → Next R → Type 0
+  Tells answer next =
+      (sent : Sent) × (next ≡ Ends (Ok sent)) × ((sent ≡ sent_for port answer) ⊎ (sent ≡ refused OutOfMemory))
+      × IfErr answer (λ fault. sent ≡ refused fault)
 
   -- ---- a command was answered
 
@@ -182,14 +207,7 @@ module _ {R : Type 0} where
 
   -- ---- a command is asked
 
-  -- A command is sent to a queue at a moment, with its desk and its pass, and waits so many seconds at most for its answer. A mail that could not be put
-  -- has left the pass where it was.
-  abbrev pub Asks : Queue R → ℕ → Command → ℕ → Asking → Type 0
-  Asks queue at command seconds asking =
-      IfSent asking (λ asked source. asked ≡ question (arc_value queue.desk) queue.pass at command (wait_limit at seconds))
-      × IfUnsent asking (λ kept. kept ≡ queue.pass) × (asking ≢ Asking.Over)
-
-  -- The same, for a purpose. Where there is no memory for the mail, that is what became of the command.
+  -- A command is sent for a purpose. Where there is no memory for the mail, that is what became of the command.
   abbrev pub Sends : Queue R → ℕ → Command → ℕ → Purpose → Next R → Type 0
   Sends queue at command seconds purpose next =
       ((exchange : Exchange R) × (next ≡ On (stages.Asking exchange)) × (exchange.uid ≡ queue.uid) × (exchange.at ≡ at)
@@ -253,13 +271,6 @@ module _ {R : Type 0} where
 
   -- ---- a queue is to be there
 
-  -- One is ordered, and what became of it is awaited where it is told. The client may be turned away
-  abbrev pub Ordered : Creation → ℕ → Next R → Type 0
-  Ordered creation target next =
-      ((order : Order) × IsOrder creation target order
-      × ((made : Receiver Made) × (canceled_source order.made ≡ completed_source made) × (next ≡ On (stages.Making creation made))))
-      ⊎ ((next ≡ refuses OutOfMemory) ⊎ (next ≡ Ends (Ok busy)))
-
   -- one was ordered: it is there, or one of its name came to be there meanwhile, which is looked for, or it is refused
   abbrev pub Makes : {T : Type 0} → Creation → Result T Fault → Next R → Type 0
   Makes creation (Ok made) next = Tells (Ok (shapes.QueueUrl creation.name)) next
@@ -274,11 +285,6 @@ module _ {R : Type 0} where
   Creates creation (Err back) = back ≡ creation
 
   -- ---- all stages
-
-  -- a stage goes on, and this holds of it; or it waits, and this holds of the stage that is left
-  abbrev pub Leads : (Next R → Type 0) → (Stage R → Type 0) → Turn R → Type 0
-  Leads goes waits (Goes next) = goes next
-  Leads goes waits (Waits stage) = waits stage
 
   -- behind a head it has come, or it did not come whole
   abbrev pub IsCollected : Parts → Result Collected (LimitedError Error) → Next R → Type 0

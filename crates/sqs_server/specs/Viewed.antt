@@ -1,25 +1,28 @@
 -- What is sent at the port of the statistics (this project's own).
-use Rattle.std.specs.Prelude.{◌≡◌, ◌⊎◌, ℕ, nat_lt, ◌&&◌, MatchBool, List, [], codes}
+use Rattle.std.specs.Prelude.{◌≡◌, ◌⊎◌, ℕ, nat_lt, ◌&&◌, MatchBool, Option, option_map, List, [], codes}
 use Rattle.std.specs.Str.{bytes_eq}
 use Rattle.board.specs.Sheet.{Statistics}
 use Rattle.http.specs.Request as request
 use Rattle.http.specs.Response.{body_of, head_of}
 use Rattle.http.specs.StatusCode.{IsStatusCode}
+use Rattle.http.specs.declared.request.Parts.{Parts}
 use Rattle.http.specs.declared.request.Request.{Request}
 use Rattle.http.specs.declared.response.Response.{Response}
 use Rattle.http_body.specs.SizeHint.{exact, lower}
 use Rattle.http_body.specs.declared.size_hint.SizeHint.{SizeHint}
 use Rattle.http_body_util.specs.declared.full.Full.{Full}
 use Rattle.http_header.specs.FieldValue.{FieldValue, plain_value}
-use Rattle.http_header.specs.HeaderMap.{Entries, insert}
+use Rattle.http_header.specs.HeaderMap.{Entries, get, insert}
 use Rattle.http_uri.specs.Uri.{uri_path}
 use Rattle.hyper.specs.Incoming.{size_left}
 use Rattle.hyper.specs.declared.body.incoming.Incoming.{Incoming}
 use Rattle.statistics_api.specs.Answer.{out_of_memory}
 use Rattle.statistics_api.specs.Asked.{TellsOfQueues}
+use Rattle.statistics_api.specs.Metrics.{served_text}
 use Rattle.statistics_api.specs.Response.{Told, as_json, response_of}
+use Rattle.statistics_api.specs.declared.served.Served.{Served}
 use Rattle.tokio.specs.declared.net.stream.TcpStream.{TcpStream}
-use Rattle.sqs_server.specs.Head.{body_limit}
+use Rattle.sqs_server.specs.Head.{body_limit, is_foreign}
 use Rattle.sqs_server.specs.Sent.{HoldsBody}
 
 -- want of memory
@@ -40,18 +43,31 @@ pub record Sends (told : Told) (response : Response (Full (List ℕ))) : Type 0 
   pub body : HoldsBody (body_of response) told.2
   pub headers : ((head_of response).headers ≡ typed_headers told.1) ⊎ ((head_of response).headers ≡ [])
 
--- A method and a path are answered by the statistics of some queues. There may be no memory for an answer that tells of queues, and for no other.
+-- A method and a path are answered by the statistics of some queues and by what a server tells of itself. There may be no memory for an answer that tells of queues, and for no other.
 abbrev pub IsTold : List ℕ → List ℕ → Told → Type 0
-IsTold method path told = ((sheets : List Statistics) × (told ≡ response_of method path sheets)) ⊎ ((told ≡ no_memory) × TellsOfQueues method path)
+IsTold method path told =
+    ((sheets : List Statistics) × (served : Served) × (told ≡ response_of method path sheets (served_text served))) ⊎ ((told ≡ no_memory) × TellsOfQueues method path)
 
 -- the same, where a body of this least size is not too large for the one method whose bodies are looked at
 abbrev pub IsJudgedBySize : List ℕ → List ℕ → ℕ → Told → Type 0
 IsJudgedBySize method path size told =
     MatchBool (bytes_eq method (codes "GET") && nat_lt body_limit size) (told ≡ body_too_large) (IsTold method path told)
 
--- a request is judged by its method, by the least size that its body can have, which is the announced one where there is one, and by its path
+-- where a client names another host than this machine
+abbrev pub foreign_host : Told
+foreign_host = as_json (403, codes "{\"message\":\"this host is not served\"}")
+
+-- the same, behind the host that the client names
+abbrev pub IsJudged : Option (List ℕ) → List ℕ → List ℕ → ℕ → Told → Type 0
+IsJudged host method path size told = MatchBool (is_foreign host) (told ≡ foreign_host) (IsJudgedBySize method path size told)
+
+-- the host that a head names
+abbrev pub host_in : Parts → Option (List ℕ)
+host_in head = option_map (λ value. value.bytes) (get head.headers (codes "host"))
+
+-- a request is judged by the host that it names, by its method, by the least size that its body can have, which is the announced one where there is one, and by its path
 abbrev pub IsAnswered : Request (Incoming TcpStream) → Response (Full (List ℕ)) → Type 0
 IsAnswered asked response =
     (hint : SizeHint) × (exact hint ≡ size_left (request.body_of asked).kind) × (told : Told)
-    × IsJudgedBySize (request.head_of asked).method (uri_path (request.head_of asked).uri) (lower hint) told
+    × IsJudged (host_in (request.head_of asked)) (request.head_of asked).method (uri_path (request.head_of asked).uri) (lower hint) told
     × Sends told response

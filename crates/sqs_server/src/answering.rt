@@ -1,11 +1,11 @@
 //! The service of a connection: each request gets a future of its response.
 
-ghost use Rattle.std.specs.Prelude.{◌≡◌, Ok, None, is_some};
+ghost use Rattle.std.specs.Prelude.{◌≡◌, Ok, None, IfSome, option_map};
 ghost use Rattle.sqs_server.specs.Head as head_spec;
 ghost use Rattle.sqs_server.specs.Responses as response;
-ghost use Rattle.sqs_server.specs.Responses.{Gives, IsFirst, Judged, Responds};
+ghost use Rattle.sqs_server.specs.Responses.{IsFirst, IsGiven, Judged, Responds};
 
-use crate::arriving::Arriving;
+use crate::arriving::{Arriving, Asked};
 use crate::front::Front;
 use crate::head::{BODY_LIMIT, denial_of};
 use crate::reply::{Sent, denied, refused, response_of};
@@ -32,6 +32,8 @@ pub struct Answering<R: Wait + Drop> {
     /// `None` where there was no memory to begin.
     front: Option<Front<R>>,
     stage: Stage<R>,
+    /// The request, once its body has come.
+    asked: Option<Asked>,
 }
 
 /// What is sent where there was no memory to begin. What is known by the head needs none.
@@ -65,11 +67,21 @@ fn collecting<R: Wait + Drop>(alloc: Global, head: Parts, body: Incoming) -> Sta
     Stage::Collecting(Arriving { head, body })
 }
 
+/// Whether a head tells an origin.
+fn has_origin(head: &Parts) -> bool
+    ensures { result ≡ response.has_origin head.now }
+{
+    match head.headers.get("origin") {
+        Some(_) => true,
+        None => false,
+    }
+}
+
 /// The stage that a request begins with, by its head and by the least size that its body can have.
 fn judged<R: Wait + Drop>(alloc: Global, head: Parts, body: Incoming, size: u64) -> Stage<R>
-    ensures { Judged head body (head_spec.denial_of head.method size) result }
+    ensures { Judged head body (head_spec.denial_of (response.has_origin head) head.method size) result }
 {
-    match denial_of(head.method.as_str(), size) {
+    match denial_of(has_origin(&head), head.method.as_str(), size) {
         Some(denial) => Stage::Sending(denied(denial)),
         None => collecting(alloc, head, body),
     }
@@ -87,19 +99,22 @@ fn first_stage<R: Wait + Drop>(alloc: Global, request: Request<Incoming>) -> Sta
 impl<R: Wait + Clock + Drop> Future for Answering<R> {
     type Output = Result<Response<Full<Bytes>>, hyper::Error>;
 
-    ghost gives = { λ answering given. Gives (is_some answering.front) answering.stage given };
+    ghost gives = { λ answering given. IsGiven (option_map (λ front. front.port) answering.front) answering.stage given };
 
     fn poll(&mut self, cx: &mut Context<'_>) -> Poll<Result<Response<Full<Bytes>>, hyper::Error>> {
         let stage = mem::replace(&mut self.stage, Stage::Over);
         let Some(front) = &self.front else {
             return Poll::Ready(respond(self.alloc, Ok(without_memory(stage))));
         };
-        match front.run(cx, stage) {
+        match front.run(cx, stage, &mut self.asked) {
             Halt::Waits(stage) => {
                 self.stage = stage;
                 Poll::Pending
             }
-            Halt::Ends(ended) => Poll::Ready(respond(self.alloc, ended)),
+            Halt::Ends(ended) => {
+                front.note(self.asked.as_ref(), &ended);
+                Poll::Ready(respond(self.alloc, ended))
+            }
         }
     }
 }
@@ -111,13 +126,14 @@ impl<R: Wait + Clock + Copy + Drop> Service<Request<Incoming>> for Front<R> {
 
     type Future = Answering<R>;
 
-    ghost calls = { λ _ request answering. IsFirst request answering.stage };
+    ghost calls = { λ front request answering. IsFirst request answering.stage × IfSome answering.front (λ own. own.port ≡ front.port) };
 
     fn call(&self, request: Request<Incoming>) -> Answering<R> {
         Answering {
             alloc: self.alloc,
             front: self.again().ok(),
             stage: first_stage(self.alloc, request),
+            asked: None,
         }
     }
 }

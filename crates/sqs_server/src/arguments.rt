@@ -5,13 +5,24 @@ ghost use Rattle.std.specs.IoError.{error_kind};
 ghost use Rattle.std.specs.Process.{exit_status};
 ghost use Rattle.std.specs.Str.{is_utf8};
 ghost use Rattle.std.specs.Vec.Iter.{into_iter_items};
+ghost use Rattle.std.specs.Result.{result_map_both};
 ghost use Rattle.queue_config.specs.ConfigText.{configuration_of_bytes};
-ghost use Rattle.sqs_server.specs.Program.{arguments_among, count_of, refusal_of_arguments, refusal_of_file, IsConfigured, message_of, status_of};
+ghost use Rattle.sqs_server.specs.Program.{arguments_among, count_of, environment_among, level_among, port_among, port_of, refusal_of_arguments, refusal_of_file, refused_by, IsConfigured, message_of, status_of, variable_name, wanted_of};
 
+use config_report::report;
 use queue_config::{Config, ConfigFault, config_from_bytes, decimal_number};
+use request_log::Level;
+use startup::{ProgramOption, option_of};
 use std::alloc::Global;
+use std::env::VarError;
 use std::process::ExitCode;
 use std::{env, io};
+
+/// The port for requests, where no other is named.
+const PORT: u16 = 9324;
+
+/// The port for statistics, where no other is named.
+const STATISTICS_PORT: u16 = 9325;
 
 /// Why the program does not serve.
 #[derive(Clone, Copy, Debug, PartialEq, Eq)]
@@ -26,9 +37,46 @@ pub enum Refusal {
     OutOfMemory,
     /// The port cannot be opened, or its connections cannot be waited for.
     Listen,
+    /// A variable of the environment has a value that it cannot have.
+    Variable(Variable),
+}
+
+/// A variable of the environment.
+#[derive(Clone, Copy, Debug, PartialEq, Eq)]
+pub enum Variable {
+    /// The port for requests.
+    Requests,
+    /// The port for statistics.
+    Statistics,
+    /// Which requests are told.
+    Log,
+}
+
+impl Variable {
+    /// Its name.
+    pub(crate) fn name(self) -> &'static str
+        ensures { result.now ≡ variable_name self }
+    {
+        match self {
+            Variable::Requests => "JUTKARIQ_PORT",
+            Variable::Statistics => "JUTKARIQ_STATISTICS_PORT",
+            Variable::Log => "JUTKARIQ_LOG",
+        }
+    }
 }
 
 /// What the program is asked for.
+#[derive(Debug, Drop)]
+pub enum Wanted {
+    /// To serve.
+    Serve(Arguments),
+    /// To say what it is for and how it is called.
+    Help,
+    /// To say its version.
+    Version,
+}
+
+/// What it is to serve.
 #[derive(Debug, Drop)]
 pub struct Arguments {
     /// The path of the configuration.
@@ -57,8 +105,20 @@ fn count_of(text: &str) -> Option<u64>
     }
 }
 
+/// What is asked for by a first argument, which is this option if it is one, and the number of connections.
+fn wanted_of(arguments: Arguments, option: Option<ProgramOption>) -> Result<Wanted, Refusal>
+    ensures { result ≡ wanted_of arguments option }
+{
+    match option {
+        None => Ok(Wanted::Serve(arguments)),
+        Some(ProgramOption::Help) if arguments.connections.is_none() => Ok(Wanted::Help),
+        Some(ProgramOption::Version) if arguments.connections.is_none() => Ok(Wanted::Version),
+        Some(_) => Err(Refusal::Usage),
+    }
+}
+
 /// What the arguments ask for, the first of which is the program's own name.
-pub(crate) fn arguments_among(arguments: io::Result<env::Args>) -> Result<Arguments, Refusal>
+pub(crate) fn arguments_among(arguments: io::Result<env::Args>) -> Result<Wanted, Refusal>
     ensures given { IfOk arguments (λ given. result ≡ arguments_among (λ s. string_bytes s) (λ path count. record { path = path; connections = count }) (into_iter_items given)) }
     ensures unread { IfErr arguments (λ error. result ≡ Err (refusal_of_arguments (error_kind error))) }
 {
@@ -74,10 +134,84 @@ pub(crate) fn arguments_among(arguments: io::Result<env::Args>) -> Result<Argume
         Some(text) => Some(count_of(text.as_str()).ok_or(Refusal::Usage)?),
         None => None,
     };
+    let option = option_of(path.as_str());
     match arguments.next() {
-        None => Ok(Arguments { path, connections }),
+        None => wanted_of(Arguments { path, connections }, option),
         Some(_) => Err(Refusal::Usage),
     }
+}
+
+/// The port that a text names: 1 to 5 decimal digits, up to 65,535.
+fn port_of(text: &str) -> Option<u16>
+    ensures { result ≡ port_of text.now }
+{
+    u16::try_from(decimal_number(text, 5)?).ok()
+}
+
+/// The port that a variable of the environment names, or the usual one where it is not set.
+fn port_among(
+    variable: Variable,
+    usual: u16,
+    value: Result<String, VarError>,
+) -> Result<u16, Refusal>
+    ensures { result ≡ port_among variable usual (result_map_both (λ s. string_bytes s) (λ error. error) value) }
+{
+    match value {
+        Ok(text) => port_of(text.as_str()).ok_or(Refusal::Variable(variable)),
+        Err(VarError::NotPresent) => Ok(usual),
+        Err(VarError::NotUnicode) => Err(Refusal::Variable(variable)),
+        Err(VarError::OutOfMemory) => Err(Refusal::OutOfMemory),
+    }
+}
+
+/// Which requests are told: those that the variable names, or those that were refused where it is not set.
+fn level_among(value: Result<String, VarError>) -> Result<Level, Refusal>
+    ensures { result ≡ level_among (result_map_both (λ s. string_bytes s) (λ error. error) value) }
+{
+    match value {
+        Ok(text) => Level::named(text.as_str()).ok_or(Refusal::Variable(Variable::Log)),
+        Err(VarError::NotPresent) => Ok(Level::Refused),
+        Err(VarError::NotUnicode) => Err(Refusal::Variable(Variable::Log)),
+        Err(VarError::OutOfMemory) => Err(Refusal::OutOfMemory),
+    }
+}
+
+/// What the variables of the environment have, each by its name.
+#[derive(Drop)]
+pub struct Values {
+    pub port: Result<String, VarError>,
+    pub statistics_port: Result<String, VarError>,
+    pub log: Result<String, VarError>,
+}
+
+/// What the environment says.
+#[derive(Clone, Copy, Debug, PartialEq, Eq)]
+pub struct Environment {
+    /// The port for requests.
+    pub port: u16,
+    /// The port for statistics.
+    pub statistics_port: u16,
+    /// Which requests are told.
+    pub level: Level,
+}
+
+/// What the variables of the environment say, or the refusal of the first one that has a value it cannot have.
+pub(crate) fn environment_among(values: Values) -> Result<Environment, Refusal>
+    ensures { result ≡ environment_among (result_map_both (λ s. string_bytes s) (λ error. error) values.port)
+        (result_map_both (λ s. string_bytes s) (λ error. error) values.statistics_port) (result_map_both (λ s. string_bytes s) (λ error. error) values.log) }
+{
+    let port = port_among(Variable::Requests, PORT, values.port)?;
+    let statistics_port = port_among(
+        Variable::Statistics,
+        STATISTICS_PORT,
+        values.statistics_port,
+    )?;
+    let level = level_among(values.log)?;
+    Ok(Environment {
+        port,
+        statistics_port,
+        level,
+    })
 }
 
 /// Why a file could not be read: memory ran out, or the system refused.
@@ -90,20 +224,44 @@ fn refusal_of_file(error: &io::Error) -> Refusal
     }
 }
 
-/// The configuration that the bytes of a file are, which may not have been read. Those that are no
-/// UTF-8 are refused without memory.
-pub(crate) fn configuration_in(alloc: Global, bytes: io::Result<Vec<u8>>) -> Result<Config, Refusal>
-    ensures given { IfOk bytes (λ given. IsConfigured result (configuration_of_bytes given.items)) }
-    ensures no_text { IfOk bytes (λ given. is_utf8 given.items ≡ false → result ≡ Err (Refusal.Config ConfigFault.Syntax)) }
-    ensures unread { IfErr bytes (λ error. result ≡ Err (refusal_of_file (error_kind error))) }
+/// What is said of a file that could not be read.
+fn unread(alloc: Global, path: &str, error: &io::Error) -> Ending
+    ensures { result.refusal ≡ refusal_of_file (error_kind error.now) }
+{
+    Ending {
+        refusal: refusal_of_file(error),
+        more: format!(in alloc; "{path}: {error}").ok(),
+    }
+}
+
+/// What is said of a file that is no configuration.
+fn misread(alloc: Global, path: &str, bytes: &[u8], fault: ConfigFault) -> Ending
+    ensures { result.refusal ≡ Refusal.Config fault }
+{
+    Ending {
+        refusal: Refusal::Config(fault),
+        more: report(alloc, path, bytes, fault).ok().flatten(),
+    }
+}
+
+/// The configuration that the bytes of the file of a path are, which may not have been read. Those that are no UTF-8 are
+/// refused without memory.
+pub(crate) fn configuration_in(
+    alloc: Global,
+    path: &str,
+    bytes: io::Result<Vec<u8>>,
+) -> Result<Config, Ending>
+    ensures given { IfOk bytes (λ given. IsConfigured (refused_by result) (configuration_of_bytes given.items)) }
+    ensures no_text { IfOk bytes (λ given. is_utf8 given.items ≡ false → refused_by result ≡ Err (Refusal.Config ConfigFault.Syntax)) }
+    ensures unread { IfErr bytes (λ error. refused_by result ≡ Err (refusal_of_file (error_kind error))) }
 {
     let bytes = match bytes {
         Ok(bytes) => bytes,
-        Err(error) => return Err(refusal_of_file(&error)),
+        Err(error) => return Err(unread(alloc, path, &error)),
     };
     match config_from_bytes(alloc, bytes.as_slice()) {
         Ok(config) => Ok(config),
-        Err(fault) => Err(Refusal::Config(fault)),
+        Err(fault) => Err(misread(alloc, path, bytes.as_slice(), fault)),
     }
 }
 
@@ -118,6 +276,18 @@ pub(crate) fn message_of(refusal: Refusal) -> (&'static str, &'static str)
         Refusal::Read => ("sqs_server: ", "read failed"),
         Refusal::OutOfMemory => ("sqs_server: ", "out of memory"),
         Refusal::Listen => ("sqs_server: ", "cannot listen"),
+        Refusal::Variable(Variable::Requests) => (
+            "sqs_server: JUTKARIQ_PORT",
+            " must be a port number, 0 to 65535",
+        ),
+        Refusal::Variable(Variable::Statistics) => (
+            "sqs_server: JUTKARIQ_STATISTICS_PORT",
+            " must be a port number, 0 to 65535",
+        ),
+        Refusal::Variable(Variable::Log) => (
+            "sqs_server: JUTKARIQ_LOG",
+            " must be refused, all or none",
+        ),
     }
 }
 
@@ -128,7 +298,7 @@ fn status_of(outcome: &Result<(), Refusal>) -> u8
 {
     match outcome {
         Ok(()) => 0,
-        Err(Refusal::Usage) => 2,
+        Err(Refusal::Usage | Refusal::Variable(_)) => 2,
         Err(Refusal::Listen) => 3,
         Err(_) => 1,
     }
@@ -141,13 +311,44 @@ pub(crate) fn exit_code(outcome: &Result<(), Refusal>) -> ExitCode
     ExitCode::from(status_of(outcome))
 }
 
-/// Tells a refusal on standard error, if there is one, and ends with the status.
-pub(crate) fn finish(rt: &HostRuntime, outcome: Result<(), Refusal>) -> ExitCode
-    ensures { exit_status result ≡ status_of outcome }
-{
-    if let Err(refusal) = outcome {
-        let (what, why) = message_of(refusal);
-        let _ = rt.eprintln(format_args!("{what}{why}"));
+/// Why the program ends, and what there is to say beyond that, in a line of its own.
+#[derive(Debug, Drop)]
+pub struct Ending {
+    pub refusal: Refusal,
+    /// Such as which port could not be opened, and why; `None` where there is no more to say, or no memory to say it.
+    pub more: Option<String>,
+}
+
+impl From<Refusal> for Ending {
+    ghost from_gives = { λ refusal ending. ending.refusal ≡ refusal };
+
+    fn from(refusal: Refusal) -> Ending {
+        Ending {
+            refusal,
+            more: None,
+        }
     }
+}
+
+/// Tells why the program ends on standard error.
+fn tell(rt: &HostRuntime, ending: &Ending) {
+    let (what, why) = message_of(ending.refusal);
+    let _ = rt.eprintln(format_args!("{what}{why}"));
+    if let Some(more) = &ending.more {
+        let _ = rt.eprintln(format_args!("{more}"));
+    }
+}
+
+/// Tells a refusal on standard error, if there is one, and ends with the status.
+pub(crate) fn finish(rt: &HostRuntime, outcome: Result<(), Ending>) -> ExitCode
+    ensures { exit_status result ≡ status_of (refused_by outcome) }
+{
+    let outcome = match outcome {
+        Ok(()) => Ok(()),
+        Err(ending) => {
+            tell(rt, &ending);
+            Err(ending.refusal)
+        }
+    };
     exit_code(&outcome)
 }

@@ -1,7 +1,8 @@
-//! A request whose body comes.
+//! A request whose body comes, or has come.
 
 ghost use Rattle.std.specs.Prelude.{IsSome};
 
+use bytes::Bytes;
 use http::request::Parts;
 use http_body_util::Limited;
 use http_body_util::combinators::Collect;
@@ -14,4 +15,11 @@ pub struct Arriving {
     pub body: Collect<Limited<Incoming>>,
     // The body has not been handed over.
     pub ghost here: { ∥ IsSome body.collected ∥₁ },
+}
+
+/// A request whose body has come: what is told of it once it is answered.
+#[derive(Drop)]
+pub struct Asked {
+    pub head: Parts,
+    pub body: Bytes,
 }

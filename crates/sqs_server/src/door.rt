@@ -52,13 +52,15 @@ impl<C: Future<Output = hyper::Result<()>>, R: Wait + Drop> Future for Guest<C, 
 
     ghost needs = { λ g. C.needs g.connection };
 
-    /// Serves. A fault of the connection is told on standard error, and is no fault of the server.
+    /// Serves. A fault of the connection is told on standard error, and is no fault of the server. That a client asks
+    /// nothing for long is no fault.
     fn poll(&mut self, cx: &mut Context<'_>) -> Poll<()> {
         match self.connection.poll(cx) {
             Poll::Pending => return Poll::Pending,
             Poll::Ready(Ok(())) => {}
+            Poll::Ready(Err(error)) if error.is_timeout() => {}
             Poll::Ready(Err(error)) => {
-                let line = format!(in self.alloc; "connection: {error}");
+                let line = format!(in self.alloc; "sqs_server: connection: {error}");
                 self.notices.tell(&self.rt, line);
             }
         }
@@ -179,7 +181,7 @@ impl<R: Wait + Clock, W: Welcome> Door<'_, R, W> {
     /// The same. One that cannot be served is closed and counted.
     fn receive(&self, socket: TcpStream) {
         if let Err(error) = self.let_in(socket) {
-            let line = format!(in self.alloc; "connection: {error}");
+            let line = format!(in self.alloc; "sqs_server: connection: {error}");
             self.notices.tell(&self.rt, line);
             self.closed.add_permits(1);
         }
@@ -189,7 +191,7 @@ impl<R: Wait + Clock, W: Welcome> Door<'_, R, W> {
     fn complain(&mut self, error: io::Error)
         ensures enough { self.new.enough ≡ self.old.enough }
     {
-        let line = format!(in self.alloc; "accept: {error}");
+        let line = format!(in self.alloc; "sqs_server: accept: {error}");
         self.notices.tell(&self.rt, line);
         let pause = Duration::from_millis(PAUSE_MILLISECONDS);
         self.pause = self.timers.sleep(&self.rt, pause).ok();

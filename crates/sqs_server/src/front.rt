@@ -1,6 +1,6 @@
 //! What comes over HTTP is asked of the queues, and what they answer is sent.
 
-ghost use Rattle.std.specs.Prelude.{◌≡◌, ◌⊎◌, ⊤, Ok, Err, None, IfOk, IfErr, option_map};
+ghost use Rattle.std.specs.Prelude.{◌≡◌, ◌⊎◌, ⊤, Ok, Err, None, IfOk, IfErr};
 ghost use Rattle.futures.specs.Task.{IsArmed, Keeps};
 ghost use Rattle.aws_json.specs.declared.reply.ReplyShape.TheVariants as shapes;
 ghost use Rattle.message.specs.declared.fault.Fault.TheVariants.{OutOfMemory, QueueDoesNotExist};
@@ -15,11 +15,12 @@ ghost use Rattle.sqs_server.specs.Stages as told;
 ghost use Rattle.sqs_server.specs.Task.{Begins};
 ghost use Rattle.sqs_server.specs.Turns.{OnWaits};
 
-use crate::arriving::Arriving;
+use crate::arriving::{Arriving, Asked};
 use crate::clock::{moment_of_day, wait_limit};
-use crate::head::{Denial, asked_of};
+use crate::head::{Denial, asked_of, target_of};
 use crate::plan::{Outcome, Performed, Step, Then, after};
 use crate::queues::{Made, NewQueue, Order, Printer, Queue, Queues, is_full};
+use crate::register::Register;
 use crate::reply::{Sent, busy, denied, refused, sent_for};
 use crate::stage::{Creation, Exchange, Halt, Next, Purpose, Stage, Turn};
 use crate::task::{Task, task_of};
@@ -45,31 +46,27 @@ use std::time::Clock;
 pub struct Front<R: Wait + Drop> {
     pub rt: R,
     pub alloc: Global,
+    /// The port at which requests are answered, which the URLs of queues have.
+    pub port: u16,
     pub queues: Arc<Queues<R>>,
     pub orders: Sender<Order>,
+    pub register: Arc<Register>,
 }
 
 impl<R: Wait + Copy + Drop> Front<R> {
     /// The same for another connection or request. `OutOfMemory` is the only refusal.
     pub fn again(&self) -> Result<Front<R>, Fault>
-        ensures { IfErr result (λ fault. fault ≡ OutOfMemory) }
+        ensures same { IfOk result (λ front. front.port ≡ self.now.port) }
+        ensures errors { IfErr result (λ fault. fault ≡ OutOfMemory) }
     {
         Ok(Front {
             rt: self.rt,
             alloc: self.alloc,
+            port: self.port,
             queues: Arc::try_clone(&self.queues)?,
             orders: self.orders.clone()?,
+            register: Arc::try_clone(&self.register)?,
         })
-    }
-}
-
-/// The value of the header that names the action.
-fn target_of(head: &Parts) -> Option<&[u8]>
-    ensures { option_map (λ s. s.now) result ≡ told.target_in head.now }
-{
-    match head.headers.get("x-amz-target") {
-        Some(value) => Some(value.as_bytes()),
-        None => None,
     }
 }
 
@@ -78,26 +75,6 @@ fn refuses<R: Wait + Drop>(fault: Fault) -> Next<R>
     ensures { result ≡ told.refuses fault }
 {
     Next::Ends(Ok(refused(fault)))
-}
-
-/// Goes on where an order of a queue was refused. One of its name that came to be there meanwhile is looked at.
-fn unmade<R: Wait + Drop>(creation: Creation, fault: Fault) -> Next<R>
-    ensures { Makes {T = ⊤} creation (Err fault) result }
-{
-    match fault {
-        Fault::QueueNameExists => Next::On(Stage::Creating(creation)),
-        fault => refuses(fault),
-    }
-}
-
-/// Goes on where the look at a queue was refused. One that was taken out meanwhile is made anew.
-fn unseen<R: Wait + Drop>(creation: Creation, fault: Fault) -> Next<R>
-    ensures { Looked creation (Err fault) result }
-{
-    match fault {
-        Fault::ActorGone => Next::On(Stage::Creating(creation)),
-        fault => refuses(fault),
-    }
 }
 
 /// What comes to be sent of a body that did not come whole.
@@ -140,9 +117,29 @@ fn outcome_of(command: Command, reply: Result<Reply, Fault>) -> Outcome
 impl<R: Wait + Clock + Drop> Front<R> {
     /// What an answer comes to.
     fn answers(&self, answer: Result<ReplyShape, Fault>) -> Next<R>
-        ensures { Tells answer result }
+        ensures { Tells self.now.port answer result }
     {
-        Next::Ends(Ok(sent_for(self.alloc, &answer)))
+        Next::Ends(Ok(sent_for(self.alloc, self.port, &answer)))
+    }
+
+    /// Goes on where an order of a queue was refused. One of its name that came to be there meanwhile is looked at.
+    fn unmade(&self, creation: Creation, fault: Fault) -> Next<R>
+        ensures { Makes self.now.port {T = ⊤} creation (Err fault) result }
+    {
+        match fault {
+            Fault::QueueNameExists => Next::On(Stage::Creating(creation)),
+            fault => refuses(fault),
+        }
+    }
+
+    /// Goes on where the look at a queue was refused. One that was taken out meanwhile is made anew.
+    fn unseen(&self, creation: Creation, fault: Fault) -> Next<R>
+        ensures { Looked self.now.port creation (Err fault) result }
+    {
+        match fault {
+            Fault::ActorGone => Next::On(Stage::Creating(creation)),
+            fault => refuses(fault),
+        }
     }
 
     /// The queue of a name, where more mail may wait for it; or what the client is sent.
@@ -216,7 +213,7 @@ impl<R: Wait + Clock + Drop> Front<R> {
         seconds: u64,
         purpose: Purpose,
     ) -> Next<R>
-        ensures { Sends queue at command seconds purpose result }
+        ensures { Sends self.now.port queue at command seconds purpose result }
     {
         let Queue {
             uid,
@@ -242,7 +239,7 @@ impl<R: Wait + Clock + Drop> Front<R> {
 
     /// Asks a queue of a name what a request asks of it.
     fn begins(&self, name: &QueueName, at: Moment, step: Step) -> Next<R>
-        ensures { Begun (tasks.Ask name.now step) at result }
+        ensures { Begun self.now.port (tasks.Ask name.now step) at result }
     {
         match self.find(name) {
             Ok(queue) => Next::On(Stage::Going {
@@ -257,7 +254,7 @@ impl<R: Wait + Clock + Drop> Front<R> {
 
     /// Closes a queue.
     fn delete(&self, name: &QueueName, at: Moment) -> Next<R>
-        ensures { Begun (tasks.Delete name.now) at result }
+        ensures { Begun self.now.port (tasks.Delete name.now) at result }
     {
         match self.find(name) {
             Ok(queue) => self.ask(queue, at, Command::Close, 0, Purpose::Change),
@@ -267,7 +264,7 @@ impl<R: Wait + Clock + Drop> Front<R> {
 
     /// Gives a queue settings.
     fn set(&self, name: &QueueName, at: Moment, wish: Wish) -> Next<R>
-        ensures { Begun (tasks.Set name.now wish) at result }
+        ensures { Begun self.now.port (tasks.Set name.now wish) at result }
     {
         let queue = match self.find(name) {
             Ok(queue) => queue,
@@ -282,7 +279,7 @@ impl<R: Wait + Clock + Drop> Front<R> {
 
     /// Tells the URL of a queue that is there.
     fn tells_url(&self, name: QueueName) -> Next<R>
-        ensures { TellsUrl name result }
+        ensures { TellsUrl self.now.port name result }
     {
         match self.url(name) {
             Ok(shape) => self.answers(Ok(shape)),
@@ -292,7 +289,7 @@ impl<R: Wait + Clock + Drop> Front<R> {
 
     /// Tells the URLs of the queues whose names begin with a prefix.
     fn tells_urls(&self, prefix: &Prefix) -> Next<R>
-        ensures { TellsUrls prefix.now result }
+        ensures { TellsUrls self.now.port prefix.now result }
     {
         match self.urls(prefix) {
             Ok(shape) => self.answers(Ok(shape)),
@@ -302,7 +299,7 @@ impl<R: Wait + Clock + Drop> Front<R> {
 
     /// Tells the URLs of the queues that have a queue for their dead letters.
     fn tells_sources(&self, name: &QueueName) -> Next<R>
-        ensures { TellsSources result }
+        ensures { TellsSources self.now.port result }
     {
         match self.source_urls(name) {
             Ok(shape) => self.answers(Ok(shape)),
@@ -312,7 +309,7 @@ impl<R: Wait + Clock + Drop> Front<R> {
 
     /// Begins a task.
     fn about(&self, task: Task, at: Moment) -> Next<R>
-        ensures { Begun task at result }
+        ensures { Begun self.now.port task at result }
     {
         match task {
             Task::Create { name, wish } => Next::On(Stage::Creating(Creation { name, wish, at })),
@@ -327,14 +324,14 @@ impl<R: Wait + Clock + Drop> Front<R> {
 
     /// Begins what a request is about.
     fn begin(&self, request: Request, at: Moment) -> Next<R>
-        ensures { (task : _) × Begins request task × Begun task at result }
+        ensures { (task : _) × Begins request task × Begun self.now.port task at result }
     {
         self.about(task_of(self.alloc, request), at)
     }
 
     /// Begins what the header that names the action and these bytes ask.
     fn judge(&self, head: &Parts, bytes: &[u8]) -> Next<R>
-        ensures { IsJudged head.now bytes.now result }
+        ensures { IsJudged self.now.port head.now bytes.now result }
     {
         match asked_of(self.alloc, target_of(head), bytes) {
             Ok(request) => self.begin(request, moment_of_day(&self.rt)),
@@ -342,26 +339,35 @@ impl<R: Wait + Clock + Drop> Front<R> {
         }
     }
 
-    /// Begins what a request asks whose body has come.
-    fn read(&self, head: &Parts, body: Collected) -> Next<R>
-        ensures { IsRead head.now body result }
+    /// Begins what a request asks whose body has come, and keeps the request.
+    fn read(&self, head: Parts, body: Collected, kept: &mut Option<Asked>) -> Next<R>
+        ensures { IsRead self.now.port head body result }
     {
         match body.to_bytes() {
-            Ok(bytes) => self.judge(head, bytes.as_slice()),
+            Ok(body) => {
+                let next = self.judge(&head, body.as_slice());
+                *kept = Some(Asked { head, body });
+                next
+            }
             Err(_refused) => refuses(Fault::OutOfMemory),
         }
     }
 
     /// Looks whether the body has come.
-    fn await_body(&self, cx: &mut Context<'_>, arriving: Arriving) -> Turn<R>
+    fn await_body(
+        &self,
+        cx: &mut Context<'_>,
+        arriving: Arriving,
+        kept: &mut Option<Asked>,
+    ) -> Turn<R>
         ensures waits { OnWaits result (IsArmed cx.new) }
         ensures kept { Keeps cx.old cx.new }
-        ensures leads { Collects arriving result }
+        ensures leads { Collects self.now.port arriving result }
     {
         let Arriving { head, mut body } = arriving;
         match body.poll(cx) {
             Poll::Pending => Turn::Waits(Stage::Collecting(Arriving { head, body })),
-            Poll::Ready(Ok(body)) => Turn::Goes(self.read(&head, body)),
+            Poll::Ready(Ok(body)) => Turn::Goes(self.read(head, body, kept)),
             Poll::Ready(Err(error)) => Turn::Goes(Next::Ends(sent_of_error(error))),
         }
     }
@@ -385,11 +391,11 @@ impl<R: Wait + Clock + Drop> Front<R> {
 
     /// Answers for a queue that was ordered. One of its name that came to be there meanwhile is looked at.
     fn ordered(&self, creation: Creation, made: Made) -> Next<R>
-        ensures { Makes creation made.outcome result }
+        ensures { Makes self.now.port creation made.outcome result }
     {
         match made.outcome {
             Ok(()) => self.answers(Ok(ReplyShape::QueueUrl(creation.name))),
-            Err(fault) => unmade(creation, fault),
+            Err(fault) => self.unmade(creation, fault),
         }
     }
 
@@ -402,7 +408,7 @@ impl<R: Wait + Clock + Drop> Front<R> {
     ) -> Turn<R>
         ensures waits { OnWaits result (IsArmed cx.new) }
         ensures kept { Keeps cx.old cx.new }
-        ensures leads { AwaitsQueue creation result }
+        ensures leads { AwaitsQueue self.now.port creation result }
     {
         match made.poll(cx) {
             Poll::Pending => Turn::Waits(Stage::Making { creation, made }),
@@ -414,7 +420,7 @@ impl<R: Wait + Clock + Drop> Front<R> {
     /// Creates a queue, or looks at the one that has its name. While that one is being opened, what is asked
     /// for comes back.
     fn create(&self, creation: Creation) -> Result<Next<R>, Creation>
-        ensures { Creates creation result }
+        ensures { Creates self.now.port creation result }
     {
         let target = match self.target_uid(&creation.name, &creation.wish) {
             Ok(target) => target,
@@ -438,7 +444,7 @@ impl<R: Wait + Clock + Drop> Front<R> {
     fn await_name(&self, cx: &mut Context<'_>, creation: Creation) -> Turn<R>
         ensures waits { OnWaits result (IsArmed cx.new) }
         ensures kept { Keeps cx.old cx.new }
-        ensures leads { Names creation result }
+        ensures leads { Names self.now.port creation result }
     {
         match self.create(creation) {
             Ok(next) => Turn::Goes(next),
@@ -451,7 +457,7 @@ impl<R: Wait + Clock + Drop> Front<R> {
 
     /// Asks a queue that is looked for by its uid, and goes on without it where it is not to be had.
     fn ask_found(&self, uid: u64, at: Moment, command: Command, seconds: u64, then: Then) -> Next<R>
-        ensures { AsksFound uid at command seconds then result }
+        ensures { AsksFound self.now.port uid at command seconds then result }
     {
         let fault = match self.queues.find_uid(&self.rt, uid) {
             Ok(Some(queue)) => {
@@ -465,7 +471,7 @@ impl<R: Wait + Clock + Drop> Front<R> {
 
     /// Asks what is next, or answers.
     fn go_on(&self, uid: u64, queue: Option<Queue<R>>, at: Moment, step: Step) -> Next<R>
-        ensures { GoesOn uid queue at step result }
+        ensures { GoesOn self.now.port uid queue at step result }
     {
         match (step, queue) {
             (Step::Answer(answer), _) => self.answers(answer),
@@ -490,7 +496,7 @@ impl<R: Wait + Clock + Drop> Front<R> {
 
     /// Tells that a queue was closed, or that it was given settings.
     fn changed(&self, outcome: Outcome) -> Next<R>
-        ensures { Changed outcome result }
+        ensures { Changed self.now.port outcome result }
     {
         match outcome {
             Ok(_) => self.answers(Ok(ReplyShape::Nothing)),
@@ -500,7 +506,7 @@ impl<R: Wait + Clock + Drop> Front<R> {
 
     /// Answers for a queue that was there already, by its settings.
     fn compared(&self, creation: Creation, settings: Settings) -> Next<R>
-        ensures { Compared creation settings result }
+        ensures { Compared self.now.port creation settings result }
     {
         let target = match self.target_uid(&creation.name, &creation.wish) {
             Ok(target) => target,
@@ -515,7 +521,7 @@ impl<R: Wait + Clock + Drop> Front<R> {
 
     /// The same, by a look at it. One that was closed is made anew.
     fn seen(&self, creation: Creation, reply: Reply) -> Next<R>
-        ensures { Seen creation reply result }
+        ensures { Seen self.now.port creation reply result }
     {
         match reply {
             Reply::Looked(look) if look.closed => Next::On(Stage::Creating(creation)),
@@ -526,11 +532,11 @@ impl<R: Wait + Clock + Drop> Front<R> {
 
     /// The same, by what became of the look. One that was taken out meanwhile is made anew.
     fn looked(&self, creation: Creation, outcome: Outcome) -> Next<R>
-        ensures { Looked creation outcome result }
+        ensures { Looked self.now.port creation outcome result }
     {
         match outcome {
             Ok(Performed { command: _, reply }) => self.seen(creation, reply),
-            Err(fault) => unseen(creation, fault),
+            Err(fault) => self.unseen(creation, fault),
         }
     }
 
@@ -543,7 +549,7 @@ impl<R: Wait + Clock + Drop> Front<R> {
         then: Then,
         outcome: Outcome,
     ) -> Next<R>
-        ensures { Resumes uid queue at (purposes.Plan then) outcome result }
+        ensures { Resumes self.now.port uid queue at (purposes.Plan then) outcome result }
     {
         Next::On(Stage::Going {
             uid,
@@ -562,7 +568,7 @@ impl<R: Wait + Clock + Drop> Front<R> {
         purpose: Purpose,
         outcome: Outcome,
     ) -> Next<R>
-        ensures { Resumes uid queue at purpose outcome result }
+        ensures { Resumes self.now.port uid queue at purpose outcome result }
     {
         match purpose {
             Purpose::Plan(then) => self.planned(uid, queue, at, then, outcome),
@@ -577,7 +583,7 @@ impl<R: Wait + Clock + Drop> Front<R> {
         exchange: Exchange<R>,
         given: Result<Answer<Printer<R>>, AskFault<Printer<R>>>,
     ) -> Next<R>
-        ensures { Returned exchange given result }
+        ensures { Returned self.now.port exchange given result }
     {
         let Exchange {
             uid,
@@ -600,7 +606,7 @@ impl<R: Wait + Clock + Drop> Front<R> {
     fn await_answer(&self, cx: &mut Context<'_>, mut exchange: Exchange<R>) -> Turn<R>
         ensures waits { OnWaits result (IsArmed cx.new) }
         ensures kept { Keeps cx.old cx.new }
-        ensures leads { AwaitsAnswer exchange result }
+        ensures leads { AwaitsAnswer self.now.port exchange result }
     {
         match exchange.future.poll(cx) {
             Poll::Pending => Turn::Waits(Stage::Asking(exchange)),
@@ -608,14 +614,19 @@ impl<R: Wait + Clock + Drop> Front<R> {
         }
     }
 
-    /// Looks at a stage.
-    pub(crate) fn turn(&self, cx: &mut Context<'_>, stage: Stage<R>) -> Turn<R>
+    /// Looks at a stage. A request whose body has come is kept.
+    pub(crate) fn turn(
+        &self,
+        cx: &mut Context<'_>,
+        stage: Stage<R>,
+        kept: &mut Option<Asked>,
+    ) -> Turn<R>
         ensures waits { OnWaits result (IsArmed cx.new) }
         ensures kept { Keeps cx.old cx.new }
-        ensures leads { Turns stage result }
+        ensures leads { Turns self.now.port stage result }
     {
         match stage {
-            Stage::Collecting(arriving) => self.await_body(cx, arriving),
+            Stage::Collecting(arriving) => self.await_body(cx, arriving, kept),
             Stage::Creating(creation) => self.await_name(cx, creation),
             Stage::Making { creation, made } => self.await_queue(cx, creation, made),
             Stage::Asking(exchange) => self.await_answer(cx, exchange),
@@ -630,14 +641,26 @@ impl<R: Wait + Clock + Drop> Front<R> {
         }
     }
 
-    /// Goes through stages, until one waits or the request ends.
-    pub(crate) fn run(&self, cx: &mut Context<'_>, mut stage: Stage<R>) -> Halt<R>
+    /// Notes how a request has ended. One whose connection failed gets no answer.
+    pub(crate) fn note(&self, asked: Option<&Asked>, ended: &Result<Sent, hyper::Error>) {
+        if let Ok(sent) = ended {
+            self.register.note(&self.rt, self.alloc, asked, sent);
+        }
+    }
+
+    /// Goes through stages, until one waits or the request ends. A request whose body has come is kept.
+    pub(crate) fn run(
+        &self,
+        cx: &mut Context<'_>,
+        mut stage: Stage<R>,
+        kept: &mut Option<Asked>,
+    ) -> Halt<R>
         ensures waits { OnHeld result (IsArmed cx.new) }
         ensures kept { Keeps cx.old cx.new }
-        ensures leads { Halts stage result }
+        ensures leads { Halts self.now.port stage result }
     {
         for _ in self.rt.forever() {
-            match self.turn(cx, stage) {
+            match self.turn(cx, stage, kept) {
                 Turn::Waits(left) => return Halt::Waits(left),
                 Turn::Goes(Next::On(next)) => stage = next,
                 Turn::Goes(Next::Ends(ended)) => return Halt::Ends(ended),

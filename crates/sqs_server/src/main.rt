@@ -6,22 +6,28 @@
 //! - `clock`: the wall clock. `queues`: how a queue comes to be served.
 //! - `stage`, `arriving`: how far a request is. `front`: what becomes of it there, from its body to what
 //!   is sent. `answering`: the service, whose future goes through these stages.
+//! - `register`, `counts`: what is told of the requests that were answered.
 //! - `statistics`: the service of the other port, which tells what was printed of the queues.
-//! - `door`: the connections. `notices`: their faults. `serving`: the runtimes, the queues and the doors together.
+//! - `door`: the connections. `notices`: lines for standard error. `serving`: the runtimes, the queues and the doors together.
 //!
 //! What is pure of it has exact contracts, whose definitions stand in `specs/`.
 #![tactic(auto)]
+
+ghost use Rattle.std.specs.Prelude.{◌≡◌, ◌<◌, ◌⊎◌, IfErr};
+ghost use Rattle.sqs_server.specs.declared.arguments.Refusal.TheVariants.{Listen, OutOfMemory};
 
 mod answering;
 mod arguments;
 mod arriving;
 mod clock;
+mod counts;
 mod door;
 mod front;
 mod head;
 mod notices;
 mod plan;
 mod queues;
+mod register;
 mod reply;
 mod serving;
 mod stage;
@@ -30,8 +36,16 @@ mod task;
 #[cfg(test)]
 mod tests;
 
-use arguments::{Refusal, arguments_among, configuration_in, finish};
-use serving::{listen, serve};
+use arguments::{
+    Arguments, Ending, Environment, Refusal, Values, Variable, Wanted, arguments_among,
+    configuration_in, environment_among, finish,
+};
+use message::Fault;
+use notices::{Notices, start_telling};
+use register::Register;
+use request_log::Level;
+use serving::{Port, listen, refusal_of_system, serve};
+use startup::VERSION;
 use std::net::{Ipv4Addr, Net, SocketAddr};
 use std::process::ExitCode;
 use std::random::RandomSource;
@@ -40,17 +54,28 @@ use std::thread::Threads;
 use std::time::Clock;
 use std::{env, fs};
 
-/// The port for requests.
-const PORT: u16 = 9324;
-
-/// The port for statistics.
-const STATISTICS_PORT: u16 = 9325;
-
 /// How many threads look after the connections of the port for requests.
 const WORKERS: usize = 2;
 
 /// How many look after those of the port for statistics.
 const STATISTICS_WORKERS: usize = 1;
+
+/// What `--help` tells.
+const HELP: &str = "\
+Serves queues after Amazon SQS over HTTP, at 127.0.0.1 alone.
+
+usage: sqs_server config.toml [connections]
+       sqs_server --help | --version
+
+config.toml   the configuration: limits, queues and alarms
+connections   stop after this many connections have closed; without it, run until stopped
+
+Environment:
+JUTKARIQ_PORT              the port for requests, 9324 where it is not set
+JUTKARIQ_STATISTICS_PORT   the port for statistics, their page and /metrics, 9325 where it is not set
+JUTKARIQ_LOG               which requests get a line on standard error: refused, all or none; refused where it is not set
+0 picks a free port. The first line on standard output names both ports.
+";
 
 /// Serves the queues of the configuration that the first argument names, until as many connections have
 /// closed as the second one says.
@@ -58,13 +83,8 @@ fn main(rt: HostRuntime) -> ExitCode {
     finish(&rt, run(&rt, &rt))
 }
 
-/// The address of a port of this machine alone.
-fn address_of(port: u16) -> SocketAddr {
-    SocketAddr::from((Ipv4Addr::LOCALHOST, port))
-}
-
-/// Serves as the arguments say.
-fn run<R>(rt: &R, host: &HostRuntime) -> Result<(), Refusal>
+/// Does as the arguments say.
+fn run<R>(rt: &R, host: &HostRuntime) -> Result<(), Ending>
 where
     R: Wait
         + Threads
@@ -79,17 +99,109 @@ where
         + Drop
         + 'static,
 {
-    let arguments = arguments_among(env::args(host))?;
+    match arguments_among(env::args(host))? {
+        Wanted::Serve(arguments) => run_server(rt, host, &arguments),
+        Wanted::Help => {
+            let _ = host.print(HELP);
+            Ok(())
+        }
+        Wanted::Version => {
+            let _ = host.println(format_args!("sqs_server {VERSION}"));
+            Ok(())
+        }
+    }
+}
+
+/// The address of a port of this machine alone.
+fn address_of(port: u16) -> SocketAddr {
+    SocketAddr::from((Ipv4Addr::LOCALHOST, port))
+}
+
+/// What the environment says.
+fn environment(host: &HostRuntime) -> Result<Environment, Refusal> {
+    environment_among(Values {
+        port: env::var(host, Variable::Requests.name()),
+        statistics_port: env::var(host, Variable::Statistics.name()),
+        log: env::var(host, Variable::Log.name()),
+    })
+}
+
+/// What is told of requests, on standard error by a thread of its own.
+fn register_of<R>(rt: &R, level: Level) -> Result<Register, Fault>
+where
+    R: Wait + Threads + Clock + AllocGlobal + Eprint + Copy + Send + 'static,
+{
+    let (notices, lines) = Notices::new(rt.alloc())?;
+    start_telling(rt, rt.alloc(), lines)?;
+    Register::new(rt, rt.alloc(), level, notices)
+}
+
+/// Opens a port for requests or for statistics.
+fn open<R>(rt: &R, purpose: &str, port: u16, workers: usize) -> Result<Port, Ending>
+where
+    R: Clock + Net + RandomSource + AllocGlobal,
+    requires { 0 < workers }
+    ensures { IfErr result (λ ending. (ending.refusal ≡ OutOfMemory) ⊎ (ending.refusal ≡ Listen)) }
+{
+    match listen(rt, address_of(port), workers) {
+        Ok(port) => Ok(port),
+        Err(error) => Err(Ending {
+            refusal: refusal_of_system(&error),
+            more: format!(in rt.alloc(); "port {port} for {purpose}: {error}").ok(),
+        }),
+    }
+}
+
+/// Says where the server is to be found.
+fn greet(host: &HostRuntime, requests: &Port, statistics: &Port, count: usize, path: &str) {
+    let (Ok(requests), Ok(statistics)) = (requests.address(), statistics.address()) else {
+        return;
+    };
+    let (port, shown) = (requests.port(), statistics.port());
+    let queues = if count == 1 { "queue" } else { "queues" };
+    let _ = host.println(format_args!(
+        "sqs_server: requests at http://localhost:{port}, statistics at http://localhost:{shown}, {count} {queues} from {path}"
+    ));
+}
+
+/// Serves the queues of a configuration.
+fn run_server<R>(rt: &R, host: &HostRuntime, arguments: &Arguments) -> Result<(), Ending>
+where
+    R: Wait
+        + Threads
+        + Clock
+        + Net
+        + RandomSource
+        + AllocGlobal
+        + Eprint
+        + Copy
+        + Send
+        + Sync
+        + Drop
+        + 'static,
+{
     let path = arguments.path.as_str();
-    let config = configuration_in(host.alloc(), fs::read(host, path))?;
-    let requests = listen(rt, address_of(PORT), WORKERS)?;
-    let statistics = listen(rt, address_of(STATISTICS_PORT), STATISTICS_WORKERS)?;
+    let environment = environment(host)?;
+    let config = configuration_in(host.alloc(), path, fs::read(host, path))?;
+    let requests = open(rt, "requests", environment.port, WORKERS)?;
+    let statistics = open(
+        rt,
+        "statistics",
+        environment.statistics_port,
+        STATISTICS_WORKERS,
+    )?;
+    let Ok(register) = register_of(rt, environment.level) else {
+        return Err(Refusal::OutOfMemory.into());
+    };
+    greet(host, &requests, &statistics, config.queues.len(), path);
     serve(
         rt,
         host,
         requests,
         statistics,
         &config,
+        register,
         arguments.connections,
-    )
+    )?;
+    Ok(())
 }

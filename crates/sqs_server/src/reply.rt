@@ -33,6 +33,10 @@ pub(crate) fn denied(denial: Denial) -> Sent
     ensures { result ≡ denied denial }
 {
     let (status, text) = match denial {
+        Denial::FromPage => (
+            403,
+            r#"{"message":"requests of web pages are not answered"}"#,
+        ),
         Denial::MethodNotAllowed => (405, r#"{"message":"method not allowed"}"#),
         Denial::BodyTooLarge => (413, r#"{"message":"body too large"}"#),
     };
@@ -65,20 +69,20 @@ pub(crate) fn refused(fault: Fault) -> Sent
 }
 
 /// The bytes of a reply.
-fn reply_bytes(alloc: Global, shape: &ReplyShape) -> Result<Bytes, Fault>
-    ensures { Meets result (Ok (compact_text (reply_data shape.now))) }
+fn reply_bytes(alloc: Global, port: u16, shape: &ReplyShape) -> Result<Bytes, Fault>
+    ensures { Meets result (Ok (compact_text (reply_data port shape.now))) }
 {
-    let text = reply_text(alloc, shape)?;
+    let text = reply_text(alloc, port, shape)?;
     Ok(Bytes::from_string(text)?)
 }
 
-/// What is sent for an answer. One that there is no memory for is sent as that refusal.
-pub(crate) fn sent_for(alloc: Global, answer: &Result<ReplyShape, Fault>) -> Sent
-    ensures reply { (result ≡ sent_for answer.now) ⊎ (result ≡ refused OutOfMemory) }
+/// What is sent for an answer where requests come to a port. One that there is no memory for is sent as that refusal.
+pub(crate) fn sent_for(alloc: Global, port: u16, answer: &Result<ReplyShape, Fault>) -> Sent
+    ensures reply { (result ≡ sent_for port answer.now) ⊎ (result ≡ refused OutOfMemory) }
     ensures refusal { IfErr answer.now (λ fault. result ≡ refused fault) }
 {
     match answer {
-        Ok(shape) => match reply_bytes(alloc, shape) {
+        Ok(shape) => match reply_bytes(alloc, port, shape) {
             Ok(body) => Sent { status: 200, body },
             Err(fault) => refused(fault),
         },

@@ -10,8 +10,9 @@ use crate::arguments::Refusal;
 use crate::clock::moment_of_day;
 use crate::door::{Door, Exhibition, Reception, Welcome};
 use crate::front::Front;
-use crate::notices::{Notices, start_notices};
+use crate::notices::Notices;
 use crate::queues::{Opened, Queues, open_all};
+use crate::register::Register;
 use crate::statistics::StatisticsFront;
 use hyper::rt::TokioTimer;
 use hyper::server::conn::http1::Builder;
@@ -45,7 +46,7 @@ pub struct Port {
 }
 
 /// Opens a port, whose connections so many threads look after.
-fn open_port<R>(rt: &R, address: SocketAddr, workers: usize) -> io::Result<Port>
+pub(crate) fn listen<R>(rt: &R, address: SocketAddr, workers: usize) -> io::Result<Port>
 where
     R: Clock + Net + RandomSource + AllocGlobal,
     requires { 0 < workers }
@@ -55,22 +56,8 @@ where
     Ok(Port { runtime, listener })
 }
 
-/// The same, or why it cannot be opened.
-pub(crate) fn listen<R>(rt: &R, address: SocketAddr, workers: usize) -> Result<Port, Refusal>
-where
-    R: Clock + Net + RandomSource + AllocGlobal,
-    requires { 0 < workers }
-    ensures { IfErr result (λ refusal. (refusal ≡ OutOfMemory) ⊎ (refusal ≡ Listen)) }
-{
-    match open_port(rt, address, workers) {
-        Ok(port) => Ok(port),
-        Err(error) => Err(refusal_of_system(&error)),
-    }
-}
-
 impl Port {
     /// Its address.
-    #[cfg(test)]
     pub(crate) fn address(&self) -> io::Result<SocketAddr> {
         self.listener.local_addr()
     }
@@ -165,7 +152,7 @@ fn show<R>(
     rt: &R,
     port: Port,
     queues: &Arc<Queues<R>>,
-    notices: &Notices,
+    register: &Arc<Register>,
     closed: &Arc<Semaphore>,
 ) -> io::Result<()>
 where
@@ -173,7 +160,7 @@ where
 {
     let alloc = rt.alloc();
     let timer = TokioTimer::new(*rt, port.runtime.handle().time().clone()?);
-    let (Ok(notices), Ok(own_notices)) = (notices.again(), notices.again()) else {
+    let (Ok(notices), Ok(own_notices)) = (register.notices(), register.notices()) else {
         return Err(io::ErrorKind::OutOfMemory.into());
     };
     let welcome = Exhibition {
@@ -184,6 +171,7 @@ where
             rt: *rt,
             alloc,
             queues: Arc::try_clone(queues)?,
+            register: Arc::try_clone(register)?,
         },
         notices: own_notices,
         closed: Arc::try_clone(closed)?,
@@ -202,24 +190,27 @@ where
 /// What has the requests of a socket answered by these queues.
 fn reception<R>(
     rt: &R,
-    runtime: &Runtime,
+    requests: &Port,
     opened: Opened<R>,
-    notices: &Notices,
+    register: &Arc<Register>,
     closed: &Arc<Semaphore>,
 ) -> io::Result<Reception<R>>
 where
     R: Wait + Clock + RandomSource + AllocGlobal + Copy + Send + Drop + 'static,
 {
     let alloc = rt.alloc();
-    let timer = TokioTimer::new(*rt, runtime.handle().time().clone()?);
-    let Ok(notices) = notices.again() else {
+    let timer = TokioTimer::new(*rt, requests.runtime.handle().time().clone()?);
+    let port = requests.address()?.port();
+    let Ok(notices) = register.notices() else {
         return Err(io::ErrorKind::OutOfMemory.into());
     };
     let front = Front {
         rt: *rt,
         alloc,
+        port,
         queues: opened.queues,
         orders: opened.orders,
+        register: Arc::try_clone(register)?,
     };
     Ok(Reception {
         rt: *rt,
@@ -256,28 +247,33 @@ fn let_in<R>(
     requests: Port,
     statistics: Port,
     opened: Opened<R>,
-    notices: Notices,
+    register: Register,
     connections: Option<u64>,
 ) -> io::Result<()>
 where
     R: Wait + Threads + Clock + RandomSource + AllocGlobal + Copy + Send + Sync + Drop + 'static,
 {
     let alloc = rt.alloc();
+    let Ok(notices) = register.notices() else {
+        return Err(io::ErrorKind::OutOfMemory.into());
+    };
+    let register = Arc::new(alloc, register)?;
     let closed = Arc::new(alloc, Semaphore::new(alloc, 0)?)?;
     let enough = closings(&closed, connections)?;
-    show(rt, statistics, &opened.queues, &notices, &closed)?;
-    let welcome = reception(rt, &requests.runtime, opened, &notices, &closed)?;
+    show(rt, statistics, &opened.queues, &register, &closed)?;
+    let welcome = reception(rt, &requests, opened, &register, &closed)?;
     receive(rt, requests, welcome, notices, (closed, enough))
 }
 
 /// Serves the queues of a configuration at two open ports, the one for requests and the one for statistics, until as
-/// many connections have closed at both together as are asked for.
+/// many connections have closed at both together as are asked for. What is to be told of requests is told by the register.
 pub(crate) fn serve<R>(
     rt: &R,
     host: &HostRuntime,
     requests: Port,
     statistics: Port,
     config: &Config,
+    register: Register,
     connections: Option<u64>,
 ) -> Result<(), Refusal>
 where
@@ -297,10 +293,7 @@ where
     let Ok(opened) = open_all(rt, host, rt.alloc(), config, moment_of_day(rt)) else {
         return Err(Refusal::OutOfMemory);
     };
-    let Ok(notices) = start_notices(rt, rt.alloc()) else {
-        return Err(Refusal::OutOfMemory);
-    };
-    match let_in(rt, requests, statistics, opened, notices, connections) {
+    match let_in(rt, requests, statistics, opened, register, connections) {
         Ok(()) => Ok(()),
         Err(error) => Err(refusal_of_system(&error)),
     }

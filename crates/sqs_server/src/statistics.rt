@@ -1,7 +1,7 @@
 //! The service of a connection to the port of the statistics: each request is answered from what was printed of the
 //! queues, and no queue's turn is taken.
 
-ghost use Rattle.std.specs.Prelude.{◌≡◌, ◌⊎◌, true, false, [], IfOk, IfErr, IsOk, IsOkAnd, IsSomeAnd};
+ghost use Rattle.std.specs.Prelude.{◌≡◌, ◌⊎◌, true, false, [], IfOk, IfErr, IsOk, IsOkAnd, IsSomeAnd, option_map};
 ghost use Rattle.http.specs.Response.{body_of, head_of};
 ghost use Rattle.http.specs.StatusCode.{IsStatusCode};
 ghost use Rattle.message.specs.declared.fault.Fault.TheVariants.{OutOfMemory};
@@ -9,15 +9,17 @@ ghost use Rattle.statistics_api.specs.Asked.{TellsOfQueues};
 ghost use Rattle.statistics_api.specs.Response.{told_by};
 ghost use Rattle.statistics_api.specs.Text.{bytes_of, is_written};
 ghost use Rattle.sqs_server.specs.Sent.{HoldsBody};
-ghost use Rattle.sqs_server.specs.Viewed.{IsAnswered, IsJudgedBySize, IsTold, Sends, body_too_large, no_memory, typed_headers};
+ghost use Rattle.sqs_server.specs.Viewed.{IsAnswered, IsJudged, IsJudgedBySize, IsTold, Sends, body_too_large, foreign_host, host_in, no_memory, typed_headers};
 
-use crate::head::BODY_LIMIT;
+use crate::head::{BODY_LIMIT, is_foreign};
 use crate::queues::Queues;
+use crate::register::Register;
 use board::Sheet;
 use bytes::Bytes;
 use futures::future;
 use futures::future::Ready;
 use http::header::{CONTENT_TYPE, HeaderValue};
+use http::request::Parts;
 use http::{Response, StatusCode};
 use http_body::Body;
 use http_body_util::Full;
@@ -25,7 +27,7 @@ use hyper::Request;
 use hyper::body::Incoming;
 use hyper::service::Service;
 use message::{Fault, QueueName};
-use statistics_api::{Asked, Text, asked_for, out_of_memory, respond};
+use statistics_api::{Asked, Served, Text, asked_for, out_of_memory, respond};
 use std::alloc::Global;
 use std::sync::{Arc, Wait};
 
@@ -35,6 +37,7 @@ pub struct StatisticsFront<R: Wait + Drop> {
     pub rt: R,
     pub alloc: Global,
     pub queues: Arc<Queues<R>>,
+    pub register: Arc<Register>,
 }
 
 /// What a request is answered, before it is sent.
@@ -49,6 +52,7 @@ impl<R: Wait + Copy + Drop> StatisticsFront<R> {
             rt: self.rt,
             alloc: self.alloc,
             queues: Arc::try_clone(&self.queues)?,
+            register: Arc::try_clone(&self.register)?,
         })
     }
 }
@@ -62,6 +66,28 @@ fn body_too_large() -> Told
         status: 413,
         content_type: "application/json",
         text: Text::Constant(r#"{"message":"body too large"}"#),
+    }
+}
+
+/// What is told where a client names another host than this machine.
+fn foreign_host() -> Told
+    ensures told { told_by result ≡ foreign_host }
+    ensures constant { is_written result.text ≡ false }
+{
+    Told {
+        status: 403,
+        content_type: "application/json",
+        text: Text::Constant(r#"{"message":"this host is not served"}"#),
+    }
+}
+
+/// The host that a head names.
+fn host_of(head: &Parts) -> Option<&[u8]>
+    ensures { option_map (λ s. s.now) result ≡ host_in head.now }
+{
+    match head.headers.get("host") {
+        Some(value) => Some(value.as_bytes()),
+        None => None,
     }
 }
 
@@ -143,20 +169,34 @@ impl<R: Wait + Drop> StatisticsFront<R> {
         }
     }
 
+    /// What the server tells of itself, where that is asked for. `OutOfMemory` is the only refusal, and only where an
+    /// answer can tell of it.
+    fn served(&self, method: &str, path: &str) -> Result<Served, Fault>
+        ensures { IfErr result (λ fault. (fault ≡ OutOfMemory) × TellsOfQueues method.now path.now) }
+    {
+        match asked_for(method, path) {
+            Asked::Queues => self.register.served(self.alloc),
+            _ => Ok(Served::nothing(self.alloc)),
+        }
+    }
+
     /// What a method and a path are answered. Only what tells of queues takes memory.
     fn told(&self, method: &str, path: &str) -> Told
         ensures told { IsTold method.now path.now (told_by result) }
         ensures written { is_written result.text ≡ true → TellsOfQueues method.now path.now }
     {
+        let Ok(served) = self.served(method, path) else {
+            return out_of_memory();
+        };
         match self.sheets(method, path) {
-            Ok(sheets) => respond(self.alloc, method, path, sheets.as_slice()),
+            Ok(sheets) => respond(self.alloc, method, path, sheets.as_slice(), &served),
             Err(_) => out_of_memory(),
         }
     }
 
     /// The same, where the least size that a body can have is not too large for the one method whose bodies are
     /// looked at.
-    fn judged(&self, method: &str, path: &str, size: u64) -> Told
+    fn judged_by_size(&self, method: &str, path: &str, size: u64) -> Told
         ensures told { IsJudgedBySize method.now path.now size (told_by result) }
         ensures written { is_written result.text ≡ true → IsJudgedBySize method.now path.now size no_memory }
     {
@@ -166,13 +206,25 @@ impl<R: Wait + Drop> StatisticsFront<R> {
         self.told(method, path)
     }
 
+    /// The same, where the client names this machine.
+    fn judged(&self, host: Option<&[u8]>, method: &str, path: &str, size: u64) -> Told
+        ensures told { IsJudged (option_map (λ s. s.now) host.entry) method.now path.now size (told_by result) }
+        ensures written { is_written result.text ≡ true → IsJudged (option_map (λ s. s.now) host.entry) method.now path.now size no_memory }
+    {
+        if is_foreign(host) {
+            return foreign_host();
+        }
+        self.judged_by_size(method, path, size)
+    }
+
     /// The response to a request. Its body is not looked at.
     fn answer(&self, request: Request<Incoming>) -> Response<Full<Bytes>>
         ensures { IsAnswered request result }
     {
         let (head, body) = request.into_parts();
         let size = body.size_hint().lower();
-        let told = self.judged(head.method.as_str(), head.uri.path(), size);
+        let host = host_of(&head);
+        let told = self.judged(host, head.method.as_str(), head.uri.path(), size);
         response_of(self.alloc, told)
     }
 }

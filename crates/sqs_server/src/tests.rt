@@ -4,11 +4,14 @@
 mod conversations;
 
 use crate::arguments::{Refusal, configuration_in};
+use crate::notices::Notices;
 use crate::queues::is_full;
-use crate::serving::{listen, serve};
+use crate::register::Register;
+use crate::serving::{listen, refusal_of_system, serve};
 use crossbeam_channel::{Receiver, unbounded};
 use desk::NoPress;
 use queue_actor::Mail;
+use request_log::Level;
 use std::alloc::{AllocError, Global};
 use std::io::{ErrorKind, Read, Write};
 use std::net::{Ipv4Addr, Net, SocketAddr, TcpStream};
@@ -29,6 +32,8 @@ struct Started {
     address: SocketAddr,
     statistics: SocketAddr,
     ended: Receiver<bool>,
+    /// The lines for standard error.
+    lines: Receiver<String>,
 }
 
 /// Starts a server with a configuration, which ends after so many connections.
@@ -48,21 +53,35 @@ where
         + 'static,
 {
     let alloc = rt.alloc();
-    let bytes = Vec::from_slice(alloc, text.as_bytes())?;
-    let config = configuration_in(alloc, Ok(bytes))?;
+    let config = configuration_in(
+        alloc,
+        "config.toml",
+        Ok(Vec::from_slice(alloc, text.as_bytes())?),
+    )?;
     let requests = listen(rt, SocketAddr::from((Ipv4Addr::LOCALHOST, 0)), 2)?;
     let shown = listen(rt, SocketAddr::from((Ipv4Addr::LOCALHOST, 0)), 1)?;
     let (address, statistics) = (requests.address()?, shown.address()?);
     let (ends, ended) = unbounded::<bool, Global>(alloc)?;
+    let (notices, lines) = Notices::new(alloc)?;
+    let register = Register::new(rt, alloc, Level::Refused, notices)?;
     let (own, host) = (*rt, *host);
     let _server = thread::spawn(rt, move || {
-        let outcome = serve(&own, &host, requests, shown, &config, Some(connections));
+        let outcome = serve(
+            &own,
+            &host,
+            requests,
+            shown,
+            &config,
+            register,
+            Some(connections),
+        );
         let _ = ends.send(&own, outcome.is_ok());
     })?;
     Ok(Started {
         address,
         statistics,
         ended,
+        lines,
     })
 }
 
@@ -245,18 +264,49 @@ fn act(
     Ok(None)
 }
 
-/// Does what each line says of a client, and gives the first line that went otherwise, with what came.
-fn talk(rt: &HostRuntime, server: &Started, steps: &str) -> Result<String, Fail> {
-    let alloc = rt.alloc();
+/// The next line for standard error, without its time of day, where it is not as wanted.
+fn logged<R: Wait + Clock>(rt: &R, server: &Started, wanted: &str) -> Result<Option<String>, Fail> {
+    let line = server
+        .lines
+        .recv_timeout(rt, Duration::from_secs(PATIENCE))
+        .map_err(|_| "a line")?;
+    let (time, told) = line.split_once(' ').ok_or("a time of day")?;
+    if time.len() == "12:03:04.123".len() && told == wanted {
+        Ok(None)
+    } else {
+        Ok(Some(line))
+    }
+}
+
+/// Does what each line says of a client, and gives the first line that went otherwise, with what came. `PORT` is the
+/// port for requests.
+fn talk<R: Wait + Clock>(
+    rt: &R,
+    host: &HostRuntime,
+    server: &Started,
+    steps: &str,
+) -> Result<String, Fail> {
+    let alloc = host.alloc();
+    let port = server.address.port().to_string(alloc)?;
+    let steps = steps.replace(alloc, "PORT", port.as_str())?;
     let mut clients = Vec::new(alloc);
     for line in steps.lines() {
         let letter = line.bytes().next().ok_or("a client")?;
         let (_, rest) = line.split_once(" ").ok_or("a verb")?;
         let (verb, rest) = rest.split_once(" ").ok_or("a thing")?;
-        let place = place_of(rt, server, &mut clients, letter)?;
+        let place = place_of(host, server, &mut clients, letter)?;
         if verb == "leaves" && place < clients.len() {
-            thread::sleep(rt, Duration::from_millis(rest.parse::<u64>().unwrap_or(0)));
+            thread::sleep(
+                host,
+                Duration::from_millis(rest.parse::<u64>().unwrap_or(0)),
+            );
             clients.remove(place);
+            continue;
+        }
+        if verb == "logs" {
+            if let Some(told) = logged(rt, server, rest)? {
+                return Ok(format!(in alloc; "{line}: {told}")?);
+            }
             continue;
         }
         let client = clients.get_mut(place).ok_or("a client")?;

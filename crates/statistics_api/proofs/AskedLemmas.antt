@@ -2,12 +2,12 @@
 use Rattle.std.proofs.lemmas.Slice.Eq.{bytes_eq-Decides}
 use Rattle.std.specs.Bool.{Decides}
 use Rattle.metric_window.specs.Flows.{no_flows}
-use Rattle.std.proofs.Common.{◌≡◌, ◌≢◌, ℕ, Bool, true, false, cond, List, [], ◌∷◌, Option, Some, None, codes, bytes_eq, find, option_to_list, refl, sym, ap, ◌∙◌}
+use Rattle.std.proofs.Common.{◌≡◌, ◌≢◌, ℕ, Bool, true, false, cond, ◌||◌, List, [], ◌∷◌, Option, Some, None, codes, bytes_eq, find, option_to_list, refl, sym, ap, ◌∙◌}
 use Rattle.board.specs.Sheet.{Statistics}
 use Rattle.statistics_api.specs.declared.routes.Route.{Route}
 use Rattle.statistics_api.specs.declared.routes.Route.TheVariants.{Queues, Queue, Rows, Alarms}
 use Rattle.statistics_api.specs.Answer.{Answer, queue_named, of_queue, told, if_allowed, answer_of, not_found, method_not_allowed}
-use Rattle.statistics_api.specs.Response.{Told, as_json, page, metrics, if_get, response_of}
+use Rattle.statistics_api.specs.Response.{Told, as_json, page, health, metrics, if_get, is_constant, response_of}
 use Rattle.statistics_api.specs.Asked.{TellsOfQueues}
 use Rattle.statistics_api.specs.Routes.{target_of}
 
@@ -28,31 +28,34 @@ told_again Rows name sheets other = ap (of_queue Rows) (again (λ s. bytes_eq s.
 told_again Alarms name sheets other = ap (of_queue Alarms) (again (λ s. bytes_eq s.name name) sheets)
 
 -- at each path but that of the metrics the answer alone depends on queues
-by_answer-if : (list all : Bool) (method : List ℕ) (xs ys : List Statistics) (a b : Answer) → all ≡ false → a ≡ b
-    → cond list (if_get method page) (cond all (if_get method (metrics xs)) (as_json a)) ≡ cond list (if_get method page) (cond all (if_get method (metrics ys)) (as_json b))
-by_answer-if true all method xs ys a b none same = refl
-by_answer-if false false method xs ys a b none same = ap as_json same
-by_answer-if false true method xs ys a b none same = absurd cc
+by_answer-if : (root well all : Bool) (p h m n : Told) (a b : Answer) → all ≡ false → a ≡ b
+    → cond root p (cond well h (cond all m (as_json a))) ≡ cond root p (cond well h (cond all n (as_json b)))
+by_answer-if true well all p h m n a b none same = refl
+by_answer-if false true all p h m n a b none same = refl
+by_answer-if false false false p h m n a b none same = ap as_json same
+by_answer-if false false true p h m n a b none same = absurd cc
 
-by_answer : (method path : List ℕ) (xs ys : List Statistics) → bytes_eq path (codes "/metrics") ≡ false → answer_of method path xs ≡ answer_of method path ys
-    → response_of method path xs ≡ response_of method path ys
-by_answer method path xs ys other same = by_answer-if (bytes_eq path (codes "/")) (bytes_eq path (codes "/metrics")) method xs ys (answer_of method path xs) (answer_of method path ys) other same
+by_answer : (method path : List ℕ) (xs ys : List Statistics) (own : List ℕ) → bytes_eq path (codes "/metrics") ≡ false → answer_of method path xs ≡ answer_of method path ys
+    → response_of method path xs own ≡ response_of method path ys own
+by_answer method path xs ys own other same =
+    by_answer-if (bytes_eq path (codes "/")) (bytes_eq path (codes "/health")) (bytes_eq path (codes "/metrics")) (if_get method page) (if_get method health)
+    (if_get method (metrics xs own)) (if_get method (metrics ys own)) (answer_of method path xs) (answer_of method path ys) other same
 
 -- a path of a queue
-pub enough_named : (method path name : List ℕ) (route : Route) (sheets : List Statistics) → bytes_eq path (codes "/metrics") ≡ false → Some (route, name) ≡ target_of path → route ≢ Queues
-    → response_of method path sheets ≡ response_of method path (option_to_list (queue_named name sheets))
-enough_named method path name route sheets other is one =
+pub enough_named : (method path name : List ℕ) (route : Route) (sheets : List Statistics) (own : List ℕ) → bytes_eq path (codes "/metrics") ≡ false → Some (route, name) ≡ target_of path → route ≢ Queues
+    → response_of method path sheets own ≡ response_of method path (option_to_list (queue_named name sheets)) own
+enough_named method path name route sheets own other is one =
     let there : (xs : List Statistics) → answer_of method path xs ≡ if_allowed method (Some (route, name)) xs = λ xs. ap (λ o. if_allowed method o xs) (sym is) in
     let same : if_allowed method (Some (route, name)) sheets ≡ if_allowed method (Some (route, name)) (option_to_list (queue_named name sheets)) =
     ap (λ (a : Answer). cond (bytes_eq method (codes "GET")) a method_not_allowed) (sym (told_again route name sheets one)) in
-    by_answer method path sheets (option_to_list (queue_named name sheets)) other (there sheets ∙ same ∙ sym (there (option_to_list (queue_named name sheets))))
+    by_answer method path sheets (option_to_list (queue_named name sheets)) own other (there sheets ∙ same ∙ sym (there (option_to_list (queue_named name sheets))))
 
 -- a path that is none
-pub enough_none : (method path : List ℕ) (sheets : List Statistics) → bytes_eq path (codes "/metrics") ≡ false → None ≡ target_of path
-    → response_of method path sheets ≡ response_of method path []
-enough_none method path sheets other is =
+pub enough_none : (method path : List ℕ) (sheets : List Statistics) (own : List ℕ) → bytes_eq path (codes "/metrics") ≡ false → None ≡ target_of path
+    → response_of method path sheets own ≡ response_of method path [] own
+enough_none method path sheets own other is =
     let there : (xs : List Statistics) → answer_of method path xs ≡ not_found = λ xs. ap (λ o. if_allowed method o xs) (sym is) in
-    by_answer method path sheets [] other (there sheets ∙ sym (there []))
+    by_answer method path sheets [] own other (there sheets ∙ sym (there []))
 
 -- another method
 get_refused : (method : List ℕ) (told : Told) → bytes_eq method (codes "GET") ≡ false → if_get method told ≡ as_json method_not_allowed
@@ -63,16 +66,19 @@ allowed_refused method None xs ys other = refl
 allowed_refused method (Some t) xs ys other =
     ap (λ (b : Bool). cond b (told t.0 t.1 xs) method_not_allowed) other ∙ sym (ap (λ (b : Bool). cond b (told t.0 t.1 ys) method_not_allowed) other)
 
-both-if : (list all : Bool) (p m n : Told) (a b : Answer) → m ≡ n → a ≡ b → cond list p (cond all m (as_json a)) ≡ cond list p (cond all n (as_json b))
-both-if true all p m n a b first second = refl
-both-if false true p m n a b first second = first
-both-if false false p m n a b first second = ap as_json second
+both-if : (root well all : Bool) (p h m n : Told) (a b : Answer) → m ≡ n → a ≡ b
+    → cond root p (cond well h (cond all m (as_json a))) ≡ cond root p (cond well h (cond all n (as_json b)))
+both-if true well all p h m n a b first second = refl
+both-if false true all p h m n a b first second = refl
+both-if false false true p h m n a b first second = first
+both-if false false false p h m n a b first second = ap as_json second
 
-pub enough_refused : (method path : List ℕ) (sheets : List Statistics) → bytes_eq method (codes "GET") ≡ false → response_of method path sheets ≡ response_of method path []
-enough_refused method path sheets other =
-    both-if (bytes_eq path (codes "/")) (bytes_eq path (codes "/metrics")) (if_get method page) (if_get method (metrics sheets)) (if_get method (metrics []))
-    (answer_of method path sheets) (answer_of method path [])
-    (get_refused method (metrics sheets) other ∙ sym (get_refused method (metrics []) other)) (allowed_refused method (target_of path) sheets [] other)
+pub enough_refused : (method path : List ℕ) (sheets : List Statistics) (own : List ℕ) → bytes_eq method (codes "GET") ≡ false
+    → response_of method path sheets own ≡ response_of method path [] own
+enough_refused method path sheets own other =
+    both-if (bytes_eq path (codes "/")) (bytes_eq path (codes "/health")) (bytes_eq path (codes "/metrics")) (if_get method page) (if_get method health)
+    (if_get method (metrics sheets own)) (if_get method (metrics [] own)) (answer_of method path sheets) (answer_of method path [])
+    (get_refused method (metrics sheets own) other ∙ sym (get_refused method (metrics [] own) other)) (allowed_refused method (target_of path) sheets [] other)
 
 -- ---- where numbers of queues are told
 
@@ -99,12 +105,18 @@ told_of Queue name = found_so Queue name (bytes_eq name name) ((bytes_eq-Decides
 told_of Rows name = found_so Rows name (bytes_eq name name) ((bytes_eq-Decides name name).1 refl)
 told_of Alarms name = found_so Alarms name (bytes_eq name name) ((bytes_eq-Decides name name).1 refl)
 
--- at a path that is none of the page and of the metrics
-status_by_answer : (at_page at_metrics : Bool) (a b : Told) (answer : Answer) → at_page ≡ false → at_metrics ≡ false → answer.0 ≡ 200
-    → (cond at_page a (cond at_metrics b (as_json answer))).0 ≡ 200
-status_by_answer false false a b answer p m is = is
-status_by_answer true m a b answer p none is = absurd cc
-status_by_answer false true a b answer p none is = absurd cc
+-- at a path that is none of a constant and of the metrics
+status_by_answer : (root well all : Bool) (p h m : Told) (answer : Answer) → (root || well) ≡ false → all ≡ false → answer.0 ≡ 200
+    → (cond root p (cond well h (cond all m (as_json answer)))).0 ≡ 200
+status_by_answer false false false p h m answer constant none is = is
+status_by_answer true well all p h m answer constant none is = absurd cc
+status_by_answer false true all p h m answer constant none is = absurd cc
+status_by_answer false false true p h m answer constant none is = absurd cc
+
+neither : (root well : Bool) → root ≡ false → well ≡ false → (root || well) ≡ false
+neither false false first second = refl
+neither true well first second = absurd cc
+neither false true first second = absurd cc
 
 not_so : {P : Type 0} (b : Bool) → Decides b P → (P → ⊥) → b ≡ false
 not_so true decides never = absurd (never (decides.0 refl))
@@ -118,21 +130,25 @@ pub of_metrics : (method path : List ℕ) → bytes_eq method (codes "GET") ≡ 
 of_metrics method path get all =
     let is : path ≡ codes "/metrics" = (bytes_eq-Decides path (codes "/metrics")).0 all in (
       [],
-      ap (λ (p : List ℕ). (response_of method p []).0) is ∙ ap (λ (b : Bool). (cond b (metrics []) (as_json method_not_allowed)).0) get,
-      λ at. (let e : true ≡ false = sym all ∙ ap (λ (p : List ℕ). bytes_eq p (codes "/metrics")) at in absurd cc),
+      [],
+      ap (λ (p : List ℕ). (response_of method p [] []).0) is ∙ ap (λ (b : Bool). (cond b (metrics [] []) (as_json method_not_allowed)).0) get,
+      ap is_constant is,
     )
 
 -- a path of queues
 pub of_named : (method path name : List ℕ) (route : Route) → bytes_eq method (codes "GET") ≡ true → bytes_eq path (codes "/metrics") ≡ false → Some (route, name) ≡ target_of path
     → TellsOfQueues method path
 of_named method path name route get other is =
-    let no_page : path ≢ codes "/" = λ at. some_is_none (route, name) (is ∙ ap target_of at) in
+    let no_page = not_so (bytes_eq path (codes "/")) (bytes_eq-Decides path (codes "/")) (λ at. some_is_none (route, name) (is ∙ ap target_of at)) in
+    let no_health = not_so (bytes_eq path (codes "/health")) (bytes_eq-Decides path (codes "/health")) (λ at. some_is_none (route, name) (is ∙ ap target_of at)) in
+    let other_path : is_constant path ≡ false = neither (bytes_eq path (codes "/")) (bytes_eq path (codes "/health")) no_page no_health in
     let sheets = some_sheet name ∷ [] in
     let answered : (answer_of method path sheets).0 ≡ 200 =
     ap (λ (o : Option (Route × List ℕ)). (if_allowed method o sheets).0) (sym is)
     ∙ ap (λ (b : Bool). (cond b (told route name sheets) method_not_allowed).0) get ∙ told_of route name in (
       sheets,
-      status_by_answer (bytes_eq path (codes "/")) (bytes_eq path (codes "/metrics")) (if_get method page) (if_get method (metrics sheets)) (answer_of method path sheets)
-          (not_so (bytes_eq path (codes "/")) (bytes_eq-Decides path (codes "/")) no_page) other answered,
-      no_page,
+      [],
+      status_by_answer (bytes_eq path (codes "/")) (bytes_eq path (codes "/health")) (bytes_eq path (codes "/metrics")) (if_get method page) (if_get method health)
+          (if_get method (metrics sheets [])) (answer_of method path sheets) other_path other answered,
+      other_path,
     )

@@ -1,8 +1,8 @@
 -- Of which queues a request asks for statistics.
-use Rattle.std.specs.Prelude.{◌≡◌, ◌≢◌, ℕ, List, [], codes, option_to_list}
+use Rattle.std.specs.Prelude.{◌≡◌, ℕ, false, List, [], option_to_list}
 use Rattle.board.specs.Sheet.{Statistics}
 use Rattle.statistics_api.specs.Answer.{queue_named}
-use Rattle.statistics_api.specs.Response.{response_of}
+use Rattle.statistics_api.specs.Response.{is_constant, response_of}
 use Rattle.statistics_api.specs.declared.asked.Asked.{Asked}
 use Rattle.statistics_api.specs.declared.asked.Asked.TheVariants.{Nothing, Queues, Queue}
 
@@ -12,6 +12,6 @@ taken Nothing sheets = []
 taken Queues sheets = sheets
 taken (Queue name) sheets = option_to_list (queue_named name.now sheets)
 
--- a request is answered with numbers of queues, where there are such: it is not one for the page, nor one that is refused by its method and path alone
+-- a request is answered with numbers, where there are such: it is not one for a constant, nor one that is refused by its method and path alone
 abbrev pub TellsOfQueues : List ℕ → List ℕ → Type 0
-TellsOfQueues method path = (sheets : List Statistics) × ((response_of method path sheets).0 ≡ 200) × (path ≢ codes "/")
+TellsOfQueues method path = (sheets : List Statistics) × (own : List ℕ) × ((response_of method path sheets own).0 ≡ 200) × (is_constant path ≡ false)

@@ -8,6 +8,8 @@ use Rattle.alarm.specs.AlarmState.{alarm_state_name}
 use Rattle.board.specs.Sheet.{Statistics}
 use Rattle.statistics_api.specs.Texts.{by_name}
 use Rattle.statistics_api.specs.declared.measure.Measure.{Measure}
+use Rattle.statistics_api.specs.declared.served.Requested.{Requested}
+use Rattle.statistics_api.specs.declared.served.Served.{Served}
 use Rattle.statistics_api.specs.declared.measure.Measure.TheVariants.{Visible, Delayed, InFlight, Age, Entries, Sent, SentSize, Received, EmptyReceives, Deleted, Refused, DeadLettersArrived}
 
 abbrev pub measure_name : Measure → List ℕ
@@ -72,9 +74,9 @@ escaped_byte c =
 abbrev pub escaped : List ℕ → List ℕ
 escaped text = flat_map escaped_byte text
 
--- the two lines before those of the queues
-abbrev pub head_text : List ℕ → List ℕ → List ℕ
-head_text name help = concat (codes "# HELP " ∷ name ∷ codes " " ∷ help ∷ codes "\n# TYPE " ∷ name ∷ codes " gauge\n" ∷ [])
+-- the two lines before the numbers of a metric, which is a gauge or a counter
+abbrev pub head_text : List ℕ → List ℕ → List ℕ → List ℕ
+head_text kind name help = concat (codes "# HELP " ∷ name ∷ codes " " ∷ help ∷ codes "\n# TYPE " ∷ name ∷ codes " " ∷ kind ∷ codes "\n" ∷ [])
 
 -- the line of a queue
 abbrev pub sample_text : Measure → Statistics → List ℕ
@@ -82,7 +84,7 @@ sample_text m s = concat (measure_name m ∷ codes "{queue=\"" ∷ escaped s.nam
 
 -- a metric of these queues
 abbrev pub family_text : List Statistics → Measure → List ℕ
-family_text sheets m = head_text (measure_name m) (measure_help m) ++ flat_map (sample_text m) sheets
+family_text sheets m = head_text (codes "gauge") (measure_name m) (measure_help m) ++ flat_map (sample_text m) sheets
 
 -- ---- alarms
 
@@ -115,9 +117,36 @@ queue_alarms_text s = flat_map (alarm_text s.name) s.alarms
 -- the alarms of these queues
 abbrev pub alarms_family_text : List Statistics → List ℕ
 alarms_family_text sheets =
-    head_text (codes "jutkariq_queue_alarm_state") (codes "1 for the state that the alarm is in, 0 for the two others.")
+    head_text (codes "gauge") (codes "jutkariq_queue_alarm_state") (codes "1 for the state that the alarm is in, 0 for the two others.")
     ++ flat_map queue_alarms_text sheets
 
--- all metrics; queues stand in the order of their names
-abbrev pub metrics_text : List Statistics → List ℕ
-metrics_text sheets = flat_map (family_text (by_name sheets)) measures ++ alarms_family_text (by_name sheets)
+-- ---- what a server tells of itself
+
+-- the line of an action's requests that were answered with a status
+abbrev pub request_text : Requested → List ℕ
+request_text r =
+    concat (codes "jutkariq_requests_total{action=\"" ∷ r.action.now ∷ codes "\",status=\"" ∷ decimal r.status ∷ codes "\"} " ∷ decimal r.count ∷ codes "\n" ∷ [])
+
+-- those that it has answered since it was started
+abbrev pub requests_family_text : List Requested → List ℕ
+requests_family_text requests =
+    head_text (codes "counter") (codes "jutkariq_requests_total") (codes "Requests answered since the server was started.") ++ flat_map request_text requests
+
+-- which one it is
+abbrev pub build_text : List ℕ → List ℕ
+build_text version =
+    head_text (codes "gauge") (codes "jutkariq_build_info") (codes "1 for the version of the server.")
+    ++ concat (codes "jutkariq_build_info{version=\"" ∷ version ∷ codes "\"} 1\n" ∷ [])
+
+-- when it was started
+abbrev pub start_text : ℕ → List ℕ
+start_text started =
+    head_text (codes "gauge") (codes "process_start_time_seconds") (codes "When the server was started, in seconds since 1970.")
+    ++ concat (codes "process_start_time_seconds " ∷ decimal started ∷ codes "\n" ∷ [])
+
+abbrev pub served_text : Served → List ℕ
+served_text s = requests_family_text s.requests.items ++ (build_text s.version.now ++ start_text s.started)
+
+-- all metrics: those of queues, which stand in the order of their names, and behind them what the server tells of itself
+abbrev pub metrics_text : List Statistics → List ℕ → List ℕ
+metrics_text sheets own = flat_map (family_text (by_name sheets)) measures ++ (alarms_family_text (by_name sheets) ++ own)

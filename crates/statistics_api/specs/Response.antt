@@ -1,6 +1,6 @@
--- What the port of the statistics answers (this project's own): the page at `/`, the text for Prometheus at `/metrics`, and at every other
--- path what `answer_of` says. A status, a content type and a text.
-use Rattle.std.specs.Prelude.{ℕ, List, codes, if◌then◌else◌}
+-- What the port of the statistics answers (this project's own): the page at `/`, that the server is there at `/health`, the text for Prometheus at
+-- `/metrics`, and at every other path what `answer_of` says. A status, a content type and a text.
+use Rattle.std.specs.Prelude.{ℕ, Bool, ◌||◌, List, codes, if◌then◌else◌}
 use Rattle.std.specs.Str.{bytes_eq}
 use Rattle.board.specs.Sheet.{Statistics}
 use Rattle.statistics_api.specs.Answer.{Answer, answer_of, method_not_allowed}
@@ -23,19 +23,30 @@ as_json answer = (answer.0, codes "application/json", answer.1)
 abbrev pub page : Told
 page = (200, codes "text/html; charset=utf-8", PAGE.now)
 
+-- that the server is there
+abbrev pub health : Told
+health = as_json (200, codes "{\"status\":\"ok\"}")
+
 -- a text for Prometheus
 abbrev pub for_prometheus : List ℕ → Told
 for_prometheus text = (200, codes "text/plain; version=0.0.4; charset=utf-8", text)
 
-abbrev pub metrics : List Statistics → Told
-metrics sheets = for_prometheus (metrics_text sheets)
+-- of queues, and what the server tells of itself
+abbrev pub metrics : List Statistics → List ℕ → Told
+metrics sheets own = for_prometheus (metrics_text sheets own)
 
 -- what is told to the method `GET`, and to no other
 abbrev pub if_get : List ℕ → Told → Told
 if_get method told = if bytes_eq method (codes "GET") then told else as_json method_not_allowed
 
-abbrev pub response_of : List ℕ → List ℕ → List Statistics → Told
-response_of method path sheets =
+-- the paths at which a constant is told
+abbrev pub is_constant : List ℕ → Bool
+is_constant path = bytes_eq path (codes "/") || bytes_eq path (codes "/health")
+
+-- what a method and a path are answered by these queues and by what the server tells of itself
+abbrev pub response_of : List ℕ → List ℕ → List Statistics → List ℕ → Told
+response_of method path sheets own =
     if bytes_eq path (codes "/") then if_get method page
-    else if bytes_eq path (codes "/metrics") then if_get method (metrics sheets)
+    else if bytes_eq path (codes "/health") then if_get method health
+    else if bytes_eq path (codes "/metrics") then if_get method (metrics sheets own)
     else as_json (answer_of method path sheets)

@@ -1,8 +1,8 @@
 //! The statistics of queues as a resource: paths, methods and texts (this project's own).
 //!
 //! - [`answer`]: the status and the text that a request is answered.
-//! - [`respond`]: what the port of the statistics answers: the page and the metrics too. [`asked_for`]: the queues
-//!   whose statistics that takes.
+//! - [`respond`]: what the port of the statistics answers: the page, the metrics and the word on its health too.
+//!   [`asked_for`]: the queues whose statistics that takes. [`Served`]: what a server tells of itself.
 //! - [`Text`]: a text that was written, or a constant.
 //! - [`sheet_text`], [`sheets_text`], [`rows_text`], [`alarms_text`]: the texts alone.
 //! - The function of [`laws`] is empty: its contract is a law about the definitions in `specs/`.
@@ -20,6 +20,7 @@ mod port;
 mod put;
 mod replies;
 mod routes;
+mod served;
 #[cfg(test)]
 mod tests;
 mod text;
@@ -31,5 +32,6 @@ pub use metrics::metrics_text;
 pub use page::PAGE;
 pub use port::{Response, out_of_memory, respond};
 pub use replies::answer;
+pub use served::{Requested, Served};
 pub use text::Text;
 pub use texts::{alarms_text, rows_text, sheet_text, sheets_text};

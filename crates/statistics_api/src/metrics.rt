@@ -3,20 +3,21 @@
 ghost use Rattle.std.specs.Prelude.{◌≡◌, Ok, flat_map, map, string_bytes};
 ghost use Rattle.message.specs.Fault.{Meets};
 ghost use Rattle.statistics_api.specs.Steps.{result_map};
-ghost use Rattle.statistics_api.specs.Metrics.{head_text, sample_text, family_text, state_digit, state_text, alarm_text, queue_alarms_text, alarms_family_text, metrics_text};
+ghost use Rattle.statistics_api.specs.Metrics.{head_text, sample_text, family_text, state_digit, state_text, alarm_text, queue_alarms_text, alarms_family_text, request_text, requests_family_text, build_text, start_text, served_text, metrics_text};
 
 use crate::measure::{MEASURES, Measure};
 use crate::order::by_name;
+use crate::served::{Requested, Served};
 use alarm::AlarmState;
 use board::Sheet;
 use message::{Fault, QueueName};
 use std::alloc::Global;
 
-/// The two lines before those of the queues.
-fn head(alloc: Global, name: &str, help: &str) -> Result<String, Fault>
-    ensures { Meets (result_map (λ s. string_bytes s) result) (Ok (head_text name.now help.now)) }
+/// The two lines before the numbers of a metric, which is a gauge or a counter.
+fn head(alloc: Global, kind: &str, name: &str, help: &str) -> Result<String, Fault>
+    ensures { Meets (result_map (λ s. string_bytes s) result) (Ok (head_text kind.now name.now help.now)) }
 {
-    Ok(format!(in alloc; "# HELP {name} {help}\n# TYPE {name} gauge\n")?)
+    Ok(format!(in alloc; "# HELP {name} {help}\n# TYPE {name} {kind}\n")?)
 }
 
 /// The line of a queue. A queue's name has no character that is escaped.
@@ -47,7 +48,7 @@ fn family(alloc: Global, measure: Measure, sheets: &[&Sheet]) -> Result<String, 
 {
     let name = measure.name();
     let help = measure.help();
-    let first = head(alloc, name, help)?;
+    let first = head(alloc, "gauge", name, help)?;
     let lines = samples(alloc, measure, sheets)?;
     Ok(format!(in alloc; "{first}{lines}")?)
 }
@@ -143,19 +144,82 @@ fn alarms_family(alloc: Global, sheets: &[&Sheet]) -> Result<String, Fault>
     ensures { Meets (result_map (λ s. string_bytes s) result) (Ok (alarms_family_text (map (λ s. s.now) sheets.now))) }
 {
     let help = "1 for the state that the alarm is in, 0 for the two others.";
-    let first = head(alloc, "jutkariq_queue_alarm_state", help)?;
+    let first = head(alloc, "gauge", "jutkariq_queue_alarm_state", help)?;
     let lines = all_alarms(alloc, sheets)?;
     Ok(format!(in alloc; "{first}{lines}")?)
 }
 
-/// The text that Prometheus reads (this project's own metrics, in Prometheus's text format): each
-/// metric, and in it a line for each queue, in the order of their names. `OutOfMemory` is the only
-/// refusal.
-pub fn metrics_text(alloc: Global, sheets: &[Sheet]) -> Result<String, Fault>
-    ensures { Meets (result_map (λ s. string_bytes s) result) (Ok (metrics_text sheets.now)) }
+/// The line of an action's requests that were answered with a status.
+fn request(alloc: Global, requested: &Requested) -> Result<String, Fault>
+    ensures { Meets (result_map (λ s. string_bytes s) result) (Ok (request_text requested.now)) }
+{
+    let action = requested.action;
+    let status = requested.status;
+    let count = requested.count;
+    Ok(format!(in alloc;
+        "jutkariq_requests_total{{action=\"{action}\",status=\"{status}\"}} {count}\n"
+    )?)
+}
+
+/// The lines of all.
+fn all_requests(alloc: Global, requests: &[Requested]) -> Result<String, Fault>
+    ensures { Meets (result_map (λ s. string_bytes s) result) (Ok (flat_map request_text requests.now)) }
+{
+    let mut text = String::new(alloc);
+    for requested in requests {
+        let line = request(alloc, requested)?;
+        text.push_str(line.as_str())?;
+    }
+    Ok(text)
+}
+
+/// The requests that were answered.
+fn requests_family(alloc: Global, requests: &[Requested]) -> Result<String, Fault>
+    ensures { Meets (result_map (λ s. string_bytes s) result) (Ok (requests_family_text requests.now)) }
+{
+    let help = "Requests answered since the server was started.";
+    let first = head(alloc, "counter", "jutkariq_requests_total", help)?;
+    let lines = all_requests(alloc, requests)?;
+    Ok(format!(in alloc; "{first}{lines}")?)
+}
+
+/// Which server it is.
+fn build(alloc: Global, version: &str) -> Result<String, Fault>
+    ensures { Meets (result_map (λ s. string_bytes s) result) (Ok (build_text version.now)) }
+{
+    let help = "1 for the version of the server.";
+    let first = head(alloc, "gauge", "jutkariq_build_info", help)?;
+    Ok(format!(in alloc; "{first}jutkariq_build_info{{version=\"{version}\"}} 1\n")?)
+}
+
+/// When it was started.
+fn start(alloc: Global, started: u64) -> Result<String, Fault>
+    ensures { Meets (result_map (λ s. string_bytes s) result) (Ok (start_text started)) }
+{
+    let help = "When the server was started, in seconds since 1970.";
+    let first = head(alloc, "gauge", "process_start_time_seconds", help)?;
+    Ok(format!(in alloc; "{first}process_start_time_seconds {started}\n")?)
+}
+
+/// What a server tells of itself.
+fn served(alloc: Global, served: &Served) -> Result<String, Fault>
+    ensures { Meets (result_map (λ s. string_bytes s) result) (Ok (served_text served.now)) }
+{
+    let requests = requests_family(alloc, served.requests.as_slice())?;
+    let build = build(alloc, served.version)?;
+    let start = start(alloc, served.started)?;
+    Ok(format!(in alloc; "{requests}{build}{start}")?)
+}
+
+/// The text that Prometheus reads (this project's own metrics, in Prometheus's text format): each metric of queues, and
+/// in it a line for each queue, in the order of their names; then what the server tells of itself. `OutOfMemory` is
+/// the only refusal.
+pub fn metrics_text(alloc: Global, sheets: &[Sheet], server: &Served) -> Result<String, Fault>
+    ensures { Meets (result_map (λ s. string_bytes s) result) (Ok (metrics_text sheets.now (served_text server.now))) }
 {
     let order = by_name(alloc, sheets)?;
     let numbers = families(alloc, &MEASURES, order.as_slice())?;
     let alarms = alarms_family(alloc, order.as_slice())?;
-    Ok(format!(in alloc; "{numbers}{alarms}")?)
+    let own = served(alloc, server)?;
+    Ok(format!(in alloc; "{numbers}{alarms}{own}")?)
 }

@@ -1,14 +1,16 @@
 //! What the port of the statistics answers.
 
-ghost use Rattle.std.specs.Prelude.{◌≡◌, ◌≢◌, ◌⊎◌, false, codes, string_bytes};
+ghost use Rattle.std.specs.Prelude.{◌≡◌, ◌≢◌, ◌⊎◌, true, false, string_bytes};
 ghost use Rattle.statistics_api.specs.Text.{is_written, shown};
 ghost use Rattle.statistics_api.specs.Answer.{out_of_memory};
-ghost use Rattle.statistics_api.specs.Response.{told_by, as_json, page, for_prometheus, metrics, if_get, response_of};
+ghost use Rattle.statistics_api.specs.Metrics.{served_text};
+ghost use Rattle.statistics_api.specs.Response.{told_by, as_json, page, health, for_prometheus, metrics, if_get, is_constant, response_of};
 
 use crate::metrics::metrics_text;
 use crate::page::PAGE;
 use crate::replies;
 use crate::replies::{answer, method_not_allowed};
+use crate::served::Served;
 use crate::text::Text;
 use board::Sheet;
 use std::alloc::Global;
@@ -60,6 +62,25 @@ fn page_to(method: &str) -> Response
     page()
 }
 
+/// That the server is there.
+fn health() -> Response
+    ensures told { told_by result ≡ health }
+    ensures constant { is_written result.text ≡ false }
+{
+    as_json((200, Text::Constant(r#"{"status":"ok"}"#)))
+}
+
+/// The same, where the method is `GET`.
+fn health_to(method: &str) -> Response
+    ensures told { told_by result ≡ if_get method.now health }
+    ensures constant { is_written result.text ≡ false }
+{
+    if method != "GET" {
+        return as_json(method_not_allowed());
+    }
+    health()
+}
+
 /// A text for Prometheus.
 fn for_prometheus(text: String) -> Response
     ensures told { told_by result ≡ for_prometheus (string_bytes text) }
@@ -82,42 +103,48 @@ pub fn out_of_memory() -> Response
 }
 
 /// The metrics, or want of memory.
-fn metrics(alloc: Global, sheets: &[Sheet]) -> Response
-    ensures told { (told_by result ≡ metrics sheets.now) ⊎ (told_by result ≡ as_json out_of_memory) }
+fn metrics(alloc: Global, sheets: &[Sheet], served: &Served) -> Response
+    ensures told { (told_by result ≡ metrics sheets.now (served_text served.now)) ⊎ (told_by result ≡ as_json out_of_memory) }
     ensures constant { (result.status ≡ 200) ⊎ (is_written result.text ≡ false) }
 {
-    match metrics_text(alloc, sheets) {
+    match metrics_text(alloc, sheets, served) {
         Ok(text) => for_prometheus(text),
         Err(_) => out_of_memory(),
     }
 }
 
 /// The metrics, where the method is `GET`, or want of memory.
-fn metrics_to(alloc: Global, method: &str, sheets: &[Sheet]) -> Response
-    ensures told { (told_by result ≡ if_get method.now (metrics sheets.now)) ⊎ (told_by result ≡ as_json out_of_memory) }
-    ensures exact { (if_get method.now (metrics sheets.now)).0 ≢ 200 → told_by result ≡ if_get method.now (metrics sheets.now) }
+fn metrics_to(alloc: Global, method: &str, sheets: &[Sheet], served: &Served) -> Response
+    ensures told { (told_by result ≡ if_get method.now (metrics sheets.now (served_text served.now))) ⊎ (told_by result ≡ as_json out_of_memory) }
+    ensures exact { (if_get method.now (metrics sheets.now (served_text served.now))).0 ≢ 200 → told_by result ≡ if_get method.now (metrics sheets.now (served_text served.now)) }
     ensures constant { (result.status ≡ 200) ⊎ (is_written result.text ≡ false) }
 {
     if method != "GET" {
         return as_json(method_not_allowed());
     }
-    metrics(alloc, sheets)
+    metrics(alloc, sheets, served)
 }
 
-/// What the port of the statistics answers (this project's own): to `GET /` the page, which takes no
-/// memory; to `GET /metrics` the numbers of all queues for Prometheus; to every other path what
-/// [`answer`] says. Another method on these two paths is 405. 500 may stand in the place of a 200 for
-/// want of memory, but not of the page's, and of no other answer.
-pub fn respond(alloc: Global, method: &str, path: &str, sheets: &[Sheet]) -> Response
-    ensures response { (told_by result ≡ response_of method.now path.now sheets.now) ⊎ (told_by result ≡ as_json out_of_memory) }
-    ensures page { path.now ≡ codes "/" → told_by result ≡ response_of method.now path.now sheets.now }
-    ensures exact { (response_of method.now path.now sheets.now).0 ≢ 200 → told_by result ≡ response_of method.now path.now sheets.now }
-    ensures constant { (result.status ≡ 200) ⊎ (is_written result.text ≡ false) }
-    ensures page_constant { path.now ≡ codes "/" → is_written result.text ≡ false }
+/// What the port of the statistics answers (this project's own): to `GET /` the page, and to `GET /health` that the
+/// server is there, which take no memory; to `GET /metrics` the numbers of all queues and of the server for
+/// Prometheus; to every other path what [`answer`] says. Another method on these three paths is 405. 500 may stand in
+/// the place of a 200 for want of memory, but not of a constant's, and of no other answer.
+pub fn respond(
+    alloc: Global,
+    method: &str,
+    path: &str,
+    sheets: &[Sheet],
+    served: &Served,
+) -> Response
+    ensures response { (told_by result ≡ response_of method.now path.now sheets.now (served_text served.now)) ⊎ (told_by result ≡ as_json out_of_memory) }
+    ensures constant { is_constant path.now ≡ true → told_by result ≡ response_of method.now path.now sheets.now (served_text served.now) }
+    ensures exact { (response_of method.now path.now sheets.now (served_text served.now)).0 ≢ 200 → told_by result ≡ response_of method.now path.now sheets.now (served_text served.now) }
+    ensures written { is_written result.text ≡ true → (result.status ≡ 200) × (is_constant path.now ≡ false) }
 {
     match path {
         "/" => page_to(method),
-        "/metrics" => metrics_to(alloc, method, sheets),
+        "/health" => health_to(method),
+        "/metrics" => metrics_to(alloc, method, sheets, served),
         _ => as_json(answer(alloc, method, path, sheets)),
     }
 }

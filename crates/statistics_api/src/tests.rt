@@ -167,6 +167,8 @@ POST /statistics/queues/jobs/rows => 405
 POST /statistics/queues/jobs/alarms => 405
 POST /metrics => 405
 POST / => 405
+POST /health => 405
+GET /health/ => 404
 "#;
 
 /// With ample memory each path answers, and where memory was refused it answers 500, and then its text. What is
@@ -180,20 +182,46 @@ fn refused_memory(rt: HostRuntime) -> Result<(), Fail> {
     for line in CALLS.lines() {
         hold(&rt, rt.alloc(), sheets.as_slice(), line)?;
     }
+    let server = Served {
+        version: "1",
+        started: 0,
+        requests: Vec::new(rt.alloc()),
+    };
     for line in REFUSALS.lines() {
         let (call, status) = line.split_once(" => ").ok_or("a status")?;
         let (method, path) = call.split_once(' ').ok_or("a method")?;
-        let response = respond(rt.alloc(), method, path, sheets.as_slice());
+        let response = respond(rt.alloc(), method, path, sheets.as_slice(), &server);
         assert_eq!(rt; Some(response.status), status.parse::<u16>().ok(), "{call}");
     }
     Ok(())
+}
+
+/// A server that has answered three requests.
+fn server(alloc: Global) -> Result<Served, Fault> {
+    let mut requests = Vec::new(alloc);
+    requests.push(Requested {
+        action: "SendMessage",
+        status: 200,
+        count: 2,
+    })?;
+    requests.push(Requested {
+        action: "-",
+        status: 405,
+        count: 1,
+    })?;
+    Ok(Served {
+        version: "1.2.3",
+        started: 1764218284,
+        requests,
+    })
 }
 
 /// What the port answers of the queues jobs and a: the status, the content type and the text; but in the
 /// place of the page `PAGE`.
 fn told_on_port(alloc: Global, sheets: &[Sheet], call: &str) -> Result<String, Fault> {
     let (method, path) = call.rsplit_once(' ').unwrap_or((call, ""));
-    let response = respond(alloc, method, path, sheets);
+    let server = server(alloc)?;
+    let response = respond(alloc, method, path, sheets, &server);
     if response.status == 500 {
         return Err(Fault::OutOfMemory);
     }
@@ -265,11 +293,24 @@ jutkariq_queue_alarm_state{queue="jobs",alarm="calm",state="INSUFFICIENT_DATA"} 
 jutkariq_queue_alarm_state{queue="jobs",alarm="busy",state="OK"} 0
 jutkariq_queue_alarm_state{queue="jobs",alarm="busy",state="ALARM"} 1
 jutkariq_queue_alarm_state{queue="jobs",alarm="busy",state="INSUFFICIENT_DATA"} 0
+# HELP jutkariq_requests_total Requests answered since the server was started.
+# TYPE jutkariq_requests_total counter
+jutkariq_requests_total{action="SendMessage",status="200"} 2
+jutkariq_requests_total{action="-",status="405"} 1
+# HELP jutkariq_build_info 1 for the version of the server.
+# TYPE jutkariq_build_info gauge
+jutkariq_build_info{version="1.2.3"} 1
+# HELP process_start_time_seconds When the server was started, in seconds since 1970.
+# TYPE process_start_time_seconds gauge
+process_start_time_seconds 1764218284
 "#;
 
 /// What else the port answers.
 const PORT: &str = r#"GET / => 200 text/html; charset=utf-8 PAGE
 POST / => 405 application/json {"message":"method not allowed"}
+GET /health => 200 application/json {"status":"ok"}
+HEAD /health => 405 application/json {"message":"method not allowed"}
+GET /health/ => 404 application/json {"message":"not found"}
 HEAD /metrics => 405 application/json {"message":"method not allowed"}
 GET /metrics/ => 404 application/json {"message":"not found"}
 GET /statistics/queues/jobs/rows/ => 404 application/json {"message":"not found"}

@@ -3,33 +3,44 @@
 use super::same;
 use crate::ReplayFault;
 use crate::program::{
-    Refusal, configuration_in, default_configuration, exit_code, message_of, path_among,
+    Refusal, Wanted, arguments_among, configuration_in, default_configuration, exit_code,
+    message_of,
 };
 use queue_config::ConfigFault;
+use std::alloc::Global;
 use std::io;
 use std::process::ExitCode;
 use std::test::Fail;
 
 /// What so many arguments, with a space between them, ask for.
-fn asked(rt: &HostRuntime, arguments: &str) -> Result<Result<Option<String>, Refusal>, Fail> {
+fn asked(rt: &HostRuntime, arguments: &str) -> Result<Result<Wanted, Refusal>, Fail> {
     let mut given = Vec::new(rt.alloc());
     for argument in arguments.split(' ') {
         given.push(String::from_str(rt.alloc(), argument)?)?;
     }
-    Ok(path_among(Ok(given.into_iter())))
+    Ok(arguments_among(Ok(given.into_iter())))
+}
+
+/// The refusal of the configuration of a file that was read so, if it is one.
+fn refusal_in(alloc: Global, bytes: io::Result<Vec<u8>>) -> Option<Refusal> {
+    match configuration_in(alloc, "config.toml", bytes) {
+        Ok(_) => None,
+        Err(ending) => Some(ending.refusal),
+    }
 }
 
 /// The refusal of the configuration of a file with such bytes, if it is one.
 fn refusal_of(rt: &HostRuntime, text: &[u8]) -> Result<Option<Refusal>, Fail> {
     let mut bytes = Vec::new(rt.alloc());
     bytes.extend_from_slice(text)?;
-    Ok(configuration_in(rt.alloc(), Ok(bytes)).err())
+    Ok(refusal_in(rt.alloc(), Ok(bytes)))
 }
 
-/// Refusals, each with what the program tells of it and its status: of two arguments, of arguments that
-/// are no text and for which there is no memory; of a file that is no configuration, no text, absent, and
+/// Refusals, each with what the program tells of it and its status: of two arguments, of an option that there is not,
+/// of arguments that are no text and for which there is no memory; of a file that is no configuration, no text, absent, and
 /// for which there is no memory; and the others.
 const REFUSALS: &str = "Usage: usage: sqs_replay [config.toml], status 2
+Usage: usage: sqs_replay [config.toml], status 2
 Usage: usage: sqs_replay [config.toml], status 2
 Replay(OutOfMemory): sqs_replay: out of memory, status 1
 Config(Syntax): sqs_replay: config: Syntax, status 1
@@ -57,19 +68,25 @@ fn tell(told: &mut String, refusal: Refusal) -> Result<(), Fail> {
 fn refusals(rt: HostRuntime) -> Result<(), Fail> {
     let (alloc, mut told) = (rt.alloc(), String::new(rt.alloc()));
     let path = String::from_str(alloc, "config.toml")?;
-    same(asked(&rt, "sqs_replay")?, Ok(None))?;
-    same(asked(&rt, "sqs_replay config.toml")?, Ok(Some(path)))?;
+    same(asked(&rt, "sqs_replay")?, Ok(Wanted::Run(None)))?;
+    same(
+        asked(&rt, "sqs_replay config.toml")?,
+        Ok(Wanted::Run(Some(path))),
+    )?;
+    same(asked(&rt, "sqs_replay -h")?, Ok(Wanted::Help))?;
+    same(asked(&rt, "sqs_replay --version")?, Ok(Wanted::Version))?;
     same(default_configuration(alloc).is_ok(), true)?;
     same(refusal_of(&rt, b"[limits]\nmax_lines = 4\n")?, None)?;
     same(exit_code(&Ok(())) == ExitCode::from(0), true)?;
     for refusal in [
         asked(&rt, "sqs_replay config.toml more")?.err(),
-        path_among(Err(io::Error::from(io::ErrorKind::InvalidData))).err(),
-        path_among(Err(io::Error::from(io::ErrorKind::OutOfMemory))).err(),
+        asked(&rt, "sqs_replay --verbose")?.err(),
+        arguments_among(Err(io::Error::from(io::ErrorKind::InvalidData))).err(),
+        arguments_among(Err(io::Error::from(io::ErrorKind::OutOfMemory))).err(),
         refusal_of(&rt, b"[")?,
         refusal_of(&rt, b"\xFF")?,
-        configuration_in(alloc, Err(io::Error::from(io::ErrorKind::NotFound))).err(),
-        configuration_in(alloc, Err(io::Error::from(io::ErrorKind::OutOfMemory))).err(),
+        refusal_in(alloc, Err(io::Error::from(io::ErrorKind::NotFound))),
+        refusal_in(alloc, Err(io::Error::from(io::ErrorKind::OutOfMemory))),
         Some(Refusal::Config(ConfigFault::UnknownKey)),
         Some(Refusal::Config(ConfigFault::OutOfMemory)),
         Some(Refusal::Replay(ReplayFault::Write)),

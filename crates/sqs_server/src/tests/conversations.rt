@@ -4,20 +4,20 @@ use super::*;
 
 /// A conversation's first line says what it shows; then come the lines of its configuration. Behind `--` each line
 /// is what a client does: `asks` an action with a body; `sends` bytes, a tilde for the end of a line; sends so many
-/// `chunks`, or pieces of `blanks`; `gets` a status and a body, or what `begins` so, `holds` or `lacks` a text; `waits`,
+/// `chunks`, or pieces of `blanks`; `logs` what the server tells on standard error next, behind a time of day; `gets` a status and a body, or what `begins` so, `holds` or `lacks` a text; `waits`,
 /// and gets nothing; `leaves`, at once or so many milliseconds later. A client with a small letter is one of the port
 /// for statistics: it `views` a path, and gets the content type too.
 const CONVERSATIONS: &str = r#"a creation, on a connection that its client asks to be closed
 --
 A sends POST / HTTP/1.1~Host: localhost~X-Amz-Target: AmazonSQS.CreateQueue~Content-Length: 20~Connection: close~~{"QueueName":"jobs"}
-A gets 200 {"QueueUrl":"http://localhost:9324/000000000000/jobs"}
+A gets 200 {"QueueUrl":"http://localhost:PORT/000000000000/jobs"}
 
 several requests on one connection
 --
 A asks CreateQueue {"QueueName":"jobs"}
-A gets 200 {"QueueUrl":"http://localhost:9324/000000000000/jobs"}
+A gets 200 {"QueueUrl":"http://localhost:PORT/000000000000/jobs"}
 A asks CreateQueue {"QueueName":"jobs"}
-A gets 200 {"QueueUrl":"http://localhost:9324/000000000000/jobs"}
+A gets 200 {"QueueUrl":"http://localhost:PORT/000000000000/jobs"}
 A asks SendMessage {"QueueUrl":"jobs","MessageBody":"hello"}
 A gets 200 {"MD5OfMessageBody":"5d41402abc4b2a76b9719d911017c592","MessageId":"00000000-0000-0001-0000-000000000000"}
 A asks ReceiveMessage {"QueueUrl":"jobs"}
@@ -83,7 +83,7 @@ A gets 400 {"__type":"com.amazonaws.sqs#QueueDoesNotExist","message":"The specif
 settings that a creation gives, and that are read, compared and changed
 --
 A asks CreateQueue {"QueueName":"jobs","Attributes":{"VisibilityTimeout":"7","DelaySeconds":"600","MessageRetentionPeriod":"6000","ReceiveMessageWaitTimeSeconds":"2","MaximumMessageSize":"2048"}}
-A gets 200 {"QueueUrl":"http://localhost:9324/000000000000/jobs"}
+A gets 200 {"QueueUrl":"http://localhost:PORT/000000000000/jobs"}
 A asks GetQueueAttributes {"QueueUrl":"jobs","AttributeNames":["DelaySeconds","MaximumMessageSize","MessageRetentionPeriod","QueueArn","ReceiveMessageWaitTimeSeconds","VisibilityTimeout"]}
 A gets 200 {"Attributes":{"DelaySeconds":"600","MaximumMessageSize":"2048","MessageRetentionPeriod":"6000","QueueArn":"arn:aws:sqs:elasticmq:000000000000:jobs","ReceiveMessageWaitTimeSeconds":"2","VisibilityTimeout":"7"}}
 A asks GetQueueAttributes {"QueueUrl":"jobs","AttributeNames":["CreatedTimestamp"]}
@@ -97,7 +97,7 @@ A gets 200 {"Attributes":{"ApproximateNumberOfMessages":"0","ApproximateNumberOf
 A asks CreateQueue {"QueueName":"jobs","Attributes":{"VisibilityTimeout":"8"}}
 A gets 400 {"__type":"com.amazonaws.sqs#QueueNameExists","message":"A queue of this name exists with other attributes."}
 A asks CreateQueue {"QueueName":"jobs","Attributes":{"VisibilityTimeout":"7"}}
-A gets 200 {"QueueUrl":"http://localhost:9324/000000000000/jobs"}
+A gets 200 {"QueueUrl":"http://localhost:PORT/000000000000/jobs"}
 A asks SetQueueAttributes {"QueueUrl":"jobs","Attributes":{"VisibilityTimeout":"8"}}
 A gets 200 {}
 A asks CreateQueue {"QueueName":"jobs","Attributes":{"VisibilityTimeout":"7"}}
@@ -131,24 +131,24 @@ queues that are created, found, listed and deleted
 name = "alpha"
 --
 A asks CreateQueue {"QueueName":"beta","Attributes":{"RedrivePolicy":"{\"deadLetterTargetArn\":\"arn:aws:sqs:elasticmq:000000000000:alpha\",\"maxReceiveCount\":3}"}}
-A gets 200 {"QueueUrl":"http://localhost:9324/000000000000/beta"}
+A gets 200 {"QueueUrl":"http://localhost:PORT/000000000000/beta"}
 A asks CreateQueue {"QueueName":"beta","Attributes":{"VisibilityTimeout":"5"}}
 A gets 400 {"__type":"com.amazonaws.sqs#QueueNameExists","message":"A queue of this name exists with other attributes."}
 A asks GetQueueUrl {"QueueName":"beta"}
-A gets 200 {"QueueUrl":"http://localhost:9324/000000000000/beta"}
+A gets 200 {"QueueUrl":"http://localhost:PORT/000000000000/beta"}
 A asks GetQueueUrl {"QueueName":"gamma"}
 A gets 400 {"__type":"com.amazonaws.sqs#QueueDoesNotExist","message":"The specified queue does not exist."}
 A asks ListQueues {}
-A gets 200 {"QueueUrls":["http://localhost:9324/000000000000/alpha","http://localhost:9324/000000000000/beta"]}
+A gets 200 {"QueueUrls":["http://localhost:PORT/000000000000/alpha","http://localhost:PORT/000000000000/beta"]}
 A asks ListQueues {"QueueNamePrefix":"b"}
-A gets 200 {"QueueUrls":["http://localhost:9324/000000000000/beta"]}
-A asks ListDeadLetterSourceQueues {"QueueUrl":"http://localhost:9324/000000000000/alpha"}
-A gets 200 {"queueUrls":["http://localhost:9324/000000000000/beta"]}
+A gets 200 {"QueueUrls":["http://localhost:PORT/000000000000/beta"]}
+A asks ListDeadLetterSourceQueues {"QueueUrl":"http://localhost:PORT/000000000000/alpha"}
+A gets 200 {"queueUrls":["http://localhost:PORT/000000000000/beta"]}
 A asks SetQueueAttributes {"QueueUrl":"beta","Attributes":{"RedrivePolicy":""}}
 A gets 200 {}
-A asks ListDeadLetterSourceQueues {"QueueUrl":"http://localhost:9324/000000000000/alpha"}
+A asks ListDeadLetterSourceQueues {"QueueUrl":"http://localhost:PORT/000000000000/alpha"}
 A gets 200 {"queueUrls":[]}
-A asks DeleteQueue {"QueueUrl":"http://localhost:9324/000000000000/alpha"}
+A asks DeleteQueue {"QueueUrl":"http://localhost:PORT/000000000000/alpha"}
 A gets 200 {}
 A asks GetQueueUrl {"QueueName":"alpha"}
 A gets 400 {"__type":"com.amazonaws.sqs#QueueDoesNotExist","message":"The specified queue does not exist."}
@@ -180,7 +180,7 @@ dead_letter_queue = "dead"
 max_receive_count = 1
 --
 A asks ListDeadLetterSourceQueues {"QueueUrl":"dead"}
-A gets 200 {"queueUrls":["http://localhost:9324/000000000000/jobs"]}
+A gets 200 {"queueUrls":["http://localhost:PORT/000000000000/jobs"]}
 A asks SetQueueAttributes {"QueueUrl":"jobs","Attributes":{"RedrivePolicy":""}}
 A gets 200 {}
 A asks ListDeadLetterSourceQueues {"QueueUrl":"dead"}
@@ -190,7 +190,7 @@ A gets 200 {}
 A asks SetQueueAttributes {"QueueUrl":"jobs","Attributes":{"RedrivePolicy":"{\"deadLetterTargetArn\":\"arn:aws:sqs:elasticmq:000000000000:nosuch\",\"maxReceiveCount\":2}"}}
 A gets 400 {"__type":"com.amazonaws.sqs#InvalidAttributeValue","message":"Attribute value not allowed."}
 A asks ListDeadLetterSourceQueues {"QueueUrl":"dead"}
-A gets 200 {"queueUrls":["http://localhost:9324/000000000000/jobs"]}
+A gets 200 {"queueUrls":["http://localhost:PORT/000000000000/jobs"]}
 
 a message that is made visible again, and then purged
 [[queue]]
@@ -223,6 +223,75 @@ C asks Foo {
 C gets 400 {"__type":"com.amazonaws.sqs#UnsupportedOperation","message":"The action is not supported."}
 D sends GET / HTTP/1.1~Host: localhost~~
 D gets 405 {"message":"method not allowed"}
+
+what is told on standard error: requests that were refused, and nothing of others
+[[queue]]
+name = "jobs"
+--
+A asks SendMessage {"QueueUrl":"jobs","MessageBody":""}
+A begins 400 {
+A logs SendMessage jobs 400 InvalidParameterValue: MessageBody is empty
+A asks SendMessage {"QueueUrl":"jobs","MessageBody":"a"}
+A begins 200 {
+A asks SendMessageBatch {"QueueUrl":"jobs","Entries":[{"Id":"a","MessageBody":"b"},{"Id":"b","MessageBody":"c","DelaySeconds":901}]}
+A begins 200 {"Failed":[{"Code":"InvalidParameterValue","Id":"b"
+A logs SendMessageBatch jobs 200 InvalidParameterValue: Entries[1].DelaySeconds is 901, and 0 to 900 is wanted; 1 entry was refused
+A asks ReceiveMessage {"QueueUrl":"http://localhost:9324/000000000000/nosuch"}
+A begins 400 {
+A logs ReceiveMessage nosuch 400 QueueDoesNotExist: QueueUrl names the queue nosuch, and no open queue has this name
+A asks Foo {}
+A begins 400 {
+A logs - - 400 UnsupportedOperation: The action Foo is not served
+A sends GET / HTTP/1.1~Host: localhost~~
+A begins 405 {
+A logs - - 405 MethodNotAllowed: its method is not POST
+A sends POST / HTTP/1.1~Host: localhost~Origin: http://example.com~Content-Length: 2~~{}
+A begins 403 {
+A logs - - 403 Forbidden: the request has the header Origin, as requests of web pages do
+a views /metrics
+a holds jutkariq_requests_total{action="SendMessage",status="200"} 1
+a views /metrics
+a holds jutkariq_requests_total{action="SendMessage",status="400"} 1
+a views /metrics
+a holds jutkariq_requests_total{action="ReceiveMessage",status="400"} 1
+a views /metrics
+a holds jutkariq_requests_total{action="-",status="405"} 1
+a views /metrics
+a lacks action="DeleteMessage"
+a views /health
+a gets 200 application/json {"status":"ok"}
+
+an origin, as a web page has it, whatever the method and the announced size are; and none
+--
+A sends POST / HTTP/1.1~Host: localhost~Origin: http://localhost:9325~X-Amz-Target: AmazonSQS.ListQueues~Content-Length: 2~~{}
+A gets 403 {"message":"requests of web pages are not answered"}
+B sends OPTIONS / HTTP/1.1~Host: localhost~Origin: https://example.com~~
+B gets 403 {"message":"requests of web pages are not answered"}
+C sends PUT / HTTP/1.1~Host: localhost~Origin: null~Expect: 100-continue~Content-Length: 8388609~~
+C gets 403 {"message":"requests of web pages are not answered"}
+D sends POST / HTTP/1.1~Host: example.com~X-Amz-Target: AmazonSQS.ListQueues~Content-Length: 2~~{}
+D gets 200 {"QueueUrls":[]}
+
+hosts at the port of the statistics: the machine's own names, with a port and without one, and others
+--
+a sends GET /statistics/queues HTTP/1.1~Host: localhost~~
+a gets 200 application/json {"queues":[]}
+a sends GET /statistics/queues HTTP/1.1~Host: localhost:9325~~
+a gets 200 application/json {"queues":[]}
+a sends GET /statistics/queues HTTP/1.1~Host: 127.0.0.1~~
+a gets 200 application/json {"queues":[]}
+a sends GET /statistics/queues HTTP/1.1~Host: 127.0.0.1:80~~
+a gets 200 application/json {"queues":[]}
+a sends GET /statistics/queues HTTP/1.1~Host: [::1]~~
+a gets 200 application/json {"queues":[]}
+a sends GET /statistics/queues HTTP/1.1~Host: [::1]:9325~~
+a gets 200 application/json {"queues":[]}
+b sends GET /statistics/queues HTTP/1.1~Host: example.com:9325~~
+b gets 403 application/json {"message":"this host is not served"}
+c sends GET / HTTP/1.1~Host: localhost.example.com~~
+c gets 403 application/json {"message":"this host is not served"}
+d sends POST /nothing HTTP/1.1~Host: 127.0.0.11~Content-Length: 0~~
+d gets 403 application/json {"message":"this host is not served"}
 
 a body that is announced with one byte too many, whatever the target is, and another method whatever is announced
 --
@@ -347,17 +416,17 @@ F gets 200 {"Messages":[{"Body":"a","MD5OfBody":"0cc175b9c0f1b6a831c399e26977266
 deletions whose connection is cut up to five milliseconds behind them: each name is free
 --
 A asks CreateQueue {"QueueName":"a0"}
-A gets 200 {"QueueUrl":"http://localhost:9324/000000000000/a0"}
+A gets 200 {"QueueUrl":"http://localhost:PORT/000000000000/a0"}
 A asks CreateQueue {"QueueName":"a1"}
-A gets 200 {"QueueUrl":"http://localhost:9324/000000000000/a1"}
+A gets 200 {"QueueUrl":"http://localhost:PORT/000000000000/a1"}
 A asks CreateQueue {"QueueName":"a2"}
-A gets 200 {"QueueUrl":"http://localhost:9324/000000000000/a2"}
+A gets 200 {"QueueUrl":"http://localhost:PORT/000000000000/a2"}
 A asks CreateQueue {"QueueName":"a3"}
-A gets 200 {"QueueUrl":"http://localhost:9324/000000000000/a3"}
+A gets 200 {"QueueUrl":"http://localhost:PORT/000000000000/a3"}
 A asks CreateQueue {"QueueName":"a4"}
-A gets 200 {"QueueUrl":"http://localhost:9324/000000000000/a4"}
+A gets 200 {"QueueUrl":"http://localhost:PORT/000000000000/a4"}
 A asks CreateQueue {"QueueName":"a5"}
-A gets 200 {"QueueUrl":"http://localhost:9324/000000000000/a5"}
+A gets 200 {"QueueUrl":"http://localhost:PORT/000000000000/a5"}
 B asks DeleteQueue {"QueueUrl":"a0"}
 B leaves 0
 C asks DeleteQueue {"QueueUrl":"a1"}
@@ -374,17 +443,17 @@ A waits for nothing
 A asks ListQueues {}
 A gets 200 {"QueueUrls":[]}
 A asks CreateQueue {"QueueName":"a0"}
-A gets 200 {"QueueUrl":"http://localhost:9324/000000000000/a0"}
+A gets 200 {"QueueUrl":"http://localhost:PORT/000000000000/a0"}
 A asks CreateQueue {"QueueName":"a1"}
-A gets 200 {"QueueUrl":"http://localhost:9324/000000000000/a1"}
+A gets 200 {"QueueUrl":"http://localhost:PORT/000000000000/a1"}
 A asks CreateQueue {"QueueName":"a2"}
-A gets 200 {"QueueUrl":"http://localhost:9324/000000000000/a2"}
+A gets 200 {"QueueUrl":"http://localhost:PORT/000000000000/a2"}
 A asks CreateQueue {"QueueName":"a3"}
-A gets 200 {"QueueUrl":"http://localhost:9324/000000000000/a3"}
+A gets 200 {"QueueUrl":"http://localhost:PORT/000000000000/a3"}
 A asks CreateQueue {"QueueName":"a4"}
-A gets 200 {"QueueUrl":"http://localhost:9324/000000000000/a4"}
+A gets 200 {"QueueUrl":"http://localhost:PORT/000000000000/a4"}
 A asks CreateQueue {"QueueName":"a5"}
-A gets 200 {"QueueUrl":"http://localhost:9324/000000000000/a5"}
+A gets 200 {"QueueUrl":"http://localhost:PORT/000000000000/a5"}
 A asks SendMessage {"QueueUrl":"a3","MessageBody":"a"}
 A begins 200 {
 
@@ -393,17 +462,17 @@ policies whose connection is cut up to five milliseconds behind them: the dead-l
 name = "dead"
 --
 A asks CreateQueue {"QueueName":"b0"}
-A gets 200 {"QueueUrl":"http://localhost:9324/000000000000/b0"}
+A gets 200 {"QueueUrl":"http://localhost:PORT/000000000000/b0"}
 A asks CreateQueue {"QueueName":"b1"}
-A gets 200 {"QueueUrl":"http://localhost:9324/000000000000/b1"}
+A gets 200 {"QueueUrl":"http://localhost:PORT/000000000000/b1"}
 A asks CreateQueue {"QueueName":"b2"}
-A gets 200 {"QueueUrl":"http://localhost:9324/000000000000/b2"}
+A gets 200 {"QueueUrl":"http://localhost:PORT/000000000000/b2"}
 A asks CreateQueue {"QueueName":"b3"}
-A gets 200 {"QueueUrl":"http://localhost:9324/000000000000/b3"}
+A gets 200 {"QueueUrl":"http://localhost:PORT/000000000000/b3"}
 A asks CreateQueue {"QueueName":"b4"}
-A gets 200 {"QueueUrl":"http://localhost:9324/000000000000/b4"}
+A gets 200 {"QueueUrl":"http://localhost:PORT/000000000000/b4"}
 A asks CreateQueue {"QueueName":"b5"}
-A gets 200 {"QueueUrl":"http://localhost:9324/000000000000/b5"}
+A gets 200 {"QueueUrl":"http://localhost:PORT/000000000000/b5"}
 B asks SetQueueAttributes {"QueueUrl":"b0","Attributes":{"RedrivePolicy":"{\"deadLetterTargetArn\":\"arn:aws:sqs:elasticmq:000000000000:dead\",\"maxReceiveCount\":2}"}}
 B leaves 0
 C asks SetQueueAttributes {"QueueUrl":"b1","Attributes":{"RedrivePolicy":"{\"deadLetterTargetArn\":\"arn:aws:sqs:elasticmq:000000000000:dead\",\"maxReceiveCount\":2}"}}
@@ -418,12 +487,12 @@ G asks SetQueueAttributes {"QueueUrl":"b5","Attributes":{"RedrivePolicy":"{\"dea
 G leaves 5
 A waits for nothing
 A asks ListDeadLetterSourceQueues {"QueueUrl":"dead"}
-A gets 200 {"queueUrls":["http://localhost:9324/000000000000/b0","http://localhost:9324/000000000000/b1","http://localhost:9324/000000000000/b2","http://localhost:9324/000000000000/b3","http://localhost:9324/000000000000/b4","http://localhost:9324/000000000000/b5"]}
+A gets 200 {"queueUrls":["http://localhost:PORT/000000000000/b0","http://localhost:PORT/000000000000/b1","http://localhost:PORT/000000000000/b2","http://localhost:PORT/000000000000/b3","http://localhost:PORT/000000000000/b4","http://localhost:PORT/000000000000/b5"]}
 
 statistics of a new queue, which go with it, and what is refused there
 --
 A asks CreateQueue {"QueueName":"jobs"}
-A gets 200 {"QueueUrl":"http://localhost:9324/000000000000/jobs"}
+A gets 200 {"QueueUrl":"http://localhost:PORT/000000000000/jobs"}
 a views /statistics/queues/none
 a gets 404 application/json {"message":"not found"}
 a views /statistics/queues/no%20name/rows
@@ -449,7 +518,7 @@ a gets 404 application/json {"message":"not found"}
 a views /statistics/queues?all
 a gets 200 application/json {"queues":[]}
 A asks CreateQueue {"QueueName":"jobs"}
-A gets 200 {"QueueUrl":"http://localhost:9324/000000000000/jobs"}
+A gets 200 {"QueueUrl":"http://localhost:PORT/000000000000/jobs"}
 a views /statistics/queues/jobs
 a holds "delayed":0,"inFlight":0,"lines":1,"name":"jobs","visible":0}
 
@@ -488,16 +557,16 @@ E asks CreateQueue {"QueueName":"jobs"}
 F asks CreateQueue {"QueueName":"jobs"}
 G asks CreateQueue {"QueueName":"jobs"}
 H asks CreateQueue {"QueueName":"jobs"}
-A gets 200 {"QueueUrl":"http://localhost:9324/000000000000/jobs"}
-B gets 200 {"QueueUrl":"http://localhost:9324/000000000000/jobs"}
-C gets 200 {"QueueUrl":"http://localhost:9324/000000000000/jobs"}
-D gets 200 {"QueueUrl":"http://localhost:9324/000000000000/jobs"}
-E gets 200 {"QueueUrl":"http://localhost:9324/000000000000/jobs"}
-F gets 200 {"QueueUrl":"http://localhost:9324/000000000000/jobs"}
-G gets 200 {"QueueUrl":"http://localhost:9324/000000000000/jobs"}
-H gets 200 {"QueueUrl":"http://localhost:9324/000000000000/jobs"}
+A gets 200 {"QueueUrl":"http://localhost:PORT/000000000000/jobs"}
+B gets 200 {"QueueUrl":"http://localhost:PORT/000000000000/jobs"}
+C gets 200 {"QueueUrl":"http://localhost:PORT/000000000000/jobs"}
+D gets 200 {"QueueUrl":"http://localhost:PORT/000000000000/jobs"}
+E gets 200 {"QueueUrl":"http://localhost:PORT/000000000000/jobs"}
+F gets 200 {"QueueUrl":"http://localhost:PORT/000000000000/jobs"}
+G gets 200 {"QueueUrl":"http://localhost:PORT/000000000000/jobs"}
+H gets 200 {"QueueUrl":"http://localhost:PORT/000000000000/jobs"}
 A asks ListQueues {}
-A gets 200 {"QueueUrls":["http://localhost:9324/000000000000/jobs"]}
+A gets 200 {"QueueUrls":["http://localhost:PORT/000000000000/jobs"]}
 A asks SendMessage {"QueueUrl":"jobs","MessageBody":"a"}
 B asks SendMessage {"QueueUrl":"jobs","MessageBody":"b"}
 C asks SendMessage {"QueueUrl":"jobs","MessageBody":"c"}
@@ -525,7 +594,7 @@ fn conversations(rt: HostRuntime) -> Result<(), Fail> {
         let (head, steps) = text.split_once("\n--\n").ok_or("a line --")?;
         let config = head.split_once("\n").map_or("", |it| it.1);
         let server = start(&rt, &rt, config, clients_in(steps))?;
-        let other = talk(&rt, &server, steps)?;
+        let other = talk(&rt, &rt, &server, steps)?;
         assert!(rt; other.is_empty(), "{head}: {other}");
         assert!(rt; has_ended(&rt, &server), "{head}");
     }
@@ -568,6 +637,6 @@ fn taken_port_is_refused(rt: HostRuntime) -> Result<(), Fail> {
     let Err(refused) = listen(&rt, first.address()?, 1) else {
         return Err(Fail::from("a port that is taken"));
     };
-    assert_eq!(rt; refused, Refusal::Listen);
+    assert_eq!(rt; refusal_of_system(&refused), Refusal::Listen);
     Ok(())
 }

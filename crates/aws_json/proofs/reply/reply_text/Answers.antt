@@ -7,5 +7,5 @@ use Rattle.aws_json.proofs.reply.reply_text.Goals as goal
 
 pub returns : goal.returns
 returns c =
-    let value : view c.in_ok-value.value ≡ reply_data c.args.shape.now = cc (c.in_ok-value.ensures) in
-    ap Ok (c.in_ok-text.ensures.text (ap has_float value ∙ reply_data-float c.args.shape.now) ∙ ap compact_text value)
+    let value : view c.in_ok-value.value ≡ reply_data c.args.port c.args.shape.now = cc (c.in_ok-value.ensures) in
+    ap Ok (c.in_ok-text.ensures.text (ap has_float value ∙ reply_data-float c.args.port c.args.shape.now) ∙ ap compact_text value)

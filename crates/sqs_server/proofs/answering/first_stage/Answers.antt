@@ -2,7 +2,7 @@ use Rattle.std.proofs.Common.{ap, subst, ◌∙◌}
 use Rattle.http_body.specs.SizeHint.{lower}
 use Rattle.hyper.specs.Incoming.{size_left}
 use Rattle.sqs_server.specs.Head.{denial_of}
-use Rattle.sqs_server.specs.Responses.{Judged}
+use Rattle.sqs_server.specs.Responses.{Judged, has_origin}
 use Rattle.sqs_server.proofs.answering.first_stage.Goals as goal
 
 pub returns : goal.returns
@@ -10,8 +10,8 @@ returns g c =
     let parts = c.into_parts-head in
     let hint = c.size_hint.result in
     let stage = c.judged.result in
-    let judged = subst (λ size. Judged parts.result.0 parts.result.1 (denial_of parts.result.0.method size) stage) c.lower-size.ensures.value c.judged.ensures in (
+    let judged = subst (λ size. Judged parts.result.0 parts.result.1 (denial_of (has_origin parts.result.0) parts.result.0.method size) stage) c.lower-size.ensures.value c.judged.ensures in (
       hint,
       c.size_hint.ensures ∙ ap (λ p. size_left p.1.kind) parts.ensures,
-      subst (λ p. Judged p.0 p.1 (denial_of p.0.method (lower hint)) stage) parts.ensures judged,
+      subst (λ p. Judged p.0 p.1 (denial_of (has_origin p.0) p.0.method (lower hint)) stage) parts.ensures judged,
     )

@@ -9,10 +9,10 @@ returns-in-Ok g c =
     let queue = c.new-queue in
     let same = c.outcome_of.ensures ∙ ap (λ command. outcome command parts.result.3) parts.ensures.reply.0
     ∙ ap (λ reply. outcome c.in-Ok.answer.command reply) parts.ensures.reply.1 in
-    subst (λ given. Returned c.args.exchange given c.resume.result) (sym c.in-Ok.is) (
+    subst (λ given. Returned c.args.self.now.port c.args.exchange given c.resume.result) (sym c.in-Ok.is) (
       queue.result,
       queue.ensures.0,
       ap arc_value queue.ensures.1 ∙ parts.ensures.call.0,
       queue.ensures.2 ∙ parts.ensures.call.1,
-      subst (λ became. Resumes c.args.exchange.uid (Some queue.result) c.args.exchange.at c.args.exchange.purpose became c.resume.result) same c.resume.ensures,
+      subst (λ became. Resumes c.args.self.now.port c.args.exchange.uid (Some queue.result) c.args.exchange.at c.args.exchange.purpose became c.resume.result) same c.resume.ensures,
     )

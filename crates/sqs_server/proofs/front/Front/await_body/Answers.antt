@@ -11,5 +11,5 @@ returns-in-Pending-clause-leads g c = (_, refl, refl, c.in-Pending.ensures.same)
 pub returns-in-Ready-Ok-clause-leads : goal.returns-in-Ready-Ok-clause-leads
 returns-in-Ready-Ok-clause-leads g c = (Ok c.in-Ready-Ok.body, rw c.in-Ready-Ok.field-0-is at c.in-Ready-Ok.ensures.value, c.read.ensures)
 
-pub returns-clause-leads : goal.returns-clause-leads
-returns-clause-leads g c = (Err c.in-Ready-Err.error, rw c.in-Ready-Err.field-0-is at c.in-Ready-Err.ensures.value, (c.sent_of_error.result, c.sent_of_error.ensures, refl))
+pub returns-in-Ready-Err-clause-leads : goal.returns-in-Ready-Err-clause-leads
+returns-in-Ready-Err-clause-leads g c = (Err c.in-Ready-Err.error, rw c.in-Ready-Err.field-0-is at c.in-Ready-Err.ensures.value, (c.sent_of_error.result, c.sent_of_error.ensures, refl))

@@ -7,4 +7,4 @@ use Rattle.sqs_server.proofs.front.Front.run.Given as goal
 
 -- what was registered stays, and a request that may end so from the stage that it has come to may end so from its first one
 abbrev pub invariant-loop : goal.invariant-loop
-invariant-loop g l = Keeps l.fn.cx l.cx × ((ended : Result Sent Error) → MayEnd l.stage ended → MayEnd l.fn.stage ended)
+invariant-loop g l = Keeps l.fn.cx l.cx × ((ended : Result Sent Error) → MayEnd l.self.port l.stage ended → MayEnd l.self.port l.fn.stage ended)

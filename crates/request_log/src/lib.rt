@@ -1,0 +1,26 @@
+//! What a server tells of the requests that it has answered: a line for each, and how many there were.
+//!
+//! - [`Level`]: which requests get a line.
+//! - [`Reply`]: what a request was answered. [`line_for`]: the line for a request, which says of one that was refused what was
+//!   wrong with it.
+//! - [`place_of`], [`name_at`]: the actions that are counted, each at its place.
+//! - [`Burst`]: the same line over and over is told once a second, with a count.
+//!
+//! The definitions stand in `specs/`.
+#![tactic(auto)]
+
+mod actions;
+mod burst;
+mod level;
+mod line;
+mod refusal;
+mod reply;
+#[cfg(test)]
+mod tests;
+mod time;
+
+pub use actions::{PLACES, name_at, place_of};
+pub use burst::Burst;
+pub use level::Level;
+pub use line::line_for;
+pub use reply::Reply;

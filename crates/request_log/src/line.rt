@@ -1,0 +1,163 @@
+//! The line for a request.
+
+ghost use Rattle.std.specs.Prelude.{◌≡◌, Ok, Some, None, option_map, string_bytes};
+ghost use Rattle.message.specs.Fault.{Meets};
+ghost use Rattle.aws_json.specs.Steps.{result_map};
+ghost use Rattle.request_log.specs.Line.{queue_text, refusal_text, line_text};
+
+use crate::actions::{name_at, place_of};
+use crate::refusal::{Refusal, failed, refusal_of};
+use crate::reply::Reply;
+use crate::time::time_of_day;
+use aws_json::{explain, read_object};
+use journal::Moment;
+use message::{Fault, QueueName};
+use serde_json::Value;
+use std::alloc::Global;
+
+/// Why a request was refused: a name, and what was wrong.
+#[derive(Debug, Drop)]
+pub struct Reason {
+    pub name: &'static str,
+    pub words: String,
+}
+
+/// The name of a queue, or a hyphen.
+fn queue_text(queue: Option<&QueueName>) -> &str
+    ensures { result.now ≡ queue_text (option_map (λ q. q.now) queue.entry) }
+{
+    match queue {
+        Some(name) => name.as_text(),
+        None => "-",
+    }
+}
+
+/// What a line says behind the status.
+fn refusal_text(alloc: Global, reason: Option<&Reason>) -> Result<String, Fault>
+    ensures { Meets (result_map (λ s. string_bytes s) result) (Ok (refusal_text (option_map (λ r. (r.now.name.now, string_bytes r.now.words)) reason.entry))) }
+{
+    match reason {
+        Some(reason) => {
+            let name = reason.name;
+            let words = reason.words.as_str();
+            Ok(format!(in alloc; " {name}: {words}")?)
+        }
+        None => Ok(String::new(alloc)),
+    }
+}
+
+/// The line for a request of an action that was answered with a status at a moment.
+fn line_of(
+    alloc: Global,
+    at: Moment,
+    action: &str,
+    queue: Option<&QueueName>,
+    status: u16,
+    reason: Option<&Reason>,
+) -> Result<String, Fault>
+    ensures { Meets (result_map (λ s. string_bytes s) result) (Ok (line_text at action.now (option_map (λ q. q.now) queue.entry) status (option_map (λ r. (r.now.name.now, string_bytes r.now.words)) reason.entry))) }
+{
+    let time = time_of_day(alloc, at)?;
+    let queue = queue_text(queue);
+    let refusal = refusal_text(alloc, reason)?;
+    Ok(format!(in alloc; "{time} {action} {queue} {status}{refusal}")?)
+}
+
+/// What stands behind the last slash of a URL, which may have none.
+fn behind_slash(url: &str) -> &str {
+    match url.rsplit_once('/') {
+        Some((_, name)) => name,
+        None => url,
+    }
+}
+
+/// The name of a queue in a body, by its URL or by itself.
+fn name_in(body: &Value) -> Option<&str> {
+    match body.get("QueueUrl") {
+        Some(url) => url.as_str(),
+        None => body.get("QueueName")?.as_str(),
+    }
+}
+
+/// The queue that a body names, where it does.
+fn queue_in(alloc: Global, body: &[u8]) -> Option<QueueName> {
+    let body = read_object(alloc, body).ok()?;
+    let name = name_in(&body)?;
+    QueueName::read(behind_slash(name)).ok()
+}
+
+/// What was wrong with a request that was refused by a fault.
+fn reason_of_fault(
+    alloc: Global,
+    action: &str,
+    body: &[u8],
+    fault: Fault,
+) -> Result<Reason, Fault> {
+    Ok(Reason {
+        name: fault.name(),
+        words: explain(alloc, action, body, fault)?,
+    })
+}
+
+/// What was wrong with entries of a batch, by the refusal of the first one.
+fn reason_of_entries(
+    alloc: Global,
+    action: &str,
+    body: &[u8],
+    count: usize,
+    fault: Fault,
+) -> Result<Reason, Fault> {
+    let words = explain(alloc, action, body, fault)?;
+    let entries = if count == 1 {
+        "entry was"
+    } else {
+        "entries were"
+    };
+    Ok(Reason {
+        name: fault.name(),
+        words: format!(in alloc; "{words}; {count} {entries} refused")?,
+    })
+}
+
+/// What was wrong with a request, if it was refused.
+fn reason_of(
+    alloc: Global,
+    action: &str,
+    body: &[u8],
+    reply: &Reply<'_>,
+) -> Result<Option<Reason>, Fault> {
+    if let Some((count, fault)) = failed(alloc, reply) {
+        return Ok(Some(reason_of_entries(alloc, action, body, count, fault)?));
+    }
+    match refusal_of(reply) {
+        Some(Refusal::Fault(fault)) => Ok(Some(reason_of_fault(alloc, action, body, fault)?)),
+        Some(Refusal::Other(name, words)) => Ok(Some(Reason {
+            name,
+            words: String::from_str(alloc, words)?,
+        })),
+        None => Ok(None),
+    }
+}
+
+/// The line for a request of an action and a body that was answered so at a moment (this project's own form), in UTC:
+/// `12:03:04.123 SendMessage jobs 400 InvalidParameterValue: MessageBody is empty`. An action that is not served and a
+/// queue that is not named are hyphens. `OutOfMemory` is the only refusal.
+pub fn line_for(
+    alloc: Global,
+    at: Moment,
+    action: &str,
+    body: &[u8],
+    reply: &Reply<'_>,
+) -> Result<String, Fault> {
+    let queue = queue_in(alloc, body);
+    let reason = reason_of(alloc, action, body, reply)?;
+    let action = name_at(place_of(action));
+    line_of(
+        alloc,
+        at,
+        action,
+        queue.as_ref(),
+        reply.status,
+        reason.as_ref(),
+    )
+}

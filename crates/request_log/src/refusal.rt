@@ -1,0 +1,102 @@
+//! Which refusal a reply is.
+
+ghost use Rattle.std.specs.Prelude.{◌≡◌, IfSome};
+ghost use Rattle.aws_json.specs.FaultText.{fault_body};
+
+use crate::reply::Reply;
+use aws_json::fault_text;
+use message::Fault;
+use serde_json::Value;
+use std::alloc::Global;
+
+/// The refusals, in the order of their numbers.
+const FAULTS: [Fault; 20] = [
+    Fault::QueueDoesNotExist,
+    Fault::QueueNameExists,
+    Fault::InvalidAttributeName,
+    Fault::InvalidAttributeValue,
+    Fault::InvalidParameterValue,
+    Fault::InvalidMessageContents,
+    Fault::ReceiptHandleIsInvalid,
+    Fault::MessageNotInflight,
+    Fault::OverLimit,
+    Fault::EmptyBatchRequest,
+    Fault::TooManyEntriesInBatchRequest,
+    Fault::BatchEntryIdsNotDistinct,
+    Fault::InvalidBatchEntryId,
+    Fault::BatchRequestTooLong,
+    Fault::UnsupportedOperation,
+    Fault::SerializationException,
+    Fault::JournalFull,
+    Fault::OutOfMemory,
+    Fault::Spent,
+    Fault::ActorGone,
+];
+
+/// Why a request was refused.
+#[derive(Clone, Copy, Debug, PartialEq, Eq)]
+pub(crate) enum Refusal {
+    /// By a refusal of the table.
+    Fault(Fault),
+    /// Before it was looked at, or since a queue was busy: a name and what was wrong.
+    Other(&'static str, &'static str),
+}
+
+/// The refusal of the table that a body is.
+fn fault_in(body: &[u8]) -> Option<Fault>
+    ensures { IfSome result (λ fault. body.now ≡ fault_body fault) }
+{
+    for fault in FAULTS {
+        if fault_text(fault).as_bytes() == body {
+            return Some(fault);
+        }
+    }
+    None
+}
+
+/// The refusal that a reply is.
+pub(crate) fn refusal_of(reply: &Reply<'_>) -> Option<Refusal> {
+    if let Some(fault) = fault_in(reply.body) {
+        return Some(Refusal::Fault(fault));
+    }
+    match reply.status {
+        403 => Some(Refusal::Other(
+            "Forbidden",
+            "the request has the header Origin, as requests of web pages do",
+        )),
+        405 => Some(Refusal::Other("MethodNotAllowed", "its method is not POST")),
+        413 => Some(Refusal::Other("ContentTooLarge", "its body has more than 8,388,608 bytes")),
+        500 => Some(Refusal::Other(
+            "ServiceUnavailable",
+            "1,000 requests wait for the queue already",
+        )),
+        _ => None,
+    }
+}
+
+/// Whether a reply tells of an entry of a batch that was refused: then it begins with such entries.
+pub(crate) fn has_failed(reply: &Reply<'_>) -> bool {
+    reply.body.starts_with(br#"{"Failed":[{"#)
+}
+
+/// The refusal of the table that has a name.
+fn fault_named(name: &str) -> Option<Fault> {
+    for fault in FAULTS {
+        if fault.name() == name {
+            return Some(fault);
+        }
+    }
+    None
+}
+
+/// How many entries a reply tells of that were refused, and the refusal of the first one; `None` where there are none,
+/// or no memory to read of them.
+pub(crate) fn failed(alloc: Global, reply: &Reply<'_>) -> Option<(usize, Fault)> {
+    if !has_failed(reply) {
+        return None;
+    }
+    let body = Value::from_slice(alloc, reply.body).ok()?;
+    let entries = body.get("Failed")?.as_array()?;
+    let code = entries.first()?.get("Code")?.as_str()?;
+    Some((entries.len(), fault_named(code)?))
+}
