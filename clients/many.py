@@ -1,16 +1,18 @@
 #!/usr/bin/env python3
 """Times a server that has 1,000 queues: how long it takes to find one, to list all, and to send while another client lists.
 
-Usage: many.py, with the server started before, as clients/run.sh does. Each request is one of its own over a connection that is kept
-open, and is answered before the next. It makes the queues that are missing, up to the limit of 1,000 with the configured ones, and
-prints milliseconds: the middle, and the largest of the best 99 in a hundred.
+Usage: many.py [PORT], by default 9324, with the server started before, as clients/run.sh does. Each request is one of its own over a
+connection that is kept open, and is answered before the next. It makes the queues that are missing, up to the limit of 1,000 with the
+configured ones, and prints milliseconds: the middle, and the largest of the best 99 in a hundred.
 """
 
 import http.client
 import statistics
+import sys
 import threading
 import time
 
+PORT = int(sys.argv[1]) if len(sys.argv) > 1 else 9324
 QUEUES = 1_000
 REQUESTS = 2_000
 PREFIX = "many"
@@ -20,7 +22,7 @@ class Client:
     """A connection to the server that is kept open."""
 
     def __init__(self):
-        self.connection = http.client.HTTPConnection("127.0.0.1", 9324)
+        self.connection = http.client.HTTPConnection("127.0.0.1", PORT)
 
     def call(self, action, body):
         """Asks one action, and returns the status and the bytes of the reply."""

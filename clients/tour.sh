@@ -35,7 +35,7 @@ counts() {
 dead=$(sqs create-queue --queue-name shell-dead --query QueueUrl)
 url=$(sqs create-queue --queue-name shell-jobs --query QueueUrl --attributes \
     '{"RedrivePolicy":"{\"deadLetterTargetArn\":\"arn:aws:sqs:elasticmq:000000000000:shell-dead\",\"maxReceiveCount\":1}"}')
-check "url" "$url" "http://localhost:9324/000000000000/shell-jobs"
+check "url" "$url" "http://localhost:${endpoint##*:}/000000000000/shell-jobs"
 
 digest=$(sqs send-message --queue-url "$url" --message-body hello --query MD5OfMessageBody)
 check "digest" "$digest" "5d41402abc4b2a76b9719d911017c592"

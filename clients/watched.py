@@ -1,10 +1,10 @@
 #!/usr/bin/env python3
 """Times sends to the server while its statistics are read: by nobody, by 10 readers, by 100, and by one that reads without a pause.
 
-Usage: watched.py, with the server started before, as clients/run.sh does. Each reader has a connection of its own to port 9325, and asks
-for the queue, its rows and its alarms once a second, as the page does. The sends go through one connection to port 9324, one after
-another. It prints the middle of the runs, with the shortest and the longest, in microseconds a send, and how much more that is than
-without a reader; and how long a read takes that nothing else is done beside.
+Usage: watched.py [PORT STATISTICS_PORT], by default 9324 and 9325, with the server started before, as clients/run.sh does. Each reader has
+a connection of its own to the port of the statistics, and asks for the queue, its rows and its alarms once a second, as the page does. The
+sends go through one connection to the other port, one after another. It prints the middle of the runs, with the shortest and the longest,
+in microseconds a send, and how much more that is than without a reader; and how long a read takes that nothing else is done beside.
 """
 
 import multiprocessing
@@ -15,6 +15,7 @@ import sys
 import threading
 import time
 
+PORT, STATISTICS_PORT = map(int, sys.argv[1:3] or (9324, 9325))
 SENDS = 40_000
 READS = 5_000
 RUNS = 5
@@ -64,7 +65,7 @@ def view(path):
 
 def read_until(done, pause):
     """Reads again and again."""
-    line = Line(9325)
+    line = Line(STATISTICS_PORT)
     while not done.wait(pause):
         for path in PATHS:
             line.ask(view(path))
@@ -93,7 +94,7 @@ def sends(readers, pause):
     reading = multiprocessing.Process(target=read_all, args=(done, readers, pause))
     reading.start()
     time.sleep(1.5)
-    line = Line(9324)
+    line = Line(PORT)
     line.ask(call("PurgeQueue", '{"QueueUrl":"watched"}'))
     taken = timed(line, call("SendMessage", '{"QueueUrl":"watched","MessageBody":"a"}'), SENDS)
     done.set()
@@ -102,20 +103,20 @@ def sends(readers, pause):
 
 
 def main():
-    Line(9324).ask(call("CreateQueue", '{"QueueName":"watched"}'))
+    Line(PORT).ask(call("CreateQueue", '{"QueueName":"watched"}'))
     found = {}
     for _ in range(RUNS):
         for name, readers, pause in READERS:
             found.setdefault(f"a send, {name}", []).append(sends(readers, pause))
         for path in (*PATHS, "/statistics/queues", "/metrics"):
-            found.setdefault(f"GET {path}", []).append(timed(Line(9325), view(path), READS))
+            found.setdefault(f"GET {path}", []).append(timed(Line(STATISTICS_PORT), view(path), READS))
     print(f"on {os.cpu_count()} processors: the middle of {RUNS} runs, the shortest and the longest, in microseconds")
     without = statistics.median(found["a send, no reader"])
     for name, taken in found.items():
         middle = statistics.median(taken)
         more = f", {100 * (middle / without - 1):+.1f} %" if name.startswith("a send, ") and name != "a send, no reader" else ""
         print(f"{name}: {middle:.1f} ({min(taken):.1f} to {max(taken):.1f}){more}")
-    Line(9324).ask(call("DeleteQueue", '{"QueueUrl":"watched"}'))
+    Line(PORT).ask(call("DeleteQueue", '{"QueueUrl":"watched"}'))
 
 
 if __name__ == "__main__":

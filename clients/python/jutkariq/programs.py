@@ -51,11 +51,23 @@ def built_program(name: str) -> Optional[str]:
     return None
 
 
+def is_text(config: FilePath) -> bool:
+    """Returns whether a configuration is given as a text, which has a line feed; any other names the file."""
+    return isinstance(config, str) and "\n" in config
+
+
 def configuration_of(config: FilePath) -> bytes:
-    """Returns the text of a configuration: a text that has a line feed is one itself, and any other names the file."""
-    if isinstance(config, str) and "\n" in config:
-        return config.encode()
-    return Path(config).read_bytes()
+    """Returns the text of a configuration."""
+    return str(config).encode() if is_text(config) else Path(config).read_bytes()
+
+
+def configuration_file(config: FilePath, text: bytes, folder: str) -> str:
+    """Returns the path of a file that has a configuration, by which its faults are told: the file that was named, or one in a folder for a text."""
+    if not is_text(config):
+        return os.fspath(config)
+    path = Path(folder, "config.toml")
+    path.write_bytes(text)
+    return str(path)
 
 
 def failure(name: str, status: Optional[int], errors: bytes) -> ProgramFailed:

@@ -8,13 +8,12 @@ import subprocess
 import tempfile
 import threading
 from datetime import datetime, timedelta, timezone
-from pathlib import Path
 from types import TracebackType
 from typing import Any, BinaryIO, Dict, List, Mapping, Optional, Type, Union, cast
 
 from jutkariq import boto
 from jutkariq.answers import Answer, Queues, Row, Statistics, success_of
-from jutkariq.programs import FilePath, ProgramFailed, configuration_of, failure, find_program
+from jutkariq.programs import FilePath, ProgramFailed, configuration_file, configuration_of, failure, find_program
 from jutkariq.waits import Waits
 
 ANSWER = re.compile(r"(\d{3}) (.*)\n")
@@ -57,15 +56,14 @@ class Replay(Queues):
             raise ValueError(f"waits is 'run' or 'skip', and not {waits!r}")
         self._program = find_program("sqs_replay", program, "JUTKARIQ_REPLAY")
         words = [self._program]
-        text = None if config is None else configuration_of(config)
+        text = b"" if config is None else configuration_of(config)
         self._lock = threading.Lock()
         self._now = 0
         self._waits = Waits(self._step) if waits == "run" else None
         self._ended = ""
         self._folder = tempfile.TemporaryDirectory(prefix="jutkariq-")
-        if text is not None:
-            words.append(f"{self._folder.name}/config.toml")
-            Path(words[1]).write_bytes(text)
+        if config is not None:
+            words.append(configuration_file(config, text, self._folder.name))
         self._record = None if record is None else open(record, "wb")
         self._errors = open(f"{self._folder.name}/errors", "w+b")
         self._process = subprocess.Popen(words, stdin=subprocess.PIPE, stdout=subprocess.PIPE, stderr=self._errors)

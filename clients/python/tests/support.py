@@ -11,9 +11,21 @@ from pathlib import Path
 FOLDER = Path(__file__).resolve().parent.parent
 sys.path.insert(0, str(FOLDER))
 
-from jutkariq import Replay  # noqa: E402
+from jutkariq import ProgramNotFound, Replay  # noqa: E402
+from jutkariq.programs import find_program  # noqa: E402
 
 needs_boto3 = unittest.skipUnless(importlib.util.find_spec("boto3"), "boto3 is not installed")
+
+
+def has_server():
+    """Returns whether there is a server to run. One that the environment names is taken to be there, so that tests fail where it is not."""
+    try:
+        return bool(os.environ.get("JUTKARIQ_SERVER") or find_program("sqs_server", None, "JUTKARIQ_SERVER"))
+    except ProgramNotFound:
+        return False
+
+
+needs_server = unittest.skipUnless(has_server(), "no sqs_server is built")
 
 
 class ReplayCase(unittest.TestCase):

@@ -7,7 +7,7 @@ import subprocess
 import sys
 import unittest
 
-from support import FOLDER, needs_boto3, room
+from support import FOLDER, needs_boto3, needs_server, room
 
 from jutkariq.programs import find_program
 
@@ -41,8 +41,23 @@ def test_no_queue():
     assert False
 '''
 SERVER = '''
-def test_a_server(sqs_server):
-    assert sqs_server.counts("jobs") == (0, 0, 0)
+import pytest
+from jutkariq import ProgramFailed
+
+EARLIER = []
+
+@pytest.fixture
+def sqs_config():
+    return '[[queue]]\\nname = "jobs"\\ndelay_seconds = 900\\n'
+
+@pytest.mark.parametrize("time", ["first", "second"])
+def test_a_server(sqs_server, time):
+    for server in EARLIER:
+        with pytest.raises(ProgramFailed, match="the server was closed"):
+            server.counts("jobs")
+    EARLIER.append(sqs_server)
+    sqs_server.client().send_message(QueueUrl="jobs", MessageBody="a")
+    assert sqs_server.wait_until("jobs", delayed=1) == (0, 1, 0)
 '''
 
 
@@ -98,6 +113,11 @@ class Fixtures(unittest.TestCase):
         self.assertRegex(self.said(text, "--jutkariq-record=records"), r"\b2 passed in ")
         names = sorted(path.name for path in (self.folder / "records").iterdir())
         self.assertEqual(names, ["test_given.py-test_it-a-b-too.txt", "test_given.py-test_it-a-b.txt"])
+
+    @needs_boto3
+    @needs_server
+    def test_a_server_for_each_test(self):
+        self.assertRegex(self.said(SERVER), r"\b2 passed in ")
 
     def test_there_is_no_program(self):
         self.program = "/nowhere/sqs_replay"

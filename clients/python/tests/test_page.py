@@ -9,7 +9,7 @@ import subprocess
 import sys
 import unittest
 
-from support import FOLDER, needs_boto3, room, script
+from support import FOLDER, has_server, needs_boto3, needs_server, room, script
 from test_fixtures import for_pytest
 
 from jutkariq import Replay
@@ -18,6 +18,8 @@ from jutkariq.programs import find_program
 PAGE = FOLDER.parent.parent / "docs" / "TESTING.md"
 FILE = re.compile(r"`([\w.]+)`:\n\n```\w+\n(.*?)^```\n", re.M | re.S)
 RUN = re.compile(r"^```\n\$ (.+?)\n(.*?)^```\n", re.M | re.S)
+# what the commands of each part of the page have in them, and no others
+REPLAY, UNITTEST, SERVER, JAVASCRIPT, JAVA = "test_(consumer|configured|flaky)", "test_unit", "test_worker", r"delay\.mjs", r"Delay\.java"
 
 
 @unittest.skipUnless(PAGE.is_file(), "the package does not stand in its repository")
@@ -29,13 +31,19 @@ class Page(unittest.TestCase):
             (self.folder / name).write_text(code)
         self.runs = RUN.findall(text)
         (self.folder / "bin").mkdir()
-        program = find_program("sqs_replay", None, "JUTKARIQ_REPLAY")
-        for name, path in (("sqs_replay", program), ("python", sys.executable)):
+        replay = find_program("sqs_replay", None, "JUTKARIQ_REPLAY")
+        programs = {"python": sys.executable, "sqs_replay": replay}
+        if has_server():
+            programs["sqs_server"] = find_program("sqs_server", None, "JUTKARIQ_SERVER")
+        for name, path in programs.items():
             script(self.folder / "bin", name, f'#!/bin/sh\nexec {shlex.quote(os.path.abspath(path))} "$@"\n')
-        self.environment = {**for_pytest(program), "PATH": os.pathsep.join([str(self.folder / "bin"), os.environ["PATH"]])}
+        # as the page has it, the programs are found on the PATH
+        self.environment = {**for_pytest(replay), "PATH": os.pathsep.join([str(self.folder / "bin"), os.environ["PATH"]])}
+        for name in ("JUTKARIQ_REPLAY", "JUTKARIQ_SERVER", "JUTKARIQ_LOG"):
+            self.environment.pop(name, None)
 
     def check(self, words):
-        """Runs the commands that have one of these words, and compares what each prints, but for the seconds that it took."""
+        """Runs the commands that have these words, and compares what each prints, but for the seconds that it took."""
         chosen = [(command, wanted) for command, wanted in self.runs if re.search(words, command)]
         self.assertTrue(chosen)
         for command, wanted in chosen:
@@ -55,24 +63,30 @@ class Page(unittest.TestCase):
 
     def test_each_command_is_run_by_a_test_below(self):
         for command, _ in self.runs:
-            self.assertRegex(command, "pytest|records|unittest|node|java")
+            self.assertEqual(sum(bool(re.search(words, command)) for words in (REPLAY, UNITTEST, SERVER, JAVASCRIPT, JAVA)), 1, command)
 
     @needs_boto3
     @unittest.skipUnless(importlib.util.find_spec("pytest"), "pytest is not installed")
     def test_pytest(self):
-        self.check("pytest|records")
+        self.check(REPLAY)
+
+    @needs_boto3
+    @needs_server
+    @unittest.skipUnless(importlib.util.find_spec("pytest"), "pytest is not installed")
+    def test_server(self):
+        self.check(SERVER)
 
     @needs_boto3
     def test_unittest(self):
-        self.check("unittest")
+        self.check(UNITTEST)
 
     @unittest.skipUnless(shutil.which("node"), "node is not installed")
     def test_javascript(self):
-        self.check("node")
+        self.check(JAVASCRIPT)
 
     @unittest.skipUnless(shutil.which("java"), "java is not installed")
     def test_java(self):
-        self.check("java")
+        self.check(JAVA)
 
 
 if __name__ == "__main__":

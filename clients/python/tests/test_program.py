@@ -1,6 +1,7 @@
 """Where the program is looked for, and what is said where it is not there or ends."""
 
 import os
+import re
 import signal
 import stat
 import threading
@@ -154,6 +155,11 @@ class Configuration(ReplayCase):
     def test_faults(self):
         with self.assertRaisesRegex(ProgramFailed, "/sqs_replay has ended with status 1: sqs_replay: config: UnknownKey"):
             Replay(config="[nothing]\n")
+        file = room(self) / "queues.toml"
+        file.write_text('[[queue]]\nname = "jobs"\ndelay_seconds = 901\n')
+        where = f'{file}:3: [[queue]] "jobs": delay_seconds = 901 is not in 0 to 900'
+        with self.assertRaisesRegex(ProgramFailed, rf"sqs_replay: config: OutOfRange\n{re.escape(where)}$"):
+            Replay(config=file)
         self.assertRaises(FileNotFoundError, Replay, config="no such file.toml")
 
 
