@@ -10,6 +10,7 @@ every name as a text.
 import json
 import math
 import os
+import random
 import re
 import sys
 import time
@@ -34,29 +35,43 @@ def page():
 
 
 class Queue:
-    """A queue whose numbers follow from its place and from the minute alone, so that a row never changes."""
+    """A queue whose numbers follow from its place and from the time alone, so that a row never changes."""
 
     def __init__(self, place, name, since):
         self.place, self.name, self.since = place, name, since
 
-    def minute(self, minute, part=1.0):
-        """Returns a minute as a row has it, or the part of it that is over."""
+    def visible(self, second):
+        """Returns how many messages are visible in a second, counted since 1970."""
+        return int(max(0, 40 + 30 * math.sin((second / 60 + 29 * self.place) / 17) + 4 * math.sin(second / (9 + self.place % 5))))
+
+    def share(self, minute, over):
+        """Returns which share of what happens in a minute has happened when so many of its milliseconds are over: some seconds have more of it."""
+        if over == MINUTE:
+            return 1.0
+        chance = random.Random(minute * 1009 + self.place)
+        weights = [chance.random() ** 2 for _ in range(60)]
+        second = over // 1000
+        return (sum(weights[:second]) + weights[second] * (over / 1000 - second)) / sum(weights)
+
+    def minute(self, minute, over=MINUTE):
+        """Returns a minute as a row has it, or what has happened when so many of its milliseconds are over."""
+        share = self.share(minute, over)
         wave = 1 + math.sin((minute + 13 * self.place) / 11) + 0.4 * math.sin((minute * (self.place + 3)) / 5)
-        sent = int(max(0, 14 * wave + (minute * 7919 + self.place) % 5) * part)
-        received = int(max(0, 12 * wave + (minute * 104729 + self.place) % 7) * part)
+        sent = int(max(0, 140 * wave + (minute * 7919 + self.place) % 50) * share)
+        received = int(max(0, 120 * wave + (minute * 104729 + self.place) % 70) * share)
         refused = 2 if self.place % 4 == 1 and minute % 37 < 2 else 0
-        visible = int(max(0, 40 + 30 * math.sin((minute + 29 * self.place) / 17)))
+        visible = self.visible(minute * 60 + min(59, over // 1000))
         return {
-            "age": visible * 3, "deadLettersArrived": received // 9 if self.place == 0 else 0, "delayed": (minute + self.place) % 4,
-            "deleted": int(received * 0.9), "emptyReceives": (minute + self.place) % 3, "inFlight": received // 4, "minute": minute,
+            "age": visible * 3, "deadLettersArrived": received // 90 if self.place == 0 else 0, "delayed": (minute + self.place) % 4,
+            "deleted": int(received * 0.9), "emptyReceives": (minute + self.place) % 3, "inFlight": received // 40, "minute": minute,
             "received": received, "refused": refused, "sent": sent, "sentSize": sent * 57, "visible": visible,
         }
 
     def sheet(self, now):
         """Returns what stands in the queue at a time in milliseconds."""
-        row = self.minute(now // MINUTE, now % MINUTE / MINUTE)
+        row = self.minute(now // MINUTE, now % MINUTE)
         return {
-            "age": row["age"] + now // 1000 % 60, "clock": now, "current": {key: row[key] for key in FLOWS}, "delayed": row["delayed"],
+            "age": row["age"], "clock": now, "current": {key: row[key] for key in FLOWS}, "delayed": row["delayed"],
             "inFlight": row["inFlight"], "lines": (now - self.since) // 1000 + 100, "name": self.name, "visible": row["visible"],
         }
 
@@ -71,6 +86,38 @@ class Queue:
         return [{"name": name, "state": STATES[(number + self.place + now // MINUTE) % 3]} for number, name in enumerate(names)]
 
 
+class One(Queue):
+    """A queue with one of everything: one message, one entry, and one call of each kind in each minute."""
+
+    def minute(self, minute, over=MINUTE):
+        """Returns a minute in which each thing happened once."""
+        return {**dict.fromkeys(super().minute(minute), 1), "minute": minute}
+
+    def sheet(self, now):
+        """Returns what stands in it."""
+        return {**super().sheet(now), "lines": 1}
+
+
+class Large(Queue):
+    """A queue as large as one can be: its name and those of its alarms are the longest, and so are its numbers."""
+
+    def __init__(self, place, _, since):
+        super().__init__(place, f"{place:03}{'W' * 77}", since)
+
+    def minute(self, minute, over=MINUTE):
+        """Returns a minute of millions."""
+        millions = {key: 16_000_000 + number for key, number in super().minute(minute, over).items()}
+        return {**millions, "age": 1_209_599, "inFlight": 120_000, "minute": minute, "sentSize": 16_000_000 * 262_144}
+
+    def sheet(self, now):
+        """Returns what stands in it."""
+        return {**super().sheet(now), "lines": 16_777_216}
+
+    def alarms(self, now):
+        """Returns as many alarms as a queue can have."""
+        return [{"name": f"{number:02}{'W' * 78}", "state": STATES[(number + now // MINUTE) % 3]} for number in range(16)]
+
+
 def names(count):
     """Returns so many names: some as queues have them, then the odd ones, then numbers."""
     first = ["dead", "jobs", "mail-out", "thumbnails_v2", *ODD]
@@ -82,10 +129,15 @@ class Answers(BaseHTTPRequestHandler):
 
     queues = ()
     asked = {}
+    start = None  # where this is a time in milliseconds, a second passes with each request for the list, and otherwise none
+
+    @classmethod
+    def now(cls):
+        """Returns the time in milliseconds."""
+        return cls.start + 1000 * cls.asked.get("/", 0) if cls.start else int(time.time() * 1000)
 
     def text_of(self):
         """Returns the status, the content type and the text."""
-        now = int(time.time() * 1000)
         if self.path == "/":
             return 200, "text/html; charset=utf-8", page()
         found = re.fullmatch(r"/statistics/queues(?:/([^/]+)(/rows|/alarms)?)?", self.path)
@@ -94,7 +146,7 @@ class Answers(BaseHTTPRequestHandler):
         if not found:
             return 404, "application/json", '{"message":"not found"}'
         self.asked[found[2] or "/"] = self.asked.get(found[2] or "/", 0) + 1
-        by_name = sorted(self.queues, key=lambda it: it.name.encode())
+        now, by_name = self.now(), sorted(self.queues, key=lambda it: it.name.encode())
         if found[1] is None:
             told = {"queues": [it.sheet(now) for it in by_name]}
         else:
@@ -121,11 +173,11 @@ class Answers(BaseHTTPRequestHandler):
         """Says nothing."""
 
 
-def serving(port, count):
-    """Returns a server of so many queues, which listens already."""
-    since = int(time.time() * 1000) - 200 * MINUTE
-    Answers.queues = [Queue(place, name, since) for place, name in enumerate(names(count))]
-    Answers.asked = {}
+def serving(port, count, kind=Queue, minutes=200, start=None):
+    """Returns a server of so many queues of a kind, which are so many minutes old. It listens already. With a start its clock is its own."""
+    Answers.start, Answers.asked = start, {}
+    since = Answers.now() - minutes * MINUTE
+    Answers.queues = [kind(place, name, since) for place, name in enumerate(names(count))]
     return ThreadingHTTPServer(("127.0.0.1", port), Answers)
 
 
