@@ -69,19 +69,27 @@ impl Numbers {
     ghost use Rattle.board.specs.Numbers.{figures_of};
     ghost use Rattle.board.specs.Shown.{with_figures};
 
-    /// Those of a turn. `OutOfMemory` is the only refusal.
-    pub(crate) fn of(alloc: Global, turn: &Turn) -> Result<Numbers, Fault>
-        ensures ok { IfOk result (λ numbers. numbers ≡ figures_of turn.now) }
-        ensures errors { IfErr result (λ fault. fault ≡ OutOfMemory) }
+    /// Those of a turn.
+    pub(crate) fn of(turn: Turn) -> Numbers
+        ensures { result ≡ figures_of turn }
     {
-        Ok(Numbers {
-            clock: turn.clock,
-            lines: turn.lines,
-            gauges: turn.gauges,
-            current: turn.current,
-            rows: Vec::from_slice(alloc, turn.rows.as_slice())?,
-            states: Vec::from_slice(alloc, turn.alarms.as_slice())?,
-        })
+        let Turn {
+            marks: _,
+            clock,
+            lines,
+            gauges,
+            current,
+            rows,
+            alarms,
+        } = turn;
+        Numbers {
+            clock,
+            lines,
+            gauges,
+            current,
+            rows,
+            states: alarms,
+        }
     }
 
     /// A sheet with these numbers, whose names are those of the sheet that was given. `OutOfMemory` is

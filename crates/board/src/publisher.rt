@@ -21,6 +21,7 @@ use message::Fault;
 use std::alloc::{AllocError, Global};
 use std::marker::Model;
 use std::mem::replace;
+use std::snapshot::Snapshot;
 use std::sync::{Arc, Wait};
 
 /// Two copies of what lies on the board, of which readers take one.
@@ -86,14 +87,14 @@ fn put<W: Wait>(rt: &W, copies: Copies, told: Told) -> Copies
 /// The numbers of a turn, to be shared by three. `OutOfMemory` is the only refusal.
 fn shared_numbers(
     alloc: Global,
-    turn: &Turn,
+    turn: Turn,
 ) -> Result<(Arc<Numbers>, Arc<Numbers>, Arc<Numbers>), Fault>
-    ensures first { IfOk result (λ n. arc_value n.0 ≡ figures_of turn.now) }
-    ensures second { IfOk result (λ n. arc_value n.1 ≡ figures_of turn.now) }
-    ensures third { IfOk result (λ n. arc_value n.2 ≡ figures_of turn.now) }
+    ensures first { IfOk result (λ n. arc_value n.0 ≡ figures_of turn) }
+    ensures second { IfOk result (λ n. arc_value n.1 ≡ figures_of turn) }
+    ensures third { IfOk result (λ n. arc_value n.2 ≡ figures_of turn) }
     ensures errors { IfErr result (λ fault. fault ≡ OutOfMemory) }
 {
-    let numbers = Arc::new(alloc, Numbers::of(alloc, turn)?)?;
+    let numbers = Arc::new(alloc, Numbers::of(turn))?;
     let second = Arc::try_clone(&numbers)?;
     let third = Arc::try_clone(&numbers)?;
     Ok((numbers, second, third))
@@ -116,15 +117,16 @@ impl<R: Wait + Drop> Publisher<R> {
 
     /// Prints a turn. `None` is want of memory, or that no more turns can be counted: the readers see what
     /// they saw.
-    fn publish<W: Wait>(&mut self, rt: &W, alloc: Global, turn: &Turn) -> Option<Told>
-        requires { IsPublicationRecord (self.old.turns ++ turn.now ∷ []) }
-        ensures told { IfSome result (λ told. (told.book ≡ self.old.book) × (told.turns ≡ self.old.turns ++ turn.now ∷ [])) }
-        ensures some { IfSome result (λ told. self.new.turns ≡ self.old.turns ++ turn.now ∷ []) }
+    fn publish<W: Wait>(&mut self, rt: &W, alloc: Global, turn: Turn) -> Option<Told>
+        requires { IsPublicationRecord (self.old.turns ++ turn ∷ []) }
+        ensures told { IfSome result (λ told. (told.book ≡ self.old.book) × (told.turns ≡ self.old.turns ++ turn ∷ [])) }
+        ensures some { IfSome result (λ told. self.new.turns ≡ self.old.turns ++ turn ∷ []) }
         ensures none { IfNone result (self.new ≡ self.old) }
         ensures book { self.new.book ≡ self.old.book }
     {
+        let entry = Snapshot::of(&turn);
         let (mine, shown, answer) = shared_numbers(alloc, turn).ok()?;
-        let (seen, count) = self.told.add(&self.count, turn)?;
+        let (seen, count) = self.told.add(&self.count, &entry)?;
         self.told = Told::of(mine, count, &seen);
         self.put(rt, Told::of(shown, count, &seen));
         Some(Told::of(answer, count, &seen))
@@ -174,7 +176,7 @@ impl<R: Wait + Drop> Press for Publisher<R> {
         None
     }
 
-    fn print<W: Wait>(&mut self, rt: &W, alloc: Global, turn: &Turn) -> Option<Told> {
+    fn print<W: Wait>(&mut self, rt: &W, alloc: Global, turn: Turn) -> Option<Told> {
         self.publish(rt, alloc, turn)
     }
 }

@@ -2,6 +2,7 @@
 
 use desk::Turn;
 use logbook::{Gain, Plain, Play, Rule};
+use std::snapshot::Snapshot;
 
 /// The rule of the book of printed turns.
 pub struct Law;
@@ -42,10 +43,10 @@ impl Play<Turn, u64> for Add {
     ghost then = { Adds };
 }
 
-impl Plain<Turn, Turn, u64> for Add {
+impl Plain<Snapshot<Turn>, Turn, u64> for Add {
     ghost use Rattle.std.specs.Prelude.{None};
 
-    ghost ask = { λ turn. turn };
+    ghost ask = { λ turn. turn.value };
 
     ghost state = { λ turn. None };
 }

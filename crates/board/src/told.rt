@@ -18,6 +18,7 @@ use logbook::{Offer, Seen, Start, Word};
 use message::Fault;
 use std::alloc::{AllocError, Global};
 use std::marker::Model;
+use std::snapshot::Snapshot;
 use std::sync::Arc;
 
 /// The word of a board that counts its printed turns.
@@ -97,13 +98,17 @@ impl Told {
     /// Adds a turn to the book, behind all that is known here. `None` where others stand there, or where
     /// no more can be counted. Otherwise all turns, and how many they are.
     #[tactic(auto, using(crate::proofs::Prefixes::last_figures_snoc))]
-    pub(crate) fn add(&self, count: &Count, turn: &Turn) -> Option<(Seen<Turn, u64, Law>, u64)>
+    pub(crate) fn add(
+        &self,
+        count: &Count,
+        turn: &Snapshot<Turn>,
+    ) -> Option<(Seen<Turn, u64, Law>, u64)>
         requires word { count.now ≡ count_of self.now.book }
-        requires fits { IsPublicationRecord (self.now.turns ++ turn.now ∷ []) }
+        requires fits { IsPublicationRecord (self.now.turns ++ turn.now.value ∷ []) }
         ensures book { IfSome result (λ r. r.0.book ≡ self.now.book) }
-        ensures turns { IfSome result (λ r. r.0.log ≡ self.now.turns ++ turn.now ∷ []) }
+        ensures turns { IfSome result (λ r. r.0.log ≡ self.now.turns ++ turn.now.value ∷ []) }
         ensures fits { IfSome result (λ r. IsPublicationRecord r.0.log) }
-        ensures last { IfSome result (λ r. last_figures r.0.log ≡ Some (figures_of turn.now)) }
+        ensures last { IfSome result (λ r. last_figures r.0.log ≡ Some (figures_of turn.now.value)) }
         ensures count { IfSome result (λ r. r.1 ≡ length r.0.log) }
     {
         let before = self.count;
@@ -111,7 +116,9 @@ impl Told {
             return None;
         }
         let mut seen = self.seen.again();
-        let mut offer: Offer<Turn, u64, Law, Nothing> = seen.plain::<Nothing, Turn, Add>(turn);
+        let mut offer: Offer<Turn, u64, Law, Nothing> = seen.plain::<Nothing, Snapshot<Turn>, Add>(
+            turn,
+        );
         let mut pen = seen.no_pen();
         let found = count.compare_exchange::<Add, Nothing>(
             before,

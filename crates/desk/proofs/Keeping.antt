@@ -14,11 +14,11 @@ use Rattle.desk.specs.declared.view.View.{View}
 use Rattle.desk.specs.declared.view.Stage.{Stage}
 use Rattle.desk.specs.declared.view.Stage.TheVariants.{Fresh, Idle, Drawn, Turn, Ended}
 use Rattle.desk.specs.declared.made.Made.{Made}
-use Rattle.desk.specs.History.{IsAnswered, after_call, state_of, IsLegalHistory, calls_by}
+use Rattle.desk.specs.History.{IsAnswered, after_call, state_of, IsLegalHistory, calls_by, GoesOnFrom}
 use Rattle.desk.specs.Held.{Lying}
 use Rattle.desk.specs.Views.{most_tickets, first_view, ended_view, cut_off, hearing, absorbing}
 use Rattle.desk.specs.Rule.{ticket_of, tickets_of, held_tickets, Follows, IsOwn, FitsStage, Fits, AreApart, IsHome, IsOut, IsInTurn}
-use Rattle.desk.specs.Steps.{Holder, at_stage, counting, has_counted, has_drawn, HasSeen, HasTurn, drawn_ticket, has_waited, has_looked, has_entered, made_in, call_of, with_call, has_ended}
+use Rattle.desk.specs.Steps.{Holder, at_stage, counting, has_counted, has_drawn, has_begun, HasSeen, HasTurn, drawn_ticket, has_waited, has_looked, has_entered, made_in, call_of, with_call, has_ended}
 use Rattle.desk.proofs.HistoryLemmas.{state_snoc, legal_snoc, own_call, other_call, goes_on, goes_whole}
 
 abbrev Desk : Type 0
@@ -300,6 +300,73 @@ waits start slots id t me drawn empty s r wide at _ =
       (
         has_seen start r.log id v v.stage fit calls r.legal,
         subst (λ b. MatchBool b (HasTurn (w, me.1) y) ((w.stage ≡ v.stage) × (me.1 ≡ []))) (sym (ne_eqb y (drawn_ticket me) (λ e. miss (e ∙ mine)))) (refl, empty),
+      ),
+    ))
+
+-- ---- a turn is begun at once
+
+no_more : (l : List Call) → length l ≡ 0 → l ≡ []
+no_more [] is = refl
+no_more (x ∷ xs) is = absurd (omega (arith, is))
+
+-- who has seen as many calls as there are has seen them all
+sees_whole : (seen log : List Call) → GoesOnFrom seen log → length log ≡ length seen → seen ≡ log
+sees_whole seen log g same =
+    let longer : length log ≡ length (seen ++ g.0) = ap length g.1 in let none_more : g.0 ≡ [] = no_more g.0 (omega (arith, length-append seen g.0, longer, same)) in
+    sym (g.1 ∙ ap (λ (l : List Call). seen ++ l) none_more ∙ append-nil seen)
+
+-- who has the queue holds a ticket
+none_out : (homes : Homes) (views : List View) → held_tickets views ≡ 0 → IsOut homes views → ⊥
+none_out homes views free o =
+    let u : View = o.1.2 in let one : tickets_of u.stage ≡ 1 = ap tickets_of o.1.4 in
+    let gone : held_tickets (set views o.1.0 ended_view) + tickets_of u.stage ≡ held_tickets views + 0 = held_set views o.1.0 u ended_view o.1.3 in omega (arith, one, gone, free)
+
+-- Where as many tickets are drawn as calls were seen, none is held: each that was drawn is held or has its call. So the turn of the next has come
+pub begins : (start : Lying) (slots id old : ℕ) (me : Holder) → me.0.stage ≡ Idle → me.1 ≡ [] → old ≡ length me.0.seen → old < most_tickets
+    → Allows (IsInTurn start) slots id me 1 (λ n. either (eqb n old) (old + 1) n) (has_begun (step slots 1 old (old + 1) none) me)
+begins start slots id old me idle empty seen room s r wide at _ =
+    let v : View = me.0 in let y : ℕ = slice_index s.words 1 in let found : y ≡ r.tickets = ap (λ (ws : List ℕ). slice_index ws 1) r.words in
+    let fit = of_idle start r.log r.tickets id v v.stage idle (r.fits id v at) in
+    let told = has_begun (step slots 1 old (old + 1) none) me in
+    let all : length r.log + held_tickets s.views ≡ r.tickets = r.all in
+    let more : length r.log ≡ length (v.seen ++ fit.0.seen.0) = ap length fit.0.seen.1 in
+    let known : length v.seen ≤ length r.log = omega (arith, length-append v.seen fit.0.seen.0, more) in
+    let counted : v.begun ≤ y = (let b : v.begun ≤ r.tickets = r.counted id v at in omega (arith, found, b)) in
+    exchanged y old (old + 1) (λ n. (w : View) × (a : Act (Option Lying)) × Valid s.homes me.1 a × IsInTurn start (stepped s 1 n id me.1 w a) × told y (w, carried_after me.1 a))
+    (λ hit. let w : View = at_stage (counting v y) (Turn y) in
+    let count : length r.log ≡ length v.seen = omega (arith, all, known, found, hit, seen) in
+    let free : held_tickets s.views ≡ 0 = omega (arith, all, count, found, hit, seen) in
+    let whole : v.seen ≡ r.log = sees_whole v.seen r.log fit.0.seen count in
+    let queue : state_of v.start v.seen ≡ state_of start.queue r.log = ap (λ (q : QueueHistory). state_of q v.seen) fit.0.opened ∙ ap (λ (l : List Call). state_of start.queue l) whole in
+    let fits : Fits start r.log (old + 1) id w = (follows_at start r.log (counting v y) (Turn y) (follows_counting start r.log v y fit.0), fit.1, (let g : y ≡ length r.log = omega (arith, count, hit, seen) in g), (let g : y < old + 1 = omega (arith, hit) in g), whole) in
+    ⊎_elim
+    (λ (h : IsHome start r.log s.homes). let x : Lying = h.0 in (
+      w,
+      takes 0 (Some x),
+      ap (λ (hs : Homes). get_elem? hs 0) h.1,
+      stands start s r id (old + 1) w (set s.words 1 (old + 1)) (set s.homes 0 none) (ap (λ (ws : List ℕ). set ws 1 (old + 1)) r.words) (omega (arith, found, hit)) (omega (arith, room)) fits (omega (arith, hit))
+          (λ ticket is j u other there holds.
+          let same : y ≡ ticket = ap ticket_or_zero is in let drawn : ticket < r.tickets = ticket_drawn start r.log r.tickets j ticket u u.stage holds (r.fits j u there) in absurd (omega (arith, found)))
+          (inr (ap (λ (hs : Homes). set hs 0 none) h.1, (id, y, w, set_here s.views id w (within s.views id v at), refl)))
+          (let views : held_tickets (set s.views id w) + tickets_of v.stage ≡ held_tickets s.views + 1 = held_set s.views id v w at in let none_held : tickets_of v.stage ≡ 0 = ap tickets_of idle in
+          omega (arith, views, none_held, all, found, hit)),
+      (
+        counted,
+        subst (λ b. MatchBool b ((w ≡ at_stage (counting v y) (Turn y)) × HasTurn (w, (0, Some x) ∷ me.1) y) ((old < y) × ◌≡◌ {A = Holder} (w, (0, Some x) ∷ me.1) (counting v y, me.1))) (sym (eq-eqb y old hit))
+            (refl, (refl, (let g : length v.seen ≡ y = omega (arith, hit, seen) in g), (x, ap (λ (c : List (ℕ × Option Lying)). (0, Some x) ∷ c) empty, h.2 ∙ sym queue, h.3 ∙ sym fit.0.placed))),
+      ),
+    ))
+    (λ (o : IsOut s.homes s.views). absurd (none_out s.homes s.views free o))
+    r.home)
+    (λ miss. (
+      counting v y,
+      keeps,
+      tt,
+      stays_counted start s r id v at idle,
+      (
+        counted,
+        subst (λ b. MatchBool b ((counting v y ≡ at_stage (counting v y) (Turn y)) × HasTurn (counting v y, me.1) y) ((old < y) × ◌≡◌ {A = Holder} (counting v y, me.1) (counting v y, me.1))) (sym (ne_eqb y old miss))
+            ((let g : old < y = omega (arith, all, known, found, miss, seen) in g), refl),
       ),
     ))
 

@@ -1,18 +1,17 @@
 -- What a pass knows after a call, and what a last turn gives.
-use Rattle.std.proofs.Common.{◌≡◌, ℕ, Option, Some, None, Result, refl, sym, ap, ◌∙◌, subst}
+use Rattle.std.proofs.Common.{◌≡◌, ℕ, [], ◌∷◌, ◌++◌, Result, refl, sym, ap, ◌∙◌, subst}
 use Rattle.message.specs.declared.fault.Fault.{Fault}
 use Rattle.atomic_table.specs.Seated.{TableId}
 use Rattle.queue_core.specs.declared.command.Command.{Command}
 use Rattle.queue_core.specs.declared.reply.Reply.{Reply}
-use Rattle.queue_core.specs.Queue.{QueueHistory, after_answer}
+use Rattle.queue_core.specs.Queue.{QueueHistory}
 use Rattle.desk.specs.declared.view.Call.{Call}
 use Rattle.desk.specs.declared.view.View.{View}
-use Rattle.desk.specs.declared.view.Stage.TheVariants.{Idle, Drawn}
-use Rattle.desk.specs.declared.made.Made.{Made}
-use Rattle.desk.specs.History.{IsAnswered, state_of, IsLegalHistory, calls_by}
+use Rattle.desk.specs.declared.view.Stage.TheVariants.{Drawn}
+use Rattle.desk.specs.History.{IsAnswered, after_call, state_of, IsLegalHistory, calls_by, call}
 use Rattle.desk.specs.Held.{Lying, IsBehind}
 use Rattle.desk.specs.Views.{IsKnown, knowledge_of, IsLastState}
-use Rattle.desk.specs.Steps.{at_stage, counting, HasSeen, call_of, with_call}
+use Rattle.desk.specs.Steps.{at_stage, counting, HasSeen, call_of, behind_call, with_call}
 use Rattle.desk.proofs.HistoryLemmas.{state_snoc, legal_snoc, own_call}
 
 -- the queue that a pass takes in its last turn
@@ -21,31 +20,28 @@ last_state desk v u w ticket queue drawn seen left =
     let s = subst (λ (z : View). HasSeen z w) drawn seen in
     record { history = w.seen; legal = s.legal; goes_on = s.seen; own = s.own; state = left ∙ ap (λ (q : QueueHistory). state_of q w.seen) s.start }
 
--- a pass that has seen the history knows it behind its call too
-pub known_behind : (desk : TableId) (before v : View) (at : ℕ) (command : Command) (reply : Result Reply Fault) (x : Lying) (queue : QueueHistory) → HasSeen before v → queue ≡ state_of v.start v.seen
-    → IsAnswered queue at command reply → IsBehind queue at command reply x → ((with_call v x.made).stage ≡ Idle) × IsKnown (knowledge_of desk (with_call v x.made))
-known_behind desk before v at command reply x queue seen is answered behind =
-    let made : Made = behind.made in let c : Call = call_of v.number made in
-    let told : IsAnswered (state_of v.start v.seen) made.at made.command.value made.reply.value =
-    rw (behind.moment, behind.asked, behind.answered, sym is) answered in
-    subst (λ m. ((with_call v m).stage ≡ Idle) × IsKnown (knowledge_of desk (with_call v m))) (sym behind.last) (
-      refl,
-      record {
-        legal = legal_snoc v.start v.seen c (subst (λ (q : QueueHistory). IsLegalHistory q v.seen) (sym seen.start) seen.legal) told;
-        own = own_call v.number v.seen v.mine c refl (ap (λ (n : ℕ). calls_by n v.seen) seen.number ∙ seen.own ∙ sym seen.mine);
-      },
-    )
+-- a pass that has seen the history knows it
+pub known_seen : (desk : TableId) (before v : View) → HasSeen before v → IsKnown (knowledge_of desk v)
+known_seen desk before v s = record { legal = subst (λ (q : QueueHistory). IsLegalHistory q v.seen) (sym s.start) s.legal; own = ap (λ (n : ℕ). calls_by n v.seen) s.number ∙ s.own ∙ sym s.mine }
 
--- the place of a desk's press stays
-pub same_place : (v : View) (made : Option Made) → (with_call v made).place ≡ v.place
-same_place v None = refl
-same_place v (Some made) = refl
+-- the call that was kept is the one that was made
+kept : (number at : ℕ) (command : Command) (reply : Result Reply Fault) (x : Lying) (queue : QueueHistory) → (b : IsBehind queue at command reply x) → call_of number b.made ≡ call number at command reply
+kept number at command reply x queue b = λ k. call number (b.moment k) (b.asked k) (b.answered k)
+
+-- the view of a pass whose turn has ended
+pub called : (v : View) (at : ℕ) (command : Command) (reply : Result Reply Fault) (x : Lying) (queue : QueueHistory) → IsBehind queue at command reply x
+    → with_call v x.made ≡ behind_call v (call v.number at command reply)
+called v at command reply x queue b = ap (with_call v) b.last ∙ ap (behind_call v) (kept v.number at command reply x queue b)
+
+-- it knows the history behind its call too
+pub known_behind : (desk : TableId) (v : View) (at : ℕ) (command : Command) (reply : Result Reply Fault) (queue : QueueHistory) → IsKnown (knowledge_of desk v) → queue ≡ state_of v.start v.seen
+    → IsAnswered queue at command reply → IsKnown (knowledge_of desk (behind_call v (call v.number at command reply)))
+known_behind desk v at command reply queue known is answered =
+    let c : Call = call v.number at command reply in
+    record { legal = legal_snoc v.start v.seen c known.legal (subst (λ (q : QueueHistory). IsAnswered q at command reply) is answered); own = own_call v.number v.seen v.mine c refl known.own }
 
 -- the queue behind a call is what the history leaves, the call with it
 pub left_behind : (v : View) (at : ℕ) (command : Command) (reply : Result Reply Fault) (x : Lying) (queue : QueueHistory) → queue ≡ state_of v.start v.seen → IsBehind queue at command reply x
-    → x.queue ≡ state_of (with_call v x.made).start (with_call v x.made).seen
-left_behind v at command reply x queue is behind =
-    let made : Made = behind.made in
-    let same : after_answer (state_of v.start v.seen) made.at made.command.value made.reply.value ≡ after_answer queue at command reply =
-    λ k. after_answer (sym is k) (behind.moment k) (behind.asked k) (behind.answered k) in
-    subst (λ m. x.queue ≡ state_of (with_call v m).start (with_call v m).seen) (sym behind.last) (behind.left ∙ sym same ∙ sym (state_snoc v.start v.seen (call_of v.number made)))
+    → x.queue ≡ state_of v.start (v.seen ++ call v.number at command reply ∷ [])
+left_behind v at command reply x queue is b =
+    let c : Call = call v.number at command reply in b.left ∙ ap (λ (q : QueueHistory). after_call q c) is ∙ sym (state_snoc v.start v.seen c)

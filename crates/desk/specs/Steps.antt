@@ -1,5 +1,5 @@
 -- What each step at a desk tells the pass that makes it.
-use Rattle.std.specs.Prelude.{◌≡◌, ℕ, ◌==◌, ◌≤◌, ◌≢◌, List, [], ◌∷◌, ◌++◌, length, Option, Some, None, MatchBool, option_and_then, unwrap_or}
+use Rattle.std.specs.Prelude.{◌≡◌, ℕ, ◌==◌, ◌<◌, ◌≤◌, ◌≢◌, List, [], ◌∷◌, ◌++◌, length, Option, Some, None, MatchBool, option_and_then, unwrap_or}
 use Rattle.atomic_table.specs.Table.{Step, Me}
 use Rattle.desk.specs.declared.view.Call.{Call}
 use Rattle.desk.specs.declared.view.View.{View}
@@ -73,6 +73,12 @@ has_waited s before found after =
     HasSeen before.0 after.0
     × MatchBool (found == drawn_ticket before) (HasTurn after found) ((after.0.stage ≡ before.0.stage) × (after.1 ≡ []))
 
+-- Where the word was the one expected, a ticket was drawn whose turn had come: the pass has the queue that the history leaves which it had seen. Else more tickets were drawn than that, and they were counted
+abbrev pub has_begun : Step (Option Lying) → Holder → ℕ → Holder → Type 0
+has_begun s before found after =
+    (before.0.begun ≤ found)
+    × MatchBool (found == s.first) ((after.0 ≡ at_stage (counting before.0 found) (Turn found)) × HasTurn after found) ((s.first < found) × (after ≡ (counting before.0 found, before.1)))
+
 -- the call that lies in the slot that a pass holds
 abbrev pub made_in : List (ℕ × Option Lying) → Option Made
 made_in [] = None
@@ -80,6 +86,10 @@ made_in (x ∷ xs) = option_and_then (λ l. l.made) x.1
 
 abbrev pub call_of : ℕ → Made → Call
 call_of number made = call number made.at made.command.value made.reply.value
+
+-- a view behind a call
+abbrev pub behind_call : View → Call → View
+behind_call v c = record v { seen = v.seen ++ c ∷ []; mine = v.mine ++ c ∷ []; stage = Idle }
 
 -- a view behind one call more
 abbrev pub with_call : View → Option Made → View

@@ -1,5 +1,5 @@
 -- What a pass knows, as contracts see it, and what one call adds to it.
-use Rattle.std.specs.Prelude.{◌≡◌, ◌≢◌, ℕ, ◌<◌, ◌≤◌, List, [], ◌∷◌, ◌++◌, ◌^◌, Result}
+use Rattle.std.specs.Prelude.{◌≡◌, ◌≢◌, ◌⊎◌, ℕ, ◌<◌, ◌≤◌, List, [], ◌∷◌, ◌++◌, ◌^◌, length, Result}
 use Rattle.message.specs.declared.fault.Fault.{Fault}
 use Rattle.atomic_table.specs.Seated.{TableId}
 use Rattle.queue_config.specs.Limits.{default_limits}
@@ -113,3 +113,8 @@ pub record IsLastState (pass : Knowledge) (queue : QueueHistory) : Type 0 where
 -- all tickets are drawn, which are no fewer than were known before: nothing else is known that was not
 abbrev pub IsSpent : Knowledge → Knowledge → Type 0
 IsSpent before after = (before.begun ≤ most_tickets) × (after ≡ record before { begun = most_tickets })
+
+-- No turn was free: more tickets were drawn than turns had ended that were seen, or as many turns have ended as there may be. No fewer tickets are known than before
+pub record IsBusy (before after : Knowledge) : Type 0 where
+  pub counted : before.begun ≤ after.begun
+  pub taken : (length after.seen < after.begun) ⊎ (most_tickets ≤ length after.seen)

@@ -8,6 +8,7 @@ use queue_core::Reply;
 pub struct Asked<T> {
     pub reply: Result<Reply, Fault>,
     /// What the press answered to the turn. `None` where the desk is spent, where memory ran out for the
-    /// turn, and where `print` answered `None`.
+    /// turn, where `print` answered `None`, and for `FirstParcel`, which changes nothing: its turn is not
+    /// printed.
     pub told: Option<T>,
 }

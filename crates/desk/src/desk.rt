@@ -8,7 +8,7 @@ use crate::gate::Gate;
 use crate::held::Held;
 use crate::pass::{Note, Pass};
 use crate::printing::Press;
-use crate::rule::{Absorb, Await, Count, CutOff, Draw, End, Enter, Hear, InTurn, Look};
+use crate::rule::{Absorb, Await, Begin, Count, CutOff, Draw, End, Enter, Hear, InTurn, Look};
 use crate::view::View;
 use atomic_table::{Seat, Table};
 use journal::{Moment, Ticks};
@@ -47,10 +47,10 @@ impl<P: Press> Model for Desk<P> {
 
 impl<P: Press> Desk<P> {
     ghost use Rattle.desk.specs.declared.view.Stage.TheVariants.{Idle, Drawn, Turn};
-    ghost use Rattle.desk.specs.Views.{most_tickets, first_knowledge, HasCalled, IsKnown, IsSpent, SeesMore, IsNewPass, IsLastState};
-    ghost use Rattle.desk.specs.History.{state_of, calls_by, GoesOnFrom};
+    ghost use Rattle.desk.specs.Views.{most_tickets, first_knowledge, knowledge_of, HasCalled, IsKnown, IsSpent, IsBusy, SeesMore, IsNewPass, IsLastState};
+    ghost use Rattle.desk.specs.History.{state_of, calls_by, call, GoesOnFrom};
     ghost use Rattle.desk.specs.Printed.{IsToldOf};
-    ghost use Rattle.desk.specs.Steps.{at_stage, counting, HasSeen, HasTurn, HasPerformed, with_call};
+    ghost use Rattle.desk.specs.Steps.{at_stage, counting, HasSeen, HasTurn, HasPerformed, behind_call, with_call};
 
     /// A desk with a queue on it, and its first pass, which has seen and called nothing. `OutOfMemory`
     /// is the only refusal; the queue and the press are then dropped.
@@ -123,6 +123,31 @@ impl<P: Press> Desk<P> {
         unreachable!()
     }
 
+    /// Draws a ticket where its turn has come, and has the turn then. It waits for nothing.
+    fn begin(&self, seat: &mut Seat<Option<Held<P>>, View>) -> Option<u64>
+        requires desk { seat.old.table_id ≡ self.now }
+        requires idle { seat.old.me.0.stage ≡ Idle }
+        requires empty { seat.old.me.1 ≡ [] }
+        ensures desk { seat.new.table_id ≡ seat.old.table_id }
+        ensures seen { HasSeen (counting seat.old.me.0 seat.new.me.0.begun) seat.new.me.0 }
+        ensures counted { seat.old.me.0.begun ≤ seat.new.me.0.begun }
+        ensures some { IfSome result (λ ticket. (ticket < most_tickets) × (seat.new.me.0.begun ≡ ticket) × HasTurn seat.new.me ticket) }
+        ensures none { IfNone result ((seat.new.me.0.stage ≡ Idle) × (seat.new.me.1 ≡ []) × ((length seat.new.me.0.seen < seat.new.me.0.begun) ⊎ (most_tickets ≤ length seat.new.me.0.seen))) }
+    {
+        let ended = self.look(seat);
+        if ended >= MOST_TICKETS {
+            return None;
+        }
+        let found = self
+            .table
+            .shared
+            .compare_exchange::<Begin>(seat, TICKETS, ended, ended + 1);
+        if found != ended {
+            return None;
+        }
+        Some(ended)
+    }
+
     /// Takes the queue from the desk, at the turn.
     fn take(&self, seat: &mut Seat<Option<Held<P>>, View>) -> Held<P>
         requires desk { seat.old.table_id ≡ self.now }
@@ -155,6 +180,34 @@ impl<P: Press> Desk<P> {
         }
     }
 
+    /// Calls the queue in the turn of a ticket, from which it is taken to where it lies again. What is told
+    /// is of the queue behind the call, which takes place as the turn ends.
+    fn call_in_turn<R: Wait>(
+        &self,
+        rt: &R,
+        alloc: Global,
+        seat: &mut Seat<Option<Held<P>>, View>,
+        ticket: u64,
+        at: Moment,
+        command: &Command,
+        gate: &impl Gate,
+    ) -> Asked<P::Told>
+        requires desk { seat.old.table_id ≡ self.now }
+        requires turn { HasTurn seat.old.me ticket }
+        requires known { IsKnown (knowledge_of seat.old.table_id seat.old.me.0) }
+        ensures desk { seat.new.table_id ≡ seat.old.table_id }
+        ensures called { seat.new.me ≡ (behind_call seat.old.me.0 (call seat.old.me.0.number at command.now result.reply), []) }
+        ensures known { IsKnown (knowledge_of seat.new.table_id seat.new.me.0) }
+        ensures told { IfSome result.told (λ told. IsToldOf (P.tells seat.new.me.0.place) (state_of seat.new.me.0.start seat.new.me.0.seen) told) }
+    {
+        let mut held = self.take(seat);
+        gate.in_turn(rt, ticket);
+        let reply = held.perform(alloc, at, command);
+        let told = held.tell(rt, alloc, command);
+        self.end(seat, held);
+        Asked { reply, told }
+    }
+
     /// Calls the queue at a moment, in a turn of its own, and waits for it. `Spent` is the answer where
     /// all 2^62 tickets are drawn, and nothing is called then. Every other answer, `OutOfMemory` among
     /// them, is a call in the history, and what is told is of the queue behind it.
@@ -180,12 +233,31 @@ impl<P: Press> Desk<P> {
             };
         };
         self.wait(rt, &mut pass.seat, ticket);
-        let mut held = self.take(&mut pass.seat);
-        gate.in_turn(rt, ticket);
-        let reply = held.perform(alloc, at, command);
-        let told = held.tell(rt, alloc);
-        self.end(&mut pass.seat, held);
-        Asked { reply, told }
+        self.call_in_turn(rt, alloc, &mut pass.seat, ticket, at, command, gate)
+    }
+
+    /// The same where the turn is free, and nothing where it is not: `None` is the answer where another
+    /// holds a ticket, or none is left, and nothing is called then. It waits for no turn: `rt` is for the
+    /// gate and for the press.
+    pub fn ask_now<R: Wait>(
+        &self,
+        rt: &R,
+        alloc: Global,
+        pass: &mut Pass<P>,
+        at: Moment,
+        command: &Command,
+        gate: &impl Gate,
+    ) -> Option<Asked<P::Told>>
+        requires { pass.old.desk ≡ self.now }
+        ensures some { IfSome result (λ asked. HasCalled pass.old at command.now asked.reply pass.new) }
+        ensures none { IfNone result (SeesMore pass.old pass.new) }
+        ensures busy { IfNone result (IsBusy pass.old pass.new) }
+        ensures desk { pass.new.desk ≡ pass.old.desk }
+        ensures known { IsKnown pass.new }
+        ensures told { IfSome result (λ asked. IfSome asked.told (λ told. IsToldOf (P.tells pass.new.place) (state_of pass.new.start pass.new.seen) told)) }
+    {
+        let ticket = self.begin(&mut pass.seat)?;
+        Some(self.call_in_turn(rt, alloc, &mut pass.seat, ticket, at, command, gate))
     }
 
     /// Looks at the history without a turn, and answers how many turns have ended, which are its calls.

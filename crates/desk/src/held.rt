@@ -75,11 +75,20 @@ impl<P: Press> Held<P> {
         reply
     }
 
-    /// Tells the press of the queue as it is now. `None` is want of memory, for the turn or for the press.
-    pub(crate) fn tell<R: Wait>(&mut self, rt: &R, alloc: Global) -> Option<P::Told>
+    /// Tells the press of the queue as a command has left it. `None` is want of memory, for the turn or for the
+    /// press; and the question for a parcel, which changes nothing, is not told.
+    pub(crate) fn tell<R: Wait>(
+        &mut self,
+        rt: &R,
+        alloc: Global,
+        command: &Command,
+    ) -> Option<P::Told>
         ensures told { IfSome result (λ told. IsToldOf (P.tells self.old.place) self.old.queue told) }
         ensures same { self.new ≡ self.old }
     {
+        if matches!(command, Command::FirstParcel) {
+            return None;
+        }
         match self.press.blank() {
             Some(told) => Some(told),
             None => self.print(rt, alloc),
@@ -94,8 +103,9 @@ impl<P: Press> Held<P> {
         let Ok(turn) = Turn::of(alloc, &mut self.state, self.told, &mut self.ticks) else {
             return None;
         };
-        let told = self.press.print(rt, alloc, &turn)?;
-        self.told = turn.lines as usize;
+        let lines = turn.lines;
+        let told = self.press.print(rt, alloc, turn)?;
+        self.told = lines as usize;
         Some(told)
     }
 

@@ -30,10 +30,10 @@ pub trait Press: Drop {
 
     /// Prints a turn, before it ends. `None` is want of memory: the press stands for what it stood for.
     /// Its place stays.
-    fn print<R: Wait>(&mut self, rt: &R, alloc: Global, turn: &Turn) -> Option<Self::Told>
-        requires { IsNextIn (stands self.old) turn.now }
-        ensures some { IfSome result (λ told. (turns : List TurnReport) → stands self.old turns → IsPublicationRecord (turns ++ turn.now ∷ []) → stands self.new (turns ++ turn.now ∷ [])) }
-        ensures told { IfSome result (λ told. tells (place self.old) turn.now told) }
+    fn print<R: Wait>(&mut self, rt: &R, alloc: Global, turn: Turn) -> Option<Self::Told>
+        requires { IsNextIn (stands self.old) turn }
+        ensures some { IfSome result (λ told. (turns : List TurnReport) → stands self.old turns → IsPublicationRecord (turns ++ turn ∷ []) → stands self.new (turns ++ turn ∷ [])) }
+        ensures told { IfSome result (λ told. tells (place self.old) turn told) }
         ensures none { IfNone result ((turns : List TurnReport) → stands self.old turns → stands self.new turns) }
         ensures place { place self.new ≡ place self.old };
 }
@@ -58,7 +58,7 @@ impl Press for NoPress {
         Some(())
     }
 
-    fn print<R: Wait>(&mut self, _rt: &R, _alloc: Global, _turn: &Turn) -> Option<()>
+    fn print<R: Wait>(&mut self, _rt: &R, _alloc: Global, _turn: Turn) -> Option<()>
         ensures { IsSome result }
     {
         self.blank()

@@ -1,6 +1,6 @@
 //! The rule of a desk, and what each step tells. These types are for the proofs alone.
 
-ghost use Rattle.desk.specs.Steps.{has_counted, has_drawn, has_waited, has_ended, has_looked, has_entered};
+ghost use Rattle.desk.specs.Steps.{has_counted, has_drawn, has_waited, has_begun, has_ended, has_looked, has_entered};
 
 use crate::held::Held;
 use crate::printing::Press;
@@ -40,6 +40,13 @@ pub struct Await;
 
 impl<P: Press> Play<Option<Held<P>>, View> for Await {
     ghost then = { has_waited };
+}
+
+/// A ticket is drawn whose turn has come.
+pub struct Begin;
+
+impl<P: Press> Play<Option<Held<P>>, View> for Begin {
+    ghost then = { has_begun };
 }
 
 /// A turn ends.

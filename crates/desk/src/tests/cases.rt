@@ -28,7 +28,7 @@ impl Press for Counting {
         None
     }
 
-    fn print<R: Wait>(&mut self, _rt: &R, _alloc: Global, turn: &Turn) -> Option<Shown> {
+    fn print<R: Wait>(&mut self, _rt: &R, _alloc: Global, turn: Turn) -> Option<Shown> {
         self.turns = self.turns.wrapping_add(1);
         let (marks, clock) = (turn.marks.len(), turn.clock.milliseconds());
         Some((self.turns, marks, turn.lines, clock)).filter(|shown| shown.0 != 3)
@@ -106,16 +106,22 @@ impl Talk {
         Ok(())
     }
 
-    /// Asks a command at a moment, which is one turn, also where it finds no memory.
+    /// Asks a command at a moment, which is one turn, also where it finds no memory. It `tries` by a call
+    /// that waits for no turn.
     fn ask<R: Wait>(&mut self, rt: &R, line: &str) -> Result<(), Fault> {
         let (verb, rest) = first_word(line);
         let (at, call) = first_word(rest);
         let (at, gate) = (moment(at)?, Barrier::new(0));
         let command = command(self.alloc, call)?;
         let before = self.desk.glance(&mut self.p);
-        let asked = self
-            .desk
-            .ask(rt, self.alloc, &mut self.p, at, &command, &gate);
+        let (desk, alloc, p) = (&self.desk, self.alloc, &mut self.p);
+        let asked = match verb {
+            "tries" => desk.ask_now(rt, alloc, p, at, &command, &gate),
+            _ => Some(desk.ask(rt, alloc, p, at, &command, &gate)),
+        };
+        let Some(asked) = asked else {
+            return Ok(self.text.push_str("taken")?);
+        };
         let turns = self.desk.glance(&mut self.p).wrapping_sub(before);
         if turns != 1 {
             return Ok(write!(self.text, "{turns} turns")?);
@@ -195,7 +201,8 @@ fn tell_asked(
 
 /// Cases, each at a desk of its own. Its first line says what it shows. Then each line is what the pass p
 /// or q does: it `counts` the turns that have ended, `parts` from itself, `cuts off` the other anew, `meets`
-/// the other or `ends` it, which is cut off anew then; it `asks` a command at a moment; it `knocks`, which
+/// the other or `ends` it, which is cut off anew then; it `asks` a command at a moment, or `tries` it where
+/// the turn is free; it `knocks`, which
 /// is to ask and to be told of the gate: 100 for each time that it was told of the turn, and the number of
 /// the turn; or it `shows` what the press was shown of the turn that it asks for. Behind `--` stands what is
 /// left of the queue when p closes the desk.
@@ -250,6 +257,17 @@ q asks 1000 send a => sent 0
 --
 1 visible, 2 entries at 1000; offered 0.1 a of 1000
 
+a turn that nobody holds is free for a pass that has seen none of those before it
+p tries 1000 send a => sent 0
+q tries 900 send b => sent 1
+p asks 1000 send c => sent 2
+q tries 0 look => 3 visible, 4 entries at 1000
+q counts => 4
+p tries 0 close => Done
+q tries 0 send d => QueueDoesNotExist
+--
+0 visible, 5 entries at 1000, closed; QueueDoesNotExist
+
 a gate is told of each turn once, by the number of the turns before it, those of another pass and of a refused call with them
 p knocks 0 look => 100: 0 visible, 1 entries at 0
 q asks 0 close => Done
@@ -259,8 +277,9 @@ p knocks 0 look => 104: 0 visible, 2 entries at 0, closed
 --
 0 visible, 2 entries at 0, closed; QueueDoesNotExist
 
-a press is shown what was entered since the last turn that was printed: the opening first, nothing behind a look, two entries where it found no memory
+a press is shown what was entered since the last turn that was printed: the opening first, nothing behind a look, two entries where it found no memory; a question for a parcel it is not shown
 p shows 1000 send a => Some((1, 2, 2, 1000))
+p shows 2000 parcel => None
 p shows 2000 look => Some((2, 0, 2, 2000))
 p shows 2000 send b => None
 p shows 3000 send c => Some((4, 2, 4, 3000))

@@ -23,23 +23,45 @@ struct Caller<'a> {
 }
 
 impl Caller<'_> {
-    /// Asks a command at a moment through a gate, and keeps what it is told. To `delete` is to delete the
-    /// message that it was offered last. Where no turn is printed, each call is told of all the same.
-    fn ask<R: Wait>(&mut self, rt: &R, line: &str, gate: &impl Gate) -> Result<(), Fault> {
-        let (alloc, (at, call)) = (self.alloc, first_word(line));
-        let command = match self.told.last().copied() {
+    /// The command that a text says. To `delete` is to delete the message that it was offered last.
+    fn command(&self, call: &str) -> Result<Command, Fault> {
+        match self.told.last().copied() {
             Some((number, receipt)) if call == "delete" => {
                 let handle = Handle {
                     uid: 1,
                     number,
                     receipt,
                 };
-                Command::Delete { handle }
+                Ok(Command::Delete { handle })
             }
-            _ => command(alloc, call)?,
-        };
-        let (at, pass) = (moment(at)?, &mut self.pass);
-        let Asked { reply, told } = self.desk.ask(rt, alloc, pass, at, &command, gate);
+            _ => command(self.alloc, call),
+        }
+    }
+
+    /// Asks a command at a moment through a gate, and keeps what it is told.
+    fn ask<R: Wait>(&mut self, rt: &R, line: &str, gate: &impl Gate) -> Result<(), Fault> {
+        let (at, call) = first_word(line);
+        let (at, command) = (moment(at)?, self.command(call)?);
+        let (alloc, pass) = (self.alloc, &mut self.pass);
+        let asked = self.desk.ask(rt, alloc, pass, at, &command, gate);
+        self.keep_told(asked)
+    }
+
+    /// Asks a command at a moment where the turn is free, and keeps what it is told. Whether it was free.
+    fn ask_now<R: Wait>(&mut self, rt: &R, line: &str) -> Result<bool, Fault> {
+        let (at, call) = first_word(line);
+        let (at, command) = (moment(at)?, self.command(call)?);
+        let (alloc, pass) = (self.alloc, &mut self.pass);
+        let asked = self.desk.ask_now(rt, alloc, pass, at, &command, &NoGate);
+        match asked {
+            Some(asked) => self.keep_told(asked).map(|()| true),
+            None => Ok(false),
+        }
+    }
+
+    /// Keeps what it is told. Where no turn is printed, each call is told of all the same.
+    fn keep_told(&mut self, asked: Asked<()>) -> Result<(), Fault> {
+        let Asked { reply, told } = asked;
         match reply? {
             Reply::Sent(posted) => self.told.push((posted.number, 0))?,
             Reply::Received(offers) => self.keep(&offers)?,
@@ -58,8 +80,9 @@ impl Caller<'_> {
         Ok(())
     }
 
-    /// Does what a line says, one after another: it asks a command; `holds` its turn meanwhile; or `waits`
-    /// until a turn is held, and glances.
+    /// Does what a line says, one after another: it asks a command; `holds` its turn meanwhile; `waits`
+    /// until a turn is held, and glances; `misses` a turn that is held, for which it does not wait; or
+    /// `tries` whether the turn is free, and asks where it is not.
     fn work<R: Wait>(&mut self, rt: &R, line: &str, gate: &Barrier) -> Result<(), Fault> {
         for step in line.split('|') {
             let (times, step) = step.split_once('*').unwrap_or(("1", step));
@@ -69,6 +92,17 @@ impl Caller<'_> {
                         gate.wait_for(101);
                         if self.desk.glance(&mut self.pass) == 1 {
                             gate.sum.fetch_add(1, Ordering::SeqCst);
+                        }
+                    }
+                    ("misses", step) => {
+                        gate.wait_for(101);
+                        if !self.ask_now(rt, step)? {
+                            gate.sum.fetch_add(1, Ordering::SeqCst);
+                        }
+                    }
+                    ("tries", step) => {
+                        if !self.ask_now(rt, step)? {
+                            self.ask(rt, step, &NoGate)?;
                         }
                     }
                     ("holds", step) => self.ask(rt, step, gate)?,
@@ -250,6 +284,12 @@ impl Place {
 /// While the turn 1 is held, three threads glance, and count the turn that had ended before it. They
 /// call then, and all are served after it. Who looks last sees all.
 ///
+/// While the turn 1 is held, three threads find it taken, one after another or at once, and nothing is sent
+/// for them. They wait for a turn then.
+///
+/// Eight threads make 320 sends, half of them where the turn is free, for which they wait only where it is
+/// not. Each send is made once.
+///
 /// Eight threads make 192 sends, 24 receives that each offer two messages, and 18 deletions, all of them
 /// accepted. Two of them receive for no time, so that what they were offered stays visible. The journal
 /// has each call once, behind the opening.
@@ -260,6 +300,22 @@ waits|2000 send a|900 look
 waits|2000 send a|900 look
 --
 gate 104, 5 told, 5 seen, 13 turns; 5 messages, 0 in flight; 5 visible, 6 entries at 2000
+
+4 threads, of which three do not wait while a turn is held
+tries 1000 send a|holds 2000 send a|900 look
+misses 2000 send a|2000 send b|900 look
+misses 2000 send a|2000 send b|900 look
+misses 2000 send a|2000 send b|900 look
+--
+gate 104, 5 told, 5 seen, 13 turns; 5 messages, 0 in flight; 5 visible, 6 entries at 2000
+
+8 threads, of which every other waits for no turn that is free
+40*tries 0 send a
+40*0 send a
+40*tries 0 send a
+40*0 send a
+--
+gate 0, 320 told, 0 seen, 328 turns; 320 messages, 0 in flight; 320 visible, 321 entries at 0
 
 8 threads, which call as fast as they can
 8*0 send a|0 receive 2 0|8*1 send a|1 receive 2 0|8*2 send a|2 receive 2 0

@@ -6,10 +6,10 @@ use Rattle.board.proofs.Missing.{none_then}
 use Rattle.board.proofs.publisher.PublisherPress.print.Goals as goal
 
 pub publish-requires : goal.publish-requires
-publish-requires g c = subst (λ (turns : List TurnReport). IsPublicationRecord (turns ++ c.args.turn.now ∷ [])) (sym c.requires.1) c.requires.2
+publish-requires g c = subst (λ (turns : List TurnReport). IsPublicationRecord (turns ++ c.args.turn ∷ [])) (sym c.requires.1) c.requires.2
 
 pub returns-clause-some : goal.returns-clause-some
-returns-clause-some g c = IfSome_then c.publish.result c.publish.ensures.some (λ told is turns stood fits. is ∙ ap (λ (ts : List TurnReport). ts ++ c.args.turn.now ∷ []) stood)
+returns-clause-some g c = IfSome_then c.publish.result c.publish.ensures.some (λ told is turns stood fits. is ∙ ap (λ (ts : List TurnReport). ts ++ c.args.turn ∷ []) stood)
 
 pub returns-clause-told : goal.returns-clause-told
 returns-clause-told g c = IfSome_then c.publish.result c.publish.ensures.told (λ told is. (ap place_of is.0, (c.args.self.now.turns, is.1)))

@@ -13,11 +13,11 @@ compare_exchange-found-requires c =
     let offer = c.plain-offer.ensures in
     let pen = c.no_pen-pen.ensures in
     let word : c.args.count.now ≡ count_of c.self.inside.seen.book = c.requires.word ∙ ap count_of (sym book) in
-    let fits : IsPublicationRecord (c.self.inside.seen.log ++ c.args.turn.now ∷ []) =
-    subst (λ (l : List TurnReport). IsPublicationRecord (l ++ c.args.turn.now ∷ [])) (sym turns) c.requires.fits in (
+    let fits : IsPublicationRecord (c.self.inside.seen.log ++ c.args.turn.now.value ∷ []) =
+    subst (λ (l : List TurnReport). IsPublicationRecord (l ++ c.args.turn.now.value ∷ [])) (sym turns) c.requires.fits in (
       ap (λ w. w.tracked) word,
       ap (λ s. s.book) again ∙ sym (ap (λ w. w.book) word),
       pen.0 ∙ (ap (λ s. s.book) again ∙ sym (ap (λ w. w.book) word)),
       offer.0,
-      rw (ap (λ w. w.key) word, ap (λ s. s.log) again, pen.1, offer.1, offer.3) (adds_moves c.self.inside.seen.log c.args.turn.now c.self.inside.count (sym c.self.invariant.0) fits),
+      rw (ap (λ w. w.key) word, ap (λ s. s.log) again, pen.1, offer.1, offer.3) (adds_moves c.self.inside.seen.log c.args.turn.now.value c.self.inside.count (sym c.self.invariant.0) fits),
     )
