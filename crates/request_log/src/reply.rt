@@ -12,6 +12,9 @@ pub struct Reply<'a> {
 impl Reply<'_> {
     /// Whether it is a refusal, or tells of an entry of a batch that was refused.
     pub fn is_refusal(&self) -> bool {
-        refusal_of(self).is_some() || has_failed(self)
+        match self.status {
+            200 => has_failed(self),
+            _ => refusal_of(self).is_some(),
+        }
     }
 }
