@@ -8,7 +8,7 @@ use crossbeam_channel::unbounded;
 use desk::{Desk, NoPress, Pass};
 use journal::Moment;
 use message::{Fault, QueueName};
-use queue_actor::{Actor, Served};
+use queue_actor::{Actor, Duties, Served};
 use queue_config::{Limits, Settings};
 use queue_core::QueueState;
 use std::alloc::Global;
@@ -44,6 +44,9 @@ pub(crate) fn served(
     let (mailbox, mails) = unbounded::<Letter, Global>(alloc)?;
     let (desk, mut pass) = opened(rt, alloc, uid, name, settings, limits)?;
     let own = desk.pass(&mut pass);
-    let actor = Actor::new(Arc::try_clone(&desk)?, own, uid, limits);
-    Ok((Served::new(uid, name, desk, pass, mailbox), (actor, mails)))
+    let duties = Arc::new(alloc, Duties::new())?;
+    let shared = Arc::try_clone(&duties)?;
+    let actor = Actor::new(Arc::try_clone(&desk)?, own, uid, limits, shared);
+    let queue = Served::new(uid, name, desk, pass, mailbox, duties);
+    Ok((queue, (actor, mails)))
 }

@@ -11,7 +11,7 @@ use desk::{Gate, NoGate, NoPress};
 use futures::task::Poll;
 use futures::test::MockTask;
 use message::{Fault, QueueName};
-use queue_actor::{Actor, Answer, Ask, AskFault, AskFuture, Mail, Served, deadline_loop};
+use queue_actor::{Actor, Answer, Ask, AskFault, AskFuture, Mail, Served, ask_now, deadline_loop};
 use queue_config::{Limits, Settings};
 use std::alloc::{AllocGlobal, Global};
 use std::collections::VecDeque;
@@ -402,6 +402,26 @@ impl Stage {
         tell(&mut self.text, answer.reply())
     }
 
+    /// Asks a queue's desk where it is free and no mail waits, and tells the answer, or that it was not asked.
+    fn now<R: Wait>(&mut self, rt: &R, uid: &str, text: &str) -> Result<(), Fault> {
+        let (at, call, _) = parts(text);
+        let (alloc, at) = (self.host.alloc(), moment(at)?);
+        let command = command(alloc, call)?;
+        let Served {
+            desk,
+            pass,
+            mailbox,
+            duties,
+            ..
+        } = self.client(rt, uid)?;
+        match ask_now(
+            rt, alloc, &mailbox, &duties, desk, pass, at, command, &NoGate,
+        ) {
+            Ok(answer) => tell(&mut self.text, answer.reply()),
+            Err(_back) => Ok(self.text.push_str("not asked")?),
+        }
+    }
+
     /// Polls for the answer to an ask, by its number, so many times at most.
     fn poll(&mut self, which: &str, looks: u64) -> Result<(), Fault> {
         let place = usize::try_from(number(which)?).map_err(|_| Fault::Spent)?;
@@ -418,6 +438,7 @@ impl Stage {
         match verb {
             "run" => self.run(rt, who, text),
             "call" => self.call(rt, who, text),
+            "now" => self.now(rt, who, text),
             "poll" => self.poll(who, 1),
             "wait" => self.poll(who, MOST_LOOKS),
             _ => {

@@ -1,4 +1,5 @@
 pub mod AnswerLemmas
+pub mod NowLemmas
 pub mod Sending
 pub mod ServingLemmas
 pub mod MovingLemmas

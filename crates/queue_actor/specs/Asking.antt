@@ -1,5 +1,5 @@
 -- How far an ask is, and what its future gives.
-use Rattle.std.specs.Prelude.{◌≡◌, ℕ, ⊤, Option, Some, None, Result, IfOk, IfErr}
+use Rattle.std.specs.Prelude.{◌≡◌, ℕ, ⊤, Bool, true, false, Option, Some, None, Result, IfOk, IfErr}
 use Rattle.std.specs.Arc.{arc_value}
 use Rattle.message.specs.declared.fault.Fault.TheVariants.{ActorGone}
 use Rattle.atomic_table.specs.Seated.{TableId}
@@ -7,7 +7,8 @@ use Rattle.crossbeam_channel.specs.declared.err.SendError.{SendError}
 use Rattle.crossbeam_channel.specs.declared.err.SendError.TheVariants as Send
 use Rattle.futures.specs.Channel.{completed_source}
 use Rattle.queue_core.specs.declared.command.Command.{Command}
-use Rattle.desk.specs.Views.{Knowledge}
+use Rattle.queue_core.specs.declared.command.Command.TheVariants as commands
+use Rattle.desk.specs.Views.{Knowledge, HasCalled, IsKnown}
 use Rattle.queue_actor.specs.Answered.{Answered}
 use Rattle.queue_actor.specs.declared.fault.AskFault.{AskFault}
 use Rattle.queue_actor.specs.declared.future.Progress.{Progress}
@@ -29,6 +30,19 @@ question desk pass moment command wait_until =
 -- the question of an ask
 abbrev pub question_of : {P S T : Type 0} → Ask P S T → Question
 question_of ask = question (arc_value ask.desk) ask.pass ask.moment ask.command ask.wait_until
+
+-- whether a command is for the actor alone: what follows a close or new settings is the actor's, and a purge may take long (this project's own)
+abbrev pub is_for_actor : Command → Bool
+is_for_actor commands.Close = true
+is_for_actor (commands.Set wish target) = true
+is_for_actor commands.Purge = true
+is_for_actor _ = false
+
+-- the answer to a question that was asked at its moment: of its desk, by a call with its pass and its command
+abbrev pub IsAnswerTo : Question → Answered → Type 0
+IsAnswerTo asked answer =
+    (answer.desk ≡ asked.desk) × (answer.command ≡ asked.command)
+    × HasCalled asked.pass asked.moment asked.command answer.reply answer.pass × IsKnown answer.pass
 
 -- The mail with this question was put, and its answer comes to the slot whose source has this number; or the mail never left, and the pass is kept; or what came was given
 pub data Asking : Type 0 where

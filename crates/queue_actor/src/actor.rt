@@ -12,6 +12,7 @@ ghost use Rattle.queue_actor.specs.Serving.{is_receive, is_tick, may_wait, has_c
 ghost use Rattle.queue_actor.specs.Waiting.{TakesAnswers, waiting_with, moment_with};
 
 use crate::answer::Answer;
+use crate::duties::Duties;
 use crate::inbox::Inbox;
 use crate::mail::{Ask, Mail};
 use crate::parcels::{Targets, enter};
@@ -25,14 +26,15 @@ use std::collections::VecDeque;
 use std::sync::{Arc, Wait};
 use std::thread;
 
-/// The actor of a queue: the queue's desk, the pass that the actor calls with, and the uid and the limits of
-/// the queue. It looks with this pass whether polls have to wait, and moves the queue's dead letters with it.
+/// The actor of a queue: the queue's desk, the pass that the actor calls with, the uid and the limits of the queue,
+/// and where it stores how many polls wait. It looks with this pass whether polls have to wait, and moves the queue's dead letters with it.
 #[derive(Drop)]
 pub struct Actor<P: Press> {
     pub desk: Arc<Desk<P>>,
     pub pass: Pass<P>,
     pub uid: u64,
     pub limits: Limits,
+    pub duties: Arc<Duties>,
     pub ghost together: { pass.desk ≡ arc_value desk },
     pub ghost named: { pass.start.uid ≡ uid },
     pub ghost limited: { pass.start.limits ≡ limits },
@@ -46,7 +48,13 @@ where
 
     /// The actor of a desk, which calls with a pass of that desk, and knows the uid and the limits under which
     /// its queue was opened.
-    pub fn new(desk: Arc<Desk<P>>, pass: Pass<P>, uid: u64, limits: Limits) -> Actor<P>
+    pub fn new(
+        desk: Arc<Desk<P>>,
+        pass: Pass<P>,
+        uid: u64,
+        limits: Limits,
+        duties: Arc<Duties>,
+    ) -> Actor<P>
         requires desk { pass.desk ≡ arc_value desk }
         requires uid { pass.start.uid ≡ uid }
         requires limits { pass.start.limits ≡ limits }
@@ -57,6 +65,7 @@ where
             pass,
             uid,
             limits,
+            duties,
         }
     }
 
@@ -234,6 +243,7 @@ where
                 return self.end(rt, alloc, at, parked, mailbox, directory, gate);
             }
             last = at;
+            self.duties.set_polls(parked.len());
             let quiet = self.look_at_tick(rt, alloc, at, limit, is_tick, gate);
             self.look_over(rt, alloc, at, limit, quiet, &mut parked, mailbox, gate);
             self.move_parcels(rt, alloc, at, directory, gate);

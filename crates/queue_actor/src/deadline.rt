@@ -36,7 +36,11 @@ pub trait Bells {
 /// Puts a tick into a mailbox that is empty: where mail waits its actor is told the time by that, and ticks must
 /// not pile up before one that is slower than the clock. An actor that has ended is left out, and so is one for
 /// whose tick there is no memory: it gets the next.
-fn tell<P: Press, S: Drop, O: Outbox<Mail<P, S>>, R: Wait>(rt: &R, mailbox: &O, at: Moment)
+pub(crate) fn tell<P: Press, S: Drop, O: Outbox<Mail<P, S>>, R: Wait>(
+    rt: &R,
+    mailbox: &O,
+    at: Moment,
+)
     requires may { O.seemed_empty mailbox.now → O.may_put mailbox.now (Mail.Tick at) }
 {
     if mailbox.is_empty() {

@@ -10,6 +10,7 @@ ghost use Rattle.desk.specs.Views.{IsKnown, IsNewPass};
 ghost use Rattle.queue_actor.specs.Calling.{HasAsked};
 
 use crate::answer::Answer;
+use crate::duties::Duties;
 use crate::mail::Mail;
 use crate::readers::{Readers, Shown};
 use board::Sheet;
@@ -24,7 +25,8 @@ use std::alloc::Global;
 use std::marker::Model;
 use std::sync::{Arc, Mutex, Wait};
 
-/// A queue that is served: its uid and its name, its desk, a pass of that desk, and the mailbox of its actor.
+/// A queue that is served: its uid and its name, its desk, a pass of that desk, and the mailbox and the duties of
+/// its actor.
 /// The pass in the directory is never called with: passes are split off from it.
 #[derive(Drop)]
 pub struct Served<P: Press, S: Drop> {
@@ -33,6 +35,7 @@ pub struct Served<P: Press, S: Drop> {
     pub desk: Arc<Desk<P>>,
     pub pass: Pass<P>,
     pub mailbox: Sender<Mail<P, S>>,
+    pub duties: Arc<Duties>,
     pub ghost together: { pass.desk ≡ arc_value desk },
     pub ghost opened: { pass.start.uid ≡ uid },
     pub ghost named: { pass.start.name ≡ name },
@@ -47,6 +50,7 @@ impl<P: Press, S: Drop> Served<P, S> {
         desk: Arc<Desk<P>>,
         pass: Pass<P>,
         mailbox: Sender<Mail<P, S>>,
+        duties: Arc<Duties>,
     ) -> Served<P, S>
         requires desk { pass.desk ≡ arc_value desk }
         requires uid { pass.start.uid ≡ uid }
@@ -59,6 +63,7 @@ impl<P: Press, S: Drop> Served<P, S> {
             desk,
             pass,
             mailbox,
+            duties,
         }
     }
 
@@ -70,8 +75,9 @@ impl<P: Press, S: Drop> Served<P, S> {
     {
         let desk = Arc::try_clone(&self.desk)?;
         let mailbox = self.mailbox.clone()?;
+        let duties = Arc::try_clone(&self.duties)?;
         let pass = self.desk.pass(&mut self.pass);
-        Ok(Served::new(self.uid, self.name, desk, pass, mailbox))
+        Ok(Served::new(self.uid, self.name, desk, pass, mailbox, duties))
     }
 
     /// Asks the queue's desk once, with the pass that came with it.
@@ -157,8 +163,20 @@ impl<P: Press, S: Drop> Entries<P, S> {
         if !self.catalog.set_target(queue.uid, target) {
             return Err(Fault::QueueDoesNotExist);
         }
+        queue.duties.set_target(target);
         self.served.push_reserved(queue);
         Ok(())
+    }
+
+    /// Gives the queue of a uid another target. The answer is whether it was there.
+    fn set_target(&mut self, uid: u64, target: u64) -> bool
+        ensures there { result ≡ has_uid self.old.catalog uid }
+        ensures target { self.new.catalog ≡ with_target self.old.catalog uid target }
+    {
+        if let Some(place) = self.place_of(uid) {
+            self.served[place].duties.set_target(target);
+        }
+        self.catalog.set_target(uid, target)
     }
 
     /// Takes the queue of a uid from those that are served.
@@ -325,7 +343,7 @@ impl<P: Press, S: Drop> Directory<P, S> {
 
     /// Gives the queue of a uid another target, 0 for none. The answer is whether it was there.
     pub fn set_target<R: Wait>(&self, rt: &R, uid: u64, target: u64) -> bool {
-        self.entries.lock(rt).catalog.set_target(uid, target)
+        self.entries.lock(rt).set_target(uid, target)
     }
 
     /// The names that begin with a prefix, in the order of their bytes. They are put in order once the lock is let

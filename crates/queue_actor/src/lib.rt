@@ -3,6 +3,8 @@
 //! - [`Mail`], [`Ask`]: what an actor finds in its mailbox: a command with a pass of a desk, a tick of the
 //!   clock, or its end.
 //! - [`AskFuture`]: sends an ask, and is the future of its answer. [`AskFault`] is why there is none.
+//! - [`ask_now`]: asks a queue's desk without its actor, where the turn is free; [`Duties`] is what the actor has to
+//!   do behind that.
 //! - [`Answer`]: the pass, behind the call that was made with it, beside the command and the reply.
 //! - [`Outbox`]: a mailbox, as those who send see it.
 //! - [`Actor`]: serves the mails of one queue, keeps polls that wait, and moves the queue's dead letters.
@@ -24,10 +26,12 @@ mod actor;
 mod answer;
 mod deadline;
 mod directory;
+mod duties;
 mod fault;
 mod future;
 mod inbox;
 mod mail;
+mod now;
 mod outbox;
 mod parcels;
 mod readers;
@@ -38,10 +42,12 @@ pub use actor::Actor;
 pub use answer::Answer;
 pub use deadline::{Beat, Bells, TICK_MILLISECONDS, deadline_loop};
 pub use directory::{Directory, Served};
+pub use duties::Duties;
 pub use fault::AskFault;
 pub use future::AskFuture;
 pub use inbox::Inbox;
 pub use mail::{Ask, Mail};
+pub use now::{Unasked, ask_now, is_for_actor};
 pub use outbox::Outbox;
 pub use parcels::{Delivery, Targets};
 pub use readers::Shown;

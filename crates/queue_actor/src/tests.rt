@@ -58,8 +58,11 @@ fn served(
     let (mailbox, mails) = unbounded::<Letter, Global>(alloc)?;
     let (desk, mut pass) = opened(rt, alloc, uid, name, limits)?;
     let own = desk.pass(&mut pass);
-    let actor = Actor::new(Arc::try_clone(&desk)?, own, uid, limits);
-    Ok((Served::new(uid, name, desk, pass, mailbox), (actor, mails)))
+    let duties = Arc::new(alloc, Duties::new())?;
+    let shared = Arc::try_clone(&duties)?;
+    let actor = Actor::new(Arc::try_clone(&desk)?, own, uid, limits, shared);
+    let queue = Served::new(uid, name, desk, pass, mailbox, duties);
+    Ok((queue, (actor, mails)))
 }
 
 /// Asks a queue for a look, and tells its actor to end behind that.

@@ -10,15 +10,15 @@ use Rattle.queue_actor.specs.Asking.{Asking, IfSent, IfUnsent, question, questio
 use Rattle.queue_actor.specs.declared.mail.Ask.{Ask}
 use Rattle.queue_core.specs.declared.command.Command.{Command}
 use Rattle.sqs_server.specs.declared.queues.Queue.{Queue}
-use Rattle.sqs_server.specs.Stages.{Asks}
+use Rattle.sqs_server.specs.Stages.{Mails}
 use Rattle.sqs_server.specs.Times.{wait_limit}
 
 -- an ask whose wait ends at a moment that was computed before, in a mailbox that says nothing
-pub asks : {R : Type 0} (queue : Queue R) (at : ℕ) (command : Command) (seconds until : ℕ) (asking : Asking) → until ≡ wait_limit at seconds →
+pub mails : {R : Type 0} (queue : Queue R) (at : ℕ) (command : Command) (seconds until : ℕ) (asking : Asking) → until ≡ wait_limit at seconds →
     IfSent asking (λ asked source. (asked ≡ question (arc_value queue.desk) queue.pass at command until)
     × ((ask : Ask Publications (Sender Answered) Publications) × (question_of ask ≡ asked) × (canceled_source ask.reply ≡ source) × ⊤)) →
-    IfUnsent asking (λ kept. (kept ≡ queue.pass) × ⊤) → asking ≢ Asking.Over → Asks queue at command seconds asking
-asks queue at command seconds until (Asking.Sent asked source) e sent unsent begun =
+    IfUnsent asking (λ kept. (kept ≡ queue.pass) × ⊤) → asking ≢ Asking.Over → Mails queue at command seconds asking
+mails queue at command seconds until (Asking.Sent asked source) e sent unsent begun =
     (sent.0 ∙ ap (question (arc_value queue.desk) queue.pass at command) e, tt, begun)
-asks queue at command seconds until (Asking.Unsent pass) e sent unsent begun = (tt, unsent.0, begun)
-asks queue at command seconds until Asking.Over e sent unsent begun = (tt, tt, begun)
+mails queue at command seconds until (Asking.Unsent pass) e sent unsent begun = (tt, unsent.0, begun)
+mails queue at command seconds until Asking.Over e sent unsent begun = (tt, tt, begun)

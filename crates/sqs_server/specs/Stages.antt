@@ -1,12 +1,13 @@
 -- What comes of each stage of a request: what a client is told, or what is asked of which queue next, at which moment and for which purpose. Of the
 -- directory no clause says which queues it has, so a queue that was found under a name is some queue that was opened under it.
-use Rattle.std.specs.Prelude.{◌≡◌, ◌≢◌, ◌⊎◌, ⊤, ℕ, List, [], codes, Option, Some, None, Result, Ok, Err, IfOk, IfErr, IsSomeAnd, IsErrAnd, MatchBool, option_map}
+use Rattle.std.specs.Prelude.{◌≡◌, ◌≢◌, ◌⊎◌, ◌||◌, nat_lt, Bool, ⊤, ℕ, List, [], codes, Option, Some, None, Result, Ok, Err, IfOk, IfErr, IsSomeAnd, IsErrAnd, MatchBool, option_map}
 use Rattle.std.specs.Arc.{arc_value}
 use Rattle.aws_json.specs.Steps.{result_map}
 use Rattle.aws_json.specs.declared.reply.ReplyShape.{ReplyShape}
 use Rattle.aws_json.specs.declared.reply.ReplyShape.TheVariants as shapes
 use Rattle.aws_json.specs.declared.request.Request.{Request}
 use Rattle.board.specs.Printed.{Publications}
+use Rattle.desk.specs.Views.{SeesMore}
 use Rattle.futures.specs.Channel.{canceled_source, completed_source}
 use Rattle.futures.specs.declared.channel.oneshot.Receiver.{Receiver}
 use Rattle.http.specs.declared.request.Parts.{Parts}
@@ -28,7 +29,7 @@ use Rattle.message.specs.Fault.{Meets}
 use Rattle.message.specs.declared.fault.Fault.{Fault}
 use Rattle.message.specs.declared.fault.Fault.TheVariants.{OutOfMemory, QueueDoesNotExist, QueueNameExists, InvalidAttributeValue, ActorGone}
 use Rattle.queue_actor.specs.Answered.{Answered}
-use Rattle.queue_actor.specs.Asking.{Asking, IfSent, IfUnsent, MayGive, question, waiting_question}
+use Rattle.queue_actor.specs.Asking.{Asking, IfSent, IfUnsent, IsAnswerTo, MayGive, is_for_actor, question, waiting_question}
 use Rattle.queue_actor.specs.declared.fault.AskFault.{AskFault}
 use Rattle.queue_config.specs.Settings.{QueueSettings, RequestedAttributes, default_settings, requested_target, same_settings, settings_with}
 use Rattle.queue_core.specs.declared.command.Command.{Command}
@@ -52,6 +53,7 @@ use Rattle.sqs_server.specs.declared.stage.Creation.{Creation}
 use Rattle.sqs_server.specs.declared.stage.Exchange.{Exchange}
 use Rattle.sqs_server.specs.declared.stage.Next.{Next}
 use Rattle.sqs_server.specs.declared.stage.Next.TheVariants.{On, Ends}
+use Rattle.sqs_server.specs.declared.stage.Postponed.{Postponed}
 use Rattle.sqs_server.specs.declared.stage.Purpose.{Purpose}
 use Rattle.sqs_server.specs.declared.stage.Purpose.TheVariants as purposes
 use Rattle.sqs_server.specs.declared.stage.Stage.{Stage}
@@ -94,6 +96,10 @@ IsTarget own asked found = found ≡ Ok 0
 abbrev pub outcome : Command → Result Reply Fault → Result Performed Fault
 outcome command reply = result_map (λ told. record { command = command; reply = told }) reply
 
+-- whether a command that may wait so many seconds is left to the actor of its queue: what waits is, and what is for it alone
+abbrev pub goes_by_mail : Command → ℕ → Bool
+goes_by_mail command seconds = nat_lt 0 seconds || is_for_actor command
+
 -- the value of the header that names the action
 abbrev pub target_in : Parts → Option (List ℕ)
 target_in head = option_map (λ value. value.bytes) (get head.headers (codes "x-amz-target"))
@@ -135,12 +141,20 @@ module _ {R : Type 0} where
 
   -- ---- a queue is asked or ordered
 
-  -- A command is sent to a queue at a moment, with its desk and its pass, and waits so many seconds at most for its answer. A mail that could not be put
-  -- has left the pass where it was.
-  abbrev pub Asks : Queue R → ℕ → Command → ℕ → Asking → Type 0
-  Asks queue at command seconds asking =
+  -- A command is mailed to the actor of a queue at a moment, with its desk and its pass, and waits so many seconds at most for its answer. A mail that could
+  -- not be put has left the pass where it was.
+  abbrev pub Mails : Queue R → ℕ → Command → ℕ → Asking → Type 0
+  Mails queue at command seconds asking =
       IfSent asking (λ asked source. asked ≡ question (arc_value queue.desk) queue.pass at command (wait_limit at seconds))
       × IfUnsent asking (λ kept. kept ≡ queue.pass) × (asking ≢ Asking.Over)
+
+  -- nothing was asked: the same queue, with what its pass has seen meanwhile, the command and its purpose come back
+  pub record IsPostponed (queue : Queue R) (command : Command) (purpose : Purpose) (back : Postponed R) : Type 0 where
+    pub uid : back.queue.uid ≡ queue.uid
+    pub desk : back.queue.desk ≡ queue.desk
+    pub seen : SeesMore queue.pass back.queue.pass
+    pub same_command : back.command ≡ command
+    pub same_purpose : back.purpose ≡ purpose
 
   -- One is ordered, and what became of it is awaited where it is told. The client may be turned away
   abbrev pub Ordered : Creation → ℕ → Next R → Type 0
@@ -197,12 +211,16 @@ module _ {R : Type 0} (port : ℕ) where
   Resumes uid queue at purposes.Change outcome next = Changed outcome next
   Resumes uid queue at (purposes.Existing creation) outcome next = Looked creation outcome next
 
+  -- an answer is for its purpose, and the queue of a uid that gave it is at hand again
+  abbrev pub Regains : ℕ → ℕ → Purpose → Answered → Next R → Type 0
+  Regains uid at purpose answer next =
+      (queue : Queue R) × (queue.uid ≡ uid) × (arc_value queue.desk ≡ answer.desk) × (queue.pass ≡ answer.pass)
+      × Resumes uid (Some queue) at purpose (outcome answer.command answer.reply) next
+
   -- It goes on with the queue that answered, at the moment and for the purpose of the exchange; where there is no answer, without a queue and with
   -- the fault.
   abbrev pub Returned : {P T : Type 0} → Exchange R → Result Answered (AskFault P T) → Next R → Type 0
-  Returned exchange (Ok answer) next =
-      (queue : Queue R) × (queue.uid ≡ exchange.uid) × (arc_value queue.desk ≡ answer.desk) × (queue.pass ≡ answer.pass)
-      × Resumes exchange.uid (Some queue) exchange.at exchange.purpose (outcome answer.command answer.reply) next
+  Returned exchange (Ok answer) next = Regains exchange.uid exchange.at exchange.purpose answer next
   Returned exchange (Err lost) next = Resumes exchange.uid None exchange.at exchange.purpose (Err lost.fault) next
 
   -- ---- a command is asked
@@ -211,19 +229,35 @@ module _ {R : Type 0} (port : ℕ) where
   abbrev pub Sends : Queue R → ℕ → Command → ℕ → Purpose → Next R → Type 0
   Sends queue at command seconds purpose next =
       ((exchange : Exchange R) × (next ≡ On (stages.Asking exchange)) × (exchange.uid ≡ queue.uid) × (exchange.at ≡ at)
-      × (exchange.purpose ≡ purpose) × Asks queue at command seconds exchange.future)
+      × (exchange.purpose ≡ purpose) × Mails queue at command seconds exchange.future)
       ⊎ Resumes queue.uid None at purpose (Err OutOfMemory) next
+
+  -- a command was asked right now: what is told is the reply to that very question
+  abbrev pub AsksNow : Queue R → ℕ → Command → Purpose → Next R → Type 0
+  AsksNow queue at command purpose next =
+      (answer : Answered) × IsAnswerTo (question (arc_value queue.desk) queue.pass at command at) answer × Regains queue.uid at purpose answer next
+
+  -- a command that does not wait is asked right now, or is sent where nothing was asked
+  abbrev pub AsksSoon : Queue R → ℕ → Command → Purpose → Next R → Type 0
+  AsksSoon queue at command purpose next =
+      AsksNow queue at command purpose next
+      ⊎ ((back : Postponed R) × IsPostponed queue command purpose back × Sends back.queue at back.command 0 back.purpose next)
+
+  -- a command is asked: one that waits, and one that is for the queue's actor alone, is sent
+  abbrev pub Asks : Queue R → ℕ → Command → ℕ → Purpose → Next R → Type 0
+  Asks queue at command seconds purpose next =
+      MatchBool (goes_by_mail command seconds) (Sends queue at command seconds purpose next) (AsksSoon queue at command purpose next)
 
   -- the queue of a uid is looked for, and asked; where it is not to be had, that is what became of the command
   abbrev pub AsksFound : ℕ → ℕ → Command → ℕ → Then → Next R → Type 0
   AsksFound uid at command seconds then next =
-      ((queue : Queue R) × (queue.uid ≡ uid) × Sends queue at command seconds (purposes.Plan then) next)
+      ((queue : Queue R) × (queue.uid ≡ uid) × Asks queue at command seconds (purposes.Plan then) next)
       ⊎ ((fault : Fault) × IsMissed fault × Resumes uid None at (purposes.Plan then) (Err fault) next)
 
   -- a step of the queue of a uid, at a moment
   abbrev pub GoesOn : ℕ → Option (Queue R) → ℕ → Step → Next R → Type 0
   GoesOn uid queue at (steps.Answer answer) next = Tells answer next
-  GoesOn uid (Some queue) at (steps.Ask command seconds then) next = Sends queue at command seconds (purposes.Plan then) next
+  GoesOn uid (Some queue) at (steps.Ask command seconds then) next = Asks queue at command seconds (purposes.Plan then) next
   GoesOn uid None at (steps.Ask command seconds then) next = AsksFound uid at command seconds then next
 
   -- ---- a request begins

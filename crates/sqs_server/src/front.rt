@@ -10,7 +10,7 @@ ghost use Rattle.sqs_server.specs.declared.stage.Purpose.TheVariants as purposes
 ghost use Rattle.sqs_server.specs.declared.stage.Stage.TheVariants as stages;
 ghost use Rattle.sqs_server.specs.declared.task.Task.TheVariants as tasks;
 ghost use Rattle.sqs_server.specs.Responses.{Halts, OnHeld};
-ghost use Rattle.sqs_server.specs.Stages.{AsksFound, AwaitsAnswer, AwaitsQueue, Begun, Changed, Collects, Compared, Creates, GoesOn, IsJudged, IsMissed, IsOrder, IsRead, IsTarget, IsTurnedAway, Looked, Makes, Names, Ordered, Resumes, Returned, Seen, Sends, SentOfError, Tells, TellsSources, TellsUrl, TellsUrls, Turns};
+ghost use Rattle.sqs_server.specs.Stages.{Asks, AsksFound, AsksNow, AwaitsAnswer, AwaitsQueue, Begun, Changed, Collects, Compared, Creates, GoesOn, IsJudged, IsMissed, IsOrder, IsPostponed, IsRead, IsTarget, IsTurnedAway, Looked, Makes, Names, Ordered, Regains, Resumes, Returned, Seen, Sends, SentOfError, Tells, TellsSources, TellsUrl, TellsUrls, Turns};
 ghost use Rattle.sqs_server.specs.Stages as told;
 ghost use Rattle.sqs_server.specs.Task.{Begins};
 ghost use Rattle.sqs_server.specs.Turns.{OnWaits};
@@ -19,13 +19,14 @@ use crate::arriving::{Arriving, Asked};
 use crate::clock::{moment_of_day, wait_limit};
 use crate::head::{Denial, asked_of, target_of};
 use crate::plan::{Outcome, Performed, Step, Then, after};
-use crate::queues::{Made, NewQueue, Order, Printer, Queue, Queues, is_full};
+use crate::queues::{Made, Mailbox, NewQueue, Order, Printer, Queue, Queues, is_full};
 use crate::register::Register;
 use crate::reply::{Sent, busy, denied, refused, sent_for};
-use crate::stage::{Creation, Exchange, Halt, Next, Purpose, Stage, Turn};
+use crate::stage::{Creation, Exchange, Halt, Next, Postponed, Purpose, Stage, Turn};
 use crate::task::{Task, task_of};
 use aws_json::{Prefix, QueueNames, ReplyShape, Request};
 use crossbeam_channel::Sender;
+use desk::NoGate;
 use futures::Future;
 use futures::channel::oneshot;
 use futures::channel::oneshot::Receiver;
@@ -34,7 +35,7 @@ use http::request::Parts;
 use http_body_util::{Collected, LimitedError};
 use journal::Moment;
 use message::{Fault, QueueName};
-use queue_actor::{Answer, AskFault, AskFuture};
+use queue_actor::{Answer, AskFault, AskFuture, Duties, Unasked, ask_now, is_for_actor};
 use queue_config::{Settings, Wish};
 use queue_core::{Command, Reply};
 use std::alloc::Global;
@@ -102,6 +103,14 @@ fn order_of(alloc: Global, creation: &Creation, target: u64, made: oneshot::Send
         at: creation.at,
         made,
     }
+}
+
+/// Whether a command that may wait so many seconds is left to the actor of its queue: what waits is, and what is for it
+/// alone.
+fn goes_by_mail(command: &Command, seconds: u64) -> bool
+    ensures { result ≡ told.goes_by_mail command.now seconds }
+{
+    seconds > 0 || is_for_actor(command)
 }
 
 /// What became of a command that was answered.
@@ -204,8 +213,8 @@ impl<R: Wait + Clock + Drop> Front<R> {
         Ok(ReplyShape::SourceQueueUrls(QueueNames::new(names)))
     }
 
-    /// Sends a command to a queue. Where there is no memory for that, it goes on with that fault.
-    fn ask(
+    /// Sends a command to a queue by mail. Where there is no memory for that, it goes on with that fault.
+    fn send(
         &self,
         queue: Queue<R>,
         at: Moment,
@@ -220,6 +229,7 @@ impl<R: Wait + Clock + Drop> Front<R> {
             desk,
             pass,
             mailbox,
+            duties,
         } = queue;
         let until = wait_limit(at, seconds);
         let asked = AskFuture::new(
@@ -229,11 +239,87 @@ impl<R: Wait + Clock + Drop> Front<R> {
             Ok(future) => Next::On(Stage::Asking(Exchange {
                 uid,
                 mailbox,
+                duties,
                 at,
                 purpose,
                 future,
             })),
             Err(unsent) => self.resume(uid, None, at, purpose, Err(unsent.fault)),
+        }
+    }
+
+    /// Goes on with an answer, and with the queue that gave it.
+    fn regain(
+        &self,
+        uid: u64,
+        mailbox: Mailbox<R>,
+        duties: Arc<Duties>,
+        at: Moment,
+        purpose: Purpose,
+        answer: Answer<Printer<R>>,
+    ) -> Next<R>
+        ensures { Regains self.now.port uid at purpose answer result }
+    {
+        let (desk, pass, command, reply) = answer.into_parts();
+        let queue = Queue::new(uid, desk, pass, mailbox, duties);
+        self.resume(uid, Some(queue), at, purpose, outcome_of(command, reply))
+    }
+
+    /// Asks a queue right now, where its turn is free or soon is and no mail waits for its actor. Where nothing was
+    /// asked, it all comes back.
+    fn ask_soon(
+        &self,
+        queue: Queue<R>,
+        at: Moment,
+        command: Command,
+        purpose: Purpose,
+    ) -> Result<Next<R>, Postponed<R>>
+        ensures asked { IfOk result (AsksNow self.now.port queue at command purpose) }
+        ensures back { IfErr result (IsPostponed queue command purpose) }
+    {
+        let Queue {
+            uid,
+            desk,
+            pass,
+            mailbox,
+            duties,
+        } = queue;
+        let asked = ask_now(
+            &self.rt, self.alloc, &mailbox, &duties, desk, pass, at, command, &NoGate,
+        );
+        match asked {
+            Ok(told) => Ok(self.regain(uid, mailbox, duties, at, purpose, told)),
+            Err(
+                Unasked {
+                    desk,
+                    pass,
+                    command,
+                },
+            ) => Err(Postponed {
+                queue: Queue::new(uid, desk, pass, mailbox, duties),
+                command,
+                purpose,
+            }),
+        }
+    }
+
+    /// Asks a queue. What waits, and what is for its actor alone, goes by mail.
+    fn ask(
+        &self,
+        queue: Queue<R>,
+        at: Moment,
+        command: Command,
+        seconds: u64,
+        purpose: Purpose,
+    ) -> Next<R>
+        ensures { Asks self.now.port queue at command seconds purpose result }
+    {
+        if goes_by_mail(&command, seconds) {
+            return self.send(queue, at, command, seconds, purpose);
+        }
+        match self.ask_soon(queue, at, command, purpose) {
+            Ok(next) => next,
+            Err(back) => self.send(back.queue, at, back.command, 0, back.purpose),
         }
     }
 
@@ -257,7 +343,7 @@ impl<R: Wait + Clock + Drop> Front<R> {
         ensures { Begun self.now.port (tasks.Delete name.now) at result }
     {
         match self.find(name) {
-            Ok(queue) => self.ask(queue, at, Command::Close, 0, Purpose::Change),
+            Ok(queue) => self.send(queue, at, Command::Close, 0, Purpose::Change),
             Err(sent) => Next::Ends(Ok(sent)),
         }
     }
@@ -274,7 +360,7 @@ impl<R: Wait + Clock + Drop> Front<R> {
             Ok(target) => target,
             Err(fault) => return refuses(fault),
         };
-        self.ask(queue, at, Command::Set { wish, target }, 0, Purpose::Change)
+        self.send(queue, at, Command::Set { wish, target }, 0, Purpose::Change)
     }
 
     /// Tells the URL of a queue that is there.
@@ -433,7 +519,8 @@ impl<R: Wait + Clock + Drop> Front<R> {
             Ok(Some(queue)) if is_full(queue.mailbox.len()) => Ok(Next::Ends(Ok(busy()))),
             Ok(Some(queue)) => {
                 let purpose = Purpose::Existing(creation);
-                Ok(self.ask(Queue::of(queue), creation.at, Command::Look, 0, purpose))
+                // By mail: a queue that is being closed keeps its name until its actor has taken it out.
+                Ok(self.send(Queue::of(queue), creation.at, Command::Look, 0, purpose))
             }
             Ok(None) => Err(creation),
             Err(fault) => Ok(refuses(fault)),
@@ -588,16 +675,13 @@ impl<R: Wait + Clock + Drop> Front<R> {
         let Exchange {
             uid,
             mailbox,
+            duties,
             at,
             purpose,
             future: _,
         } = exchange;
         match given {
-            Ok(answer) => {
-                let (desk, pass, command, reply) = answer.into_parts();
-                let queue = Queue::new(uid, desk, pass, mailbox);
-                self.resume(uid, Some(queue), at, purpose, outcome_of(command, reply))
-            }
+            Ok(answer) => self.regain(uid, mailbox, duties, at, purpose, answer),
             Err(AskFault { fault, pass: _ }) => self.resume(uid, None, at, purpose, Err(fault)),
         }
     }

@@ -13,7 +13,7 @@
 //! What is pure of it has exact contracts, whose definitions stand in `specs/`.
 #![tactic(auto)]
 
-ghost use Rattle.std.specs.Prelude.{◌≡◌, ◌<◌, ◌⊎◌, IfErr};
+ghost use Rattle.std.specs.Prelude.{◌≡◌, ◌<◌, ◌≤◌, ◌⊎◌, IfErr};
 ghost use Rattle.sqs_server.specs.declared.arguments.Refusal.TheVariants.{Listen, OutOfMemory};
 
 mod answering;
@@ -52,10 +52,10 @@ use std::random::RandomSource;
 use std::sync::Wait;
 use std::thread::Threads;
 use std::time::Clock;
-use std::{env, fs};
+use std::{env, fs, thread};
 
-/// How many threads look after the connections of the port for requests.
-const WORKERS: usize = 2;
+/// How many threads look after the connections of the port for requests, at the least. This project's own choice.
+const LEAST_WORKERS: usize = 2;
 
 /// How many look after those of the port for statistics.
 const STATISTICS_WORKERS: usize = 1;
@@ -115,6 +115,18 @@ where
 /// The address of a port of this machine alone.
 fn address_of(port: u16) -> SocketAddr {
     SocketAddr::from((Ipv4Addr::LOCALHOST, port))
+}
+
+/// How many threads look after the connections of the port for requests: one less than there are processors, since
+/// clients run beside the server, and two at the least.
+fn workers<R: Threads>(rt: &R) -> usize
+    ensures { 2 ≤ result }
+{
+    let processors = match thread::available_parallelism(rt) {
+        Ok(count) => count.get(),
+        Err(_unknown) => 0,
+    };
+    processors.saturating_sub(1).max(LEAST_WORKERS)
 }
 
 /// What the environment says.
@@ -183,7 +195,7 @@ where
     let path = arguments.path.as_str();
     let environment = environment(host)?;
     let config = configuration_in(host.alloc(), path, fs::read(host, path))?;
-    let requests = open(rt, "requests", environment.port, WORKERS)?;
+    let requests = open(rt, "requests", environment.port, workers(rt))?;
     let statistics = open(
         rt,
         "statistics",

@@ -17,7 +17,7 @@ use futures::channel::oneshot;
 use journal::Moment;
 use message::{Fault, QueueName};
 use queue_actor::{
-    Actor, Answer, Beat, Directory, Mail, Served, Shown, TICK_MILLISECONDS, deadline_loop,
+    Actor, Answer, Beat, Directory, Duties, Mail, Served, Shown, TICK_MILLISECONDS, deadline_loop,
 };
 use queue_config::{AlarmRule, Config, ConfiguredAlarm, Limits, Settings};
 use queue_core::QueueState;
@@ -39,13 +39,14 @@ pub type Letter<R> = Mail<Printer<R>, Slot<R>>;
 /// Where mail for an actor is put.
 pub type Mailbox<R> = Sender<Letter<R>>;
 
-/// A queue as a request has it at hand: its desk, a pass of that desk, and the mailbox of its actor.
+/// A queue as a request has it at hand: its desk, a pass of that desk, and the mailbox and the duties of its actor.
 #[derive(Drop)]
 pub struct Queue<R: Wait + Drop> {
     pub uid: u64,
     pub desk: Arc<Desk<Printer<R>>>,
     pub pass: Pass<Printer<R>>,
     pub mailbox: Mailbox<R>,
+    pub duties: Arc<Duties>,
     pub ghost together: { pass.desk ≡ arc_value desk },
 }
 
@@ -56,6 +57,7 @@ impl<R: Wait + Drop> Queue<R> {
         desk: Arc<Desk<Printer<R>>>,
         pass: Pass<Printer<R>>,
         mailbox: Mailbox<R>,
+        duties: Arc<Duties>,
     ) -> Queue<R>
         requires { pass.desk ≡ arc_value desk }
         ensures { (result.uid ≡ uid) × (result.desk ≡ desk) × (result.pass ≡ pass) }
@@ -65,6 +67,7 @@ impl<R: Wait + Drop> Queue<R> {
             desk,
             pass,
             mailbox,
+            duties,
         }
     }
 
@@ -78,8 +81,9 @@ impl<R: Wait + Drop> Queue<R> {
             desk,
             pass,
             mailbox,
+            duties,
         } = served;
-        Queue::new(uid, desk, pass, mailbox)
+        Queue::new(uid, desk, pass, mailbox, duties)
     }
 }
 
@@ -254,10 +258,13 @@ fn start_queue<R: Wait + Threads + Copy + Send + Drop + 'static>(
     let own = desk.pass(&mut pass);
     let desk = Arc::new(alloc, desk)?;
     let (mailbox, mails) = unbounded::<Letter<R>, Global>(alloc)?;
-    let actor = Actor::new(Arc::try_clone(&desk)?, own, uid, limits);
+    let duties = Arc::new(alloc, Duties::new())?;
+    let shared = Arc::try_clone(&duties)?;
+    let actor = Actor::new(Arc::try_clone(&desk)?, own, uid, limits, shared);
     start_actor(rt, alloc, actor, mails, Arc::try_clone(queues)?)?;
     queues.show(rt, Shown::new(uid, name, reader))?;
-    queues.serve(rt, Served::new(uid, name, desk, pass, mailbox), target)
+    let queue = Served::new(uid, name, desk, pass, mailbox, duties);
+    queues.serve(rt, queue, target)
 }
 
 /// Makes a queue at a moment. `QueueNameExists` where its name is there, `OverLimit` where there are as

@@ -7,9 +7,10 @@ use crate::reply::Sent;
 use futures::channel::oneshot::Receiver;
 use journal::Moment;
 use message::QueueName;
-use queue_actor::AskFuture;
+use queue_actor::{AskFuture, Duties};
 use queue_config::Wish;
-use std::sync::Wait;
+use queue_core::Command;
+use std::sync::{Arc, Wait};
 
 /// A queue that is to be there.
 #[derive(Clone, Copy, Debug)]
@@ -35,9 +36,18 @@ pub enum Purpose {
 pub struct Exchange<R: Wait + Drop> {
     pub uid: u64,
     pub mailbox: Mailbox<R>,
+    pub duties: Arc<Duties>,
     pub at: Moment,
     pub purpose: Purpose,
     pub future: AskFuture<Printer<R>>,
+}
+
+/// A command that was not asked of its queue yet.
+#[derive(Drop)]
+pub struct Postponed<R: Wait + Drop> {
+    pub queue: Queue<R>,
+    pub command: Command,
+    pub purpose: Purpose,
 }
 
 /// How far a request is.

@@ -1,18 +1,6 @@
-use Rattle.std.proofs.Common.{ap, sym, subst, ◌∙◌, Some}
-use Rattle.std.specs.Arc.{arc_value}
-use Rattle.sqs_server.specs.Stages.{Resumes, Returned, outcome}
+use Rattle.std.proofs.Common.{sym, subst}
+use Rattle.sqs_server.specs.Stages.{Returned}
 use Rattle.sqs_server.proofs.front.Front.answered.Goals as goal
 
 pub returns-in-Ok : goal.returns-in-Ok
-returns-in-Ok g c =
-    let parts = c.into_parts-desk in
-    let queue = c.new-queue in
-    let same = c.outcome_of.ensures ∙ ap (λ command. outcome command parts.result.3) parts.ensures.reply.0
-    ∙ ap (λ reply. outcome c.in-Ok.answer.command reply) parts.ensures.reply.1 in
-    subst (λ given. Returned c.args.self.now.port c.args.exchange given c.resume.result) (sym c.in-Ok.is) (
-      queue.result,
-      queue.ensures.0,
-      ap arc_value queue.ensures.1 ∙ parts.ensures.call.0,
-      queue.ensures.2 ∙ parts.ensures.call.1,
-      subst (λ became. Resumes c.args.self.now.port c.args.exchange.uid (Some queue.result) c.args.exchange.at c.args.exchange.purpose became c.resume.result) same c.resume.ensures,
-    )
+returns-in-Ok g c = subst (λ given. Returned c.args.self.now.port c.args.exchange given c.regain.result) (sym c.in-Ok.is) c.regain.ensures

@@ -10,4 +10,4 @@ returns-in-Ok-Some-2 g c =
     let found = subst (λ known. IfSome known (λ queue. queue.pass.start.name ≡ c.args.creation.name)) c.in-Ok-Some.field-0-is
     (subst (λ answer. IfOk answer (λ known. IfSome known (λ queue. queue.pass.start.name ≡ c.args.creation.name))) c.in-Ok-Some.is c.find.ensures.name) in
     let name = ap (λ (pass : Knowledge). pass.start.name) c.of.ensures.2 ∙ found in
-    (Ok c.in-Ok.target, c.in-Ok.ensures, inr (inl (c.of.result, name, c.ask.ensures)), tt)
+    (Ok c.in-Ok.target, c.in-Ok.ensures, inr (inl (c.of.result, name, c.send.ensures)), tt)
