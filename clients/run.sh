@@ -1,7 +1,7 @@
 #!/bin/sh
 # Starts the server at free ports, has clients call it, and ends it: the program that `make run` starts, or for a measurement the proved one.
-# Usage: run.sh [many | watched]. Without an argument the tours of boto3 and of the AWS command line; with `many` how long requests take where
-# there are 1,000 queues; with `watched` how long a send takes while statistics are read.
+# Usage: run.sh [polls | many | watched]. Without an argument the tours of boto3 and of the AWS command line; with `polls` what becomes of receives
+# that wait; with `many` how long requests take where there are 1,000 queues; with `watched` how long a send takes while statistics are read.
 set -eu
 cd "$(dirname "$0")/.."
 
@@ -17,12 +17,14 @@ if [ "${1:-tours}" = tours ]; then
     command -v aws >/dev/null || stop "no aws: install Debian's package awscli, of 2024 or later"
 fi
 
-if [ "${1:-tours}" = tours ]; then
+if [ "${1:-tours}" = tours ] || [ "$1" = polls ]; then
     server=$(tools/run --which sqs_server)
 else
     server=$(python3 -B -c 'import sys; sys.path.insert(0, "tools"); import crates; print(crates.built(crates.Crates(), "sqs_server") or "")')
     [ -n "$server" ] || stop "no proved server of the code as it stands: 'make build' makes it"
 fi
+# a thousand connections at once are as many open files
+[ "${1:-tours}" != polls ] || ulimit -S -n "$(ulimit -H -n)"
 said=$(mktemp)
 JUTKARIQ_PORT=0 JUTKARIQ_STATISTICS_PORT=0 "$server" crates/sqs_server/example.toml >"$said" &
 trap 'kill $! 2>/dev/null || true; rm "$said"' EXIT
@@ -41,6 +43,8 @@ port=${ports% *}
 if [ "${1:-tours}" = tours ]; then
     clients/tour.py "http://localhost:$port"
     clients/tour.sh "http://localhost:$port"
+elif [ "$1" = polls ]; then
+    clients/polls.py "$port"
 elif [ "$1" = watched ]; then
     clients/watched.py $ports
 else
