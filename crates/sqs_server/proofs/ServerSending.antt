@@ -126,7 +126,10 @@ module _ (T : RattleType) (w : wait.Ghosts T.Denot) (s : IsSend T) where
           search (mail_send, sendable, crosses) depth 40 fits 100000,
           (
             search (sendable, crosses) depth 40 fits 100000,
-            (purpose.the_field_send, (search (future_send, sendable) depth 40 fits 100000, tt)),
+            (
+              search (sendable, crosses) depth 40 fits 100000,
+              (purpose.the_field_send, (search (future_send, sendable) depth 40 fits 100000, tt)),
+            ),
           ),
         ),
       )
