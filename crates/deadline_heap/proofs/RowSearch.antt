@@ -7,7 +7,7 @@ use Rattle.std.specs.Ordering.{nat_cmp, ordering_index}
 use Rattle.std.proofs.lemmas.Bool.{cases_eq, cases_lt, cases_order}
 use Rattle.std.proofs.lemmas.Bool.Decides.{nat_tests}
 use Rattle.std.proofs.lemmas.Cmp.{ranked}
-use Rattle.std.proofs.lemmas.List.{get_or-set_same, get_or-set_other, length-set}
+use Rattle.std.proofs.lemmas.List.{get_or_read_under, get_or-set_same, get_or-set_other, length-set}
 use Rattle.std.proofs.lemmas.List.Edits.{length-insert, get_or-insert_below, get_or-insert_at, get_or-insert_above, length-remove, get_or-remove_below, get_or-remove_above}
 use Rattle.deadline_heap.specs.Rows.{key_at, IsRising, IsRowOf, IsGapFor}
 use Rattle.deadline_heap.proofs.Keyed.{HasDistinctKeys, get_entries, find_key, find_absent}
@@ -45,6 +45,16 @@ searched_absent rows k up (Err at) bound is =
       lesser_before = λ j d h. ranked (key_at rows j d) k _ (sym (parted.0 j d (omega arith) h));
       greater_after = λ j d le h. ranked (key_at rows j d) k _ (sym (parted.1 j d le h));
     }
+
+-- a number greater than the last one's goes behind them all
+pub gap_behind : (rows : List (ℕ × ℕ)) (k n : ℕ) (last : ℕ × ℕ) → IsRising rows → n ≡ length rows → 0 < n → last ≡ get_or rows (n - 1) last → last.0 < k → IsGapFor rows k n
+gap_behind rows k n last up long some is less = record {
+  within = omega (arith, long);
+  lesser_before = λ j d h.
+      let top : last.0 ≡ key_at rows (n - 1) d = ap (λ (row : ℕ × ℕ). row.0) (get_or_read_under rows (n - 1) n last d is (omega arith) long) in
+      omega (arith, keys_upto rows up j (n - 1) d (omega arith) (omega (arith, long)), top);
+  greater_after = λ j d le h. absurd (omega (arith, long));
+}
 
 pub gap_absent : (rows : List (ℕ × ℕ)) (k i : ℕ) → IsGapFor rows k i → (j : ℕ) (d : ℕ × ℕ) → j < length rows → key_at rows j d ≢ k
 gap_absent rows k i gap j d h is = elim (cases_lt j i) [

@@ -94,11 +94,14 @@ impl Places {
     }
 }
 
-/// Where the row of a number is, or where it would go.
+/// Where the row of a number is, or where it would go. A new number is mostly the greatest.
 fn search(rows: &VecDeque<(u64, usize)>, number: u64) -> Result<usize, usize>
     requires { IsRising rows.now.items }
     ensures found { IfOk result (IsRowOf rows.now.items number) }
     ensures absent { IfErr result (IsGapFor rows.now.items number) }
 {
-    rows.binary_search_by_key(&number, |&(key, _)| key)
+    match rows.back() {
+        Some(&(last, _)) if last < number => Err(rows.len()),
+        _ => rows.binary_search_by_key(&number, |&(key, _)| key),
+    }
 }
