@@ -12,6 +12,7 @@ use message::{Fault, QueueName};
 use metric_window::{Flows, Gauges, Row};
 use std::alloc::Global;
 use std::marker::Model;
+use std::sync::Arc;
 
 /// The numbers of a printed turn, without its marks.
 #[derive(Debug, Drop)]
@@ -20,7 +21,7 @@ pub(crate) struct Numbers {
     lines: u64,
     gauges: Gauges,
     current: Flows,
-    rows: Vec<Row>,
+    rows: Arc<Vec<Row>>,
     states: Vec<AlarmState>,
 }
 
@@ -29,7 +30,7 @@ impl Model for Numbers {
 
     ghost Value = { Figures };
 
-    ghost view = { λ n. record { clock = n.clock; lines = n.lines; gauges = n.gauges; current = n.current; rows = n.rows.items; states = n.states.items } };
+    ghost view = { λ n. record { clock = n.clock; lines = n.lines; gauges = n.gauges; current = n.current; rows = n.rows.value.items; states = n.states.items } };
 }
 
 /// The alarm at a place, counted from 0, with the state at that place.

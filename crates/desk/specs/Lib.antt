@@ -1,3 +1,4 @@
+pub mod KeptRows
 pub mod History
 pub mod Printed
 pub mod Views

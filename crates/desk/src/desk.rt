@@ -134,8 +134,10 @@ impl<P: Press> Desk<P> {
         ensures some { IfSome result (λ ticket. (ticket < most_tickets) × (seat.new.me.0.begun ≡ ticket) × HasTurn seat.new.me ticket) }
         ensures none { IfNone result ((seat.new.me.0.stage ≡ Idle) × (seat.new.me.1 ≡ []) × ((length seat.new.me.0.seen < seat.new.me.0.begun) ⊎ (most_tickets ≤ length seat.new.me.0.seen))) }
     {
+        // Who only looks does not take the words from the one whose turn it is.
+        let drawn = self.table.shared.load::<Count>(seat, TICKETS);
         let ended = self.look(seat);
-        if ended >= MOST_TICKETS {
+        if ended < drawn || ended >= MOST_TICKETS {
             return None;
         }
         let found = self

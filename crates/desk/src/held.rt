@@ -2,6 +2,7 @@
 
 ghost use Rattle.std.specs.Prelude.{◌≡◌, [], IfSome};
 
+use crate::kept_rows::MinuteRows;
 use crate::made::Made;
 use crate::printing::Press;
 use crate::turn::Turn;
@@ -13,27 +14,31 @@ use std::marker::Model;
 use std::snapshot::Snapshot;
 use std::sync::Wait;
 
-/// The queue with its press, how many marks of its journal were printed, and the call that was made
-/// last. Contracts see the queue, that call, and the place of the press.
+/// The queue with its press, how many marks of its journal were printed, the rows that were told last, and
+/// the call that was made last. Contracts see the queue, that call, and the place of the press.
 #[derive(Drop)]
 pub(crate) struct Held<P: Press> {
     pub(crate) state: QueueState,
     press: P,
     /// How many marks of the queue's journal were printed.
     told: usize,
+    /// The rows that were told last.
+    rows: Option<MinuteRows>,
     ticks: Ticks,
     made: Option<Made>,
 }
 
 impl<P: Press> Model for Held<P> {
+    ghost use Rattle.std.specs.Prelude.{IfSome};
     ghost use Rattle.desk.specs.Held.{Lying};
+    ghost use Rattle.desk.specs.KeptRows.{AreRowsOf};
     ghost use Rattle.desk.specs.Printed.{IsPrinted};
 
     ghost Value = { Lying };
 
     ghost view = { λ h. record { queue = h.state; made = h.made; place = P.place h.press } };
 
-    ghost invariant = { λ h. IsPrinted (P.stands h.press) h.state h.told };
+    ghost invariant = { λ h. IsPrinted (P.stands h.press) h.state h.told × IfSome h.rows (λ k. AreRowsOf k h.state) };
 }
 
 impl<P: Press> Held<P> {
@@ -50,6 +55,7 @@ impl<P: Press> Held<P> {
             state,
             press,
             told: 0,
+            rows: None,
             ticks,
             made: None,
         }
@@ -100,7 +106,13 @@ impl<P: Press> Held<P> {
         ensures told { IfSome result (λ told. IsToldOf (P.tells self.old.place) self.old.queue told) }
         ensures same { self.new ≡ self.old }
     {
-        let Ok(turn) = Turn::of(alloc, &mut self.state, self.told, &mut self.ticks) else {
+        let Ok(turn) = Turn::of(
+            alloc,
+            &mut self.state,
+            self.told,
+            &mut self.rows,
+            &mut self.ticks,
+        ) else {
             return None;
         };
         let lines = turn.lines;

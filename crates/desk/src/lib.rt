@@ -19,6 +19,7 @@ mod asked;
 mod desk;
 mod gate;
 mod held;
+mod kept_rows;
 mod made;
 mod pass;
 mod printing;

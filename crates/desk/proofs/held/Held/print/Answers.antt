@@ -1,6 +1,8 @@
 use Rattle.std.proofs.Common.{◌≡◌, ℕ, [], ◌∷◌, ◌++◌, length, subst, sym, ap, ◌∙◌}
+use Rattle.std.specs.Prelude.{IfSome}
 use Rattle.queue_core.specs.Queue.{QueueHistory}
 use Rattle.desk.specs.Held.{Lying}
+use Rattle.desk.specs.KeptRows.{AreRowsOf}
 use Rattle.desk.specs.Printed.{TurnReport, report_of, IsNextIn, IsPublicationRecord, IsPrinted}
 use Rattle.desk.proofs.PrintLemmas.{next_in, printed_more}
 use Rattle.desk.proofs.held.Held.print.Goals as goal
@@ -8,15 +10,15 @@ use Rattle.desk.proofs.held.Held.print.Goals as goal
 pub print-requires : goal.print-requires
 print-requires g c =
     let q : QueueHistory = c.self.inside.state in let told : ℕ = c.self.inside.told in let stands = g.P.Press.stands c.self.inside.press in
-    subst (λ (t : TurnReport). IsNextIn stands t) (sym c.in-Ok.ensures.ok) (next_in stands q told c.self.invariant c.in-Ok.ensures.legal)
+    subst (λ (t : TurnReport). IsNextIn stands t) (sym c.in-Ok.ensures.ok) (next_in stands q told c.self.invariant.0 c.in-Ok.ensures.legal)
 
 pub invariant_of-self-2 : goal.invariant_of-self-2
 invariant_of-self-2 g c =
     let q : QueueHistory = c.self.inside.state in let told : ℕ = c.self.inside.told in let stands = g.P.Press.stands c.self.inside.press in let after = g.P.Press.stands c.print.new.self in
     let turn : c.in-Ok.turn ≡ report_of q told = c.in-Ok.ensures.ok in
     let lines : c.turn.inside.lines ≡ length q.lines = ap (λ (t : TurnReport). t.lines) c.turn.view_is ∙ ap (λ (t : TurnReport). t.lines) turn in
-    subst (λ (x : QueueHistory). IsPrinted after x c.turn.inside.lines) (sym c.of.ensures.same)
-    (printed_more stands after q told c.turn.inside.lines c.self.invariant c.in-Ok.ensures.legal (λ turns stood legal. subst (λ (t : TurnReport). after (turns ++ t ∷ [])) turn (c.in_ok-told.ensures.some turns stood (subst (λ (t : TurnReport). IsPublicationRecord (turns ++ t ∷ [])) (sym turn) legal))) lines)
+    subst (λ (x : QueueHistory). IsPrinted after x c.turn.inside.lines × IfSome c.of.new.kept (λ k. AreRowsOf k x)) (sym c.of.ensures.same)
+    (printed_more stands after q told c.turn.inside.lines c.self.invariant.0 c.in-Ok.ensures.legal (λ turns stood legal. subst (λ (t : TurnReport). after (turns ++ t ∷ [])) turn (c.in_ok-told.ensures.some turns stood (subst (λ (t : TurnReport). IsPublicationRecord (turns ++ t ∷ [])) (sym turn) legal))) lines, c.of.ensures.kept)
 
 pub returns-clause-told : goal.returns-clause-told
 returns-clause-told g c =

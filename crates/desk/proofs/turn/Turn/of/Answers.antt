@@ -18,7 +18,7 @@ returns-clause-ok c =
     let lines = ap (λ l. l.lines) c.look-look.ensures.answer ∙ ap (λ (x : QueueHistory). length x.lines) stays in
     let gauges = c.gauges.ensures.counts ∙ ap (λ (x : QueueHistory). gauges_of x.lines x.clock) same in
     let current = c.current.ensures ∙ ap (λ (x : QueueHistory). current_flows content_size x.lines x.clock) same in
-    let rows = c.in_ok-rows.ensures.rows ∙ ap (λ (x : QueueHistory). window_rows content_size x.lines x.clock) same in
+    let rows = c.in_ok-rows_at.ensures.ok ∙ ap (λ (x : QueueHistory). window_rows content_size x.lines x.clock) same in
     let alarms = c.in_ok-alarm_states.ensures.states ∙ ap (λ (x : QueueHistory). map (λ rule. alarm_state_in content_size x.lines x.clock rule) x.rules) same in
     λ k. record { marks = marks k; clock = clock k; lines = lines k; gauges = gauges k; current = current k; rows = rows k; alarms = alarms k }
 
