@@ -11,6 +11,7 @@ use queue_actor::Shown;
 use queue_config::{Limits, Settings};
 use queue_core::{Command, QueueState};
 use std::alloc::Global;
+use std::snapshot::Snapshot;
 use std::sync::Wait;
 use std::sync::atomic::{AtomicU64, Ordering};
 
@@ -65,21 +66,6 @@ impl Gate for Witness {
 /// A queue whose turns are printed on a board, and who reads there.
 type Printing<R> = (Desk<Publisher<R>>, Pass<Publisher<R>>, Shown);
 
-/// The sheet of a queue that was just opened under a name.
-fn first_sheet(alloc: Global, name: QueueName, queue: &QueueState) -> Sheet
-    ensures { result.name ≡ name }
-{
-    Sheet {
-        name,
-        lines: 1,
-        clock: Moment::zero(),
-        gauges: queue.gauges(),
-        current: queue.current(),
-        rows: Vec::new(alloc),
-        alarms: Vec::new(alloc),
-    }
-}
-
 /// A queue that was opened at 0 under the uid 1 and a name, to which no call was made.
 fn printing<R: Wait + Copy + Drop>(
     rt: R,
@@ -92,13 +78,16 @@ fn printing<R: Wait + Copy + Drop>(
     let (settings, limits) = (Settings::default(), Limits::default());
     let rules = Vec::new(alloc);
     let queue = QueueState::open(alloc, 1, name, settings, limits, rules, Moment::zero())?;
-    let sheet = first_sheet(alloc, name, &queue);
+    let (sheet, opened) = (
+        Sheet::of(alloc, &queue, Moment::zero())?,
+        Snapshot::of(&queue),
+    );
     let (publisher, mut readers) = board(alloc, rt, &sheet, 1)?;
     let Some(reader) = readers.pop() else {
         return Err(Fault::UnsupportedOperation);
     };
     let (desk, pass) = Desk::new(host, alloc, queue, publisher)?;
-    Ok((desk, pass, Shown::new(1, name, reader)))
+    Ok((desk, pass, Shown::new(1, name, reader, opened)))
 }
 
 /// What a directory tells in each of two turns of a queue, in which it is asked: the entries after the turn before, as

@@ -1,5 +1,5 @@
 -- Calls by which an actor moves its queue's dead letters, one behind another.
-use Rattle.std.proofs.Common.{◌≡◌, ◌⊎◌, ℕ, ◌≤◌, le_refl, le_trans, Bool, true, false, MatchBool, List, [], ◌∷◌, ◌++◌, Option, Some, None, Result, Ok, Err, is_ok, refl, sym, ◌∙◌, ap, subst, inl, inr, append_assoc, append-nil, rules}
+use Rattle.std.proofs.Common.{◌≡◌, ◌⊎◌, ℕ, le_refl, le_trans, Bool, true, false, MatchBool, List, [], ◌∷◌, ◌++◌, Option, Some, None, Result, Ok, Err, is_ok, refl, sym, ◌∙◌, ap, subst, inl, inr, append_assoc, append-nil, rules}
 use Rattle.message.specs.declared.fault.Fault.{Fault}
 use Rattle.message.specs.declared.fault.Fault.TheVariants.{Spent, QueueDoesNotExist}
 use Rattle.queue_core.specs.declared.command.Command.{Command}
@@ -12,7 +12,7 @@ use Rattle.desk.specs.Views.{Knowledge, HasCalled, IsSpent, IsKnown}
 use Rattle.queue_actor.specs.Answered.{Answered}
 use Rattle.queue_actor.specs.declared.parcels.Delivery.{Delivery}
 use Rattle.queue_actor.specs.declared.parcels.Delivery.TheVariants as deliveries
-use Rattle.queue_actor.specs.Calling.{HasAsked, HasEnded, HasMade, IsMove, IsLastQuestion, AreMoves, HasMoved, HasMovedOne, HasArrived, HasMissed, parcel_in}
+use Rattle.queue_actor.specs.Calling.{HasAsked, HasEnded, HasMade, IsMove, AreMoves, HasMoved, HasMovedOne, HasArrived, HasMissed, parcel_in}
 
 some_none : {A : Type 0} {x : A} → ◌≡◌ {A = Option A} None (Some x) → ⊥
 some_none same = search (rules, same)

@@ -1,5 +1,8 @@
 -- How what an actor has done so far goes on, one step more at a time.
-use Rattle.std.proofs.Common.{◌≡◌, ℕ, ◌+◌, ◌<◌, ◌⊎◌, Bool, true, false, MatchBool, rules, List, [], ◌∷◌, ◌++◌, length, refl, sym, ◌∙◌, ap, subst, inl, inr, append_assoc, append-nil, length-append, arith}
+use Rattle.std.proofs.Common.{◌≡◌, ℕ, ◌+◌, ◌<◌, Bool, true, false, MatchBool, List, [], ◌∷◌, ◌++◌, length, refl, sym, ◌∙◌, ap, subst, inl, inr, append_assoc, append-nil, length-append, arith}
+use Rattle.std.specs.Prelude.{nat_lt}
+use Rattle.std.proofs.lemmas.Bool.Decides.{nat_tests}
+use Rattle.std.proofs.lemmas.List.Elements.{All-head, All-tail}
 use Rattle.queue_core.specs.declared.parcel.Parcel.{Parcel}
 use Rattle.desk.specs.Views.{Knowledge}
 use Rattle.queue_actor.specs.declared.mail.Ask.{Ask}
@@ -8,7 +11,7 @@ use Rattle.queue_actor.specs.declared.parcels.Delivery.{Delivery}
 use Rattle.queue_actor.specs.Course.{Event, GoesThrough}
 use Rattle.queue_actor.specs.declared.mail.Mail.{Mail}
 use Rattle.queue_actor.specs.Serving.{is_receive, is_tick, may_wait, IsAnswerAt, IsAnsweredAt, IsServedAt, AreServedAt, LooksAt, with_kept, LooksOver, Admits, TakesIn, Goes, Ends, Serves}
-use Rattle.queue_actor.specs.Waiting.{WaitsBehind, TakesAnswers, waiting_with, moment_with}
+use Rattle.queue_actor.specs.Waiting.{WaitBeyond, WaitsBehind, TakesAnswers, waiting_with, moment_with}
 
 -- equal lists have equal heads and equal tails
 head_of_or : {A : Type 0} → A → List A → A
@@ -195,6 +198,96 @@ module _ {V P S Told : Type 0} (brings : V → Mail P S Told → V → Type 0) (
         subst (λ left. LooksOver limit at known before parked h.happened pass left) left happened,
         h.goes,
         subst (λ left. WaitsBehind parked at h.happened left at) waiting h.waits,
+      )
+
+  -- ---- looking over polls of which the wait of none is over
+
+  -- where the queue is known to be quiet, they all go on waiting
+  pub all_quiet : (limit at : ℕ) (pass : Knowledge) (polls : List (Ask P S Told)) → WaitBeyond at polls → LooksOver limit at true pass polls [] pass polls
+  all_quiet limit at pass [] early = (refl, refl, refl)
+  all_quiet limit at pass (r ∷ rs) early =
+      let before : at < r.wait_until = All-head (λ (x : Ask P S Told). at < x.wait_until) r rs early in
+      let not_over : nat_lt at r.wait_until ≡ true = grind (arith, nat_tests) in (
+        true,
+        [],
+        [],
+        pass,
+        rs,
+        (refl, subst (λ b. MatchBool b ((true ≡ true) × (pass ≡ pass)) ((true ≡ false) × (pass ≡ pass))) (sym not_over) (refl, refl)),
+        refl,
+        refl,
+        all_quiet limit at pass rs (All-tail (λ (x : Ask P S Told). at < x.wait_until) r rs early),
+      )
+
+  -- of the polls that waited the first were answered, or were dropped, and the others are still to be looked at
+  pub record Passing (limit at : ℕ) (known : Bool) (before : Knowledge) (parked : List (Ask P S Told)) (mailbox : V)
+      (quiet : Bool) (pass : Knowledge) (rest : List (Ask P S Told)) (now : V) : Type 0 where
+    pub happened : List (Event (Mail P S Told) S Answered)
+    pub early : WaitBeyond at rest
+    pub goes : GoesThrough brings is_over gives was_left mailbox happened now
+    pub waits : WaitsBehind parked at happened rest at
+    pub so_far : (more : List (Event (Mail P S Told) S Answered)) (after : Knowledge) (left : List (Ask P S Told))
+        → LooksOver limit at quiet pass rest more after left → LooksOver limit at known before parked (happened ++ more) after left
+
+  pub passing_begins : (limit at : ℕ) (known : Bool) (before : Knowledge) (parked : List (Ask P S Told)) (mailbox : V) → WaitBeyond at parked
+      → Passing limit at known before parked mailbox known before parked mailbox
+  passing_begins limit at known before parked mailbox early =
+      record { happened = []; early = early; goes = refl; waits = (refl, refl); so_far = λ more after left h. h }
+
+  -- what is said of the polls that wait, where the first of them is this one
+  abbrev pub IsOver : (limit at : ℕ) (known : Bool) (before : Knowledge) (parked : List (Ask P S Told)) (mailbox : V) (pass : Knowledge) (polls : List (Ask P S Told)) (now : V) → Type 0
+  IsOver limit at known before parked mailbox pass polls now =
+      (happened : List (Event (Mail P S Told) S Answered)) × LooksOver limit at known before parked happened pass polls
+      × GoesThrough brings is_over gives was_left mailbox happened now × WaitsBehind parked at happened polls at
+
+  pub passing_ends : (limit at : ℕ) (known : Bool) (before : Knowledge) (parked : List (Ask P S Told)) (mailbox : V) (quiet : Bool) (pass : Knowledge) (now : V)
+      → Passing limit at known before parked mailbox quiet pass [] now → IsOver limit at known before parked mailbox pass [] now
+  passing_ends limit at known before parked mailbox quiet pass now h = (
+    h.happened ++ [],
+    h.so_far [] pass [] (refl, refl, refl),
+    subst (λ es. GoesThrough brings is_over gives was_left mailbox es now) (sym (append-nil h.happened)) h.goes,
+    subst (λ es. WaitsBehind parked at es [] at) (sym (append-nil h.happened)) h.waits,
+  )
+
+  -- the mailbox takes the answer to the poll that is looked at next
+  pub passing_takes : (limit at : ℕ) (known : Bool) (before : Knowledge) (parked : List (Ask P S Told)) (mailbox : V) (quiet : Bool) (pass : Knowledge)
+      (others : List (Ask P S Told)) (now : V) (r : Ask P S Told)
+      → TakesAnswers brings is_over may_give gives was_left parked at mailbox
+      → Passing limit at known before parked mailbox quiet pass (r ∷ others) now
+      → (answer : Answered) → IsAnswerAt at r answer → may_give now r.reply answer
+  passing_takes limit at known before parked mailbox quiet pass others now r takes h =
+      takes_now (r ∷ others) [] others at now r (takes_behind parked (r ∷ others) at at mailbox now h.happened takes h.goes h.waits) refl
+
+  -- the poll that is looked at is served
+  pub passing_goes : (limit at : ℕ) (known : Bool) (before : Knowledge) (parked : List (Ask P S Told)) (mailbox : V) (quiet : Bool) (pass between : Knowledge)
+      (others : List (Ask P S Told)) (now next : V) (r : Ask P S Told) (first : List (Event (Mail P S Told) S Answered))
+      → Passing limit at known before parked mailbox quiet pass (r ∷ others) now
+      → LooksAt limit at quiet pass r first false between → GoesThrough brings is_over gives was_left now first next
+      → Passing limit at known before parked mailbox false between others next
+  passing_goes limit at known before parked mailbox quiet pass between others now next r first h looks goes = record {
+    happened = h.happened ++ first;
+    early = All-tail (λ (x : Ask P S Told). at < x.wait_until) r others h.early;
+    goes = through_both brings is_over gives was_left mailbox now next h.happened first h.goes goes;
+    waits = waits_both parked at h.happened first (r ∷ others) others at at h.waits (looked_waits limit at at quiet false pass between r [] others first looks);
+    so_far = λ more after left m.
+        subst (λ es. LooksOver limit at known before parked es after left) (sym (append_assoc h.happened first more))
+        (h.so_far (first ++ more) after left (false, first, more, between, left, looks, refl, refl, m));
+  }
+
+  -- the poll that is looked at goes on waiting, and so do those behind it
+  pub passing_stops : (limit at : ℕ) (known : Bool) (before : Knowledge) (parked : List (Ask P S Told)) (mailbox : V) (quiet : Bool) (pass between : Knowledge)
+      (others : List (Ask P S Told)) (now next : V) (r : Ask P S Told) (first : List (Event (Mail P S Told) S Answered))
+      → Passing limit at known before parked mailbox quiet pass (r ∷ others) now
+      → LooksAt limit at quiet pass r first true between → GoesThrough brings is_over gives was_left now first next
+      → IsOver limit at known before parked mailbox between (r ∷ others) next
+  passing_stops limit at known before parked mailbox quiet pass between others now next r first h looks goes =
+      let same : (h.happened ++ first) ++ [] ≡ h.happened ++ first = append-nil (h.happened ++ first) in
+      let both : h.happened ++ (first ++ []) ≡ h.happened ++ first = sym (append_assoc h.happened first []) ∙ same in (
+        h.happened ++ first,
+        subst (λ es. LooksOver limit at known before parked es between (r ∷ others)) both
+            (h.so_far (first ++ []) between (r ∷ others) (true, first, [], between, others, looks, refl, refl, all_quiet limit at between others (All-tail (λ (x : Ask P S Told). at < x.wait_until) r others h.early))),
+        through_both brings is_over gives was_left mailbox now next h.happened first h.goes goes,
+        waits_both parked at h.happened first (r ∷ others) (r ∷ others) at at h.waits (looked_waits limit at at quiet true pass between r [] others first looks),
       )
 
   -- the first of the polls that are still to be looked at, and what is left behind it

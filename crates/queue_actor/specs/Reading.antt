@@ -1,13 +1,19 @@
 -- What is read of a queue without a turn.
-use Rattle.std.specs.Prelude.{◌≡◌, List}
+use Rattle.std.specs.Prelude.{◌≡◌, ℕ, List}
 use mathlib.Core.List.{IsPrefix}
 use Rattle.desk.specs.Printed.{TurnReport, IsPublicationRecord}
+use Rattle.queue_core.specs.Queue.{QueueHistory}
+use Rattle.board.specs.Queue as queues
 use Rattle.board.specs.Sheet.{Statistics}
 use Rattle.board.specs.Shown.{Acquaintance, sheet_after}
 
 -- a sheet is that of a board that began with a given one, after some record of printed turns
 abbrev pub IsReadOf : Statistics → Statistics → Type 0
 IsReadOf given sheet = (turns : List TurnReport) × IsPublicationRecord turns × (sheet ≡ sheet_after given turns)
+
+-- a sheet is that of a queue which was opened under a name, after some record of turns that were printed on its board
+abbrev pub IsSheetUnder : List ℕ → Statistics → Type 0
+IsSheetUnder name sheet = (queue : QueueHistory) × (queue.name ≡ name) × IsReadOf (queues.sheet_of queue) sheet
 
 -- the sheet of a reader: that after the turns that it has seen
 abbrev pub sheet_of : Acquaintance → Statistics

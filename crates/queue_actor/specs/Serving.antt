@@ -1,5 +1,5 @@
 -- What an actor does with its mail: which asks it answers at once, which polls wait, how long, and what each is answered.
-use Rattle.std.specs.Prelude.{◌≡◌, ◌⊎◌, ℕ, ◌&&◌, nat_lt, Bool, true, false, MatchBool, Option, Some, None, IfSome, Result, Ok, Err, List, [], ◌∷◌, ◌++◌, option_map}
+use Rattle.std.specs.Prelude.{◌≡◌, ◌⊎◌, ℕ, ◌&&◌, nat_lt, Bool, true, false, MatchBool, Option, None, IfSome, Result, Ok, Err, List, [], ◌∷◌, ◌++◌, option_map}
 use Rattle.std.specs.Arc.{arc_value}
 use Rattle.message.specs.declared.fault.Fault.{Fault}
 use Rattle.message.specs.declared.fault.Fault.TheVariants.{QueueDoesNotExist}

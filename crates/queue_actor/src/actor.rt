@@ -1,6 +1,6 @@
 //! The actor of a queue: it takes the queue's mail, answers asks, and keeps polls that wait.
 
-ghost use Rattle.std.specs.Prelude.{◌≡◌, ◌<◌, false, [], ◌∷◌, ◌++◌, List, is_some};
+ghost use Rattle.std.specs.Prelude.{◌≡◌, ◌<◌, false, [], ◌∷◌, ◌++◌, List, MatchBool, is_some};
 ghost use Rattle.std.specs.Arc.{arc_value};
 ghost use Rattle.std.specs.VecDeque.{deque_len, deque_capacity};
 ghost use Rattle.desk.specs.Views.{IsKnown};
@@ -9,7 +9,7 @@ ghost use Rattle.queue_actor.specs.declared.mail.Mail.{Mail};
 ghost use Rattle.queue_actor.specs.Answered.{Answered};
 ghost use Rattle.queue_actor.specs.Calling.{HasAsked, Finds, KeepsWaiting, LooksAtTick, is_quiet};
 ghost use Rattle.queue_actor.specs.Serving.{is_receive, is_tick, may_wait, has_closed, Enters, IsAnswerAt, IsServedAt, AreServedAt, LooksAt, LooksOver, Admits, Leads, TakesIn, Ends, Serves};
-ghost use Rattle.queue_actor.specs.Waiting.{TakesAnswers, waiting_with, moment_with};
+ghost use Rattle.queue_actor.specs.Waiting.{TakesAnswers, WaitBeyond, waiting_with, moment_with};
 
 use crate::answer::Answer;
 use crate::duties::Duties;
@@ -171,9 +171,9 @@ where
         None
     }
 
-    /// Looks over the polls that wait, in the order in which they came. Each goes on waiting, or is asked, or
-    /// is dropped where its client waits no longer. It may be known before that there is nothing to receive.
-    fn look_over<S: Drop, I: Inbox<Mail<P, S>, S, Answer<P>>, R: Wait, G: Gate>(
+    /// Looks over the polls that wait, one and all, in the order in which they came. Each goes on waiting, or is
+    /// asked, or is dropped where its client waits no longer. It may be known before that there is nothing to receive.
+    fn look_over_all<S: Drop, I: Inbox<Mail<P, S>, S, Answer<P>>, R: Wait, G: Gate>(
         &mut self,
         rt: &R,
         alloc: Global,
@@ -198,6 +198,57 @@ where
             if let Some(poll) = kept {
                 parked.push_back_reserved(poll);
             }
+        }
+    }
+
+    /// The same where the wait of none is over: once one goes on waiting, those behind it do too, and none of them
+    /// is looked at.
+    fn look_over_first<S: Drop, I: Inbox<Mail<P, S>, S, Answer<P>>, R: Wait, G: Gate>(
+        &mut self,
+        rt: &R,
+        alloc: Global,
+        at: Moment,
+        limit: u32,
+        known: bool,
+        parked: &mut VecDeque<Ask<P, S>>,
+        mailbox: &mut I,
+        gate: &G,
+    )
+        requires may { TakesAnswers I.brings I.is_over I.may_give I.gives I.was_left parked.old.items at mailbox.old }
+        requires early { WaitBeyond at parked.old.items }
+        ensures looked { (happened : List (Event (Mail P S P.Told) S Answered)) × LooksOver limit at known self.old.pass parked.old.items happened self.new.pass parked.new.items × GoesThrough I.brings I.is_over I.gives I.was_left mailbox.old happened mailbox.new }
+        ensures may { TakesAnswers I.brings I.is_over I.may_give I.gives I.was_left parked.new.items at mailbox.new }
+    {
+        let mut quiet = known;
+        while let Some(poll) = parked.pop_front() {
+            if let Some(poll) = self.look_at(rt, alloc, at, limit, quiet, poll, mailbox, gate) {
+                parked.push_front_reserved(poll);
+                return;
+            }
+            quiet = false;
+        }
+    }
+
+    /// Looks over the polls that wait. Only where the wait of one is over it goes through all of them.
+    fn look_over<S: Drop, I: Inbox<Mail<P, S>, S, Answer<P>>, R: Wait, G: Gate>(
+        &mut self,
+        rt: &R,
+        alloc: Global,
+        at: Moment,
+        limit: u32,
+        known: bool,
+        parked: &mut VecDeque<Ask<P, S>>,
+        mailbox: &mut I,
+        gate: &G,
+    )
+        requires may { TakesAnswers I.brings I.is_over I.may_give I.gives I.was_left parked.old.items at mailbox.old }
+        ensures looked { (happened : List (Event (Mail P S P.Told) S Answered)) × LooksOver limit at known self.old.pass parked.old.items happened self.new.pass parked.new.items × GoesThrough I.brings I.is_over I.gives I.was_left mailbox.old happened mailbox.new }
+        ensures may { TakesAnswers I.brings I.is_over I.may_give I.gives I.was_left parked.new.items at mailbox.new }
+    {
+        if is_any_due(at, parked) {
+            self.look_over_all(rt, alloc, at, limit, known, parked, mailbox, gate);
+        } else {
+            self.look_over_first(rt, alloc, at, limit, known, parked, mailbox, gate);
         }
     }
 
@@ -302,6 +353,18 @@ fn may_wait<P: Press, S: Drop>(ask: &Ask<P, S>) -> bool
     ensures { result ≡ may_wait ask.now }
 {
     is_receive(&ask.command) && ask.moment.milliseconds() < ask.wait_until.milliseconds()
+}
+
+/// Whether the wait of one of the polls is over at a moment.
+fn is_any_due<P: Press, S: Drop>(at: Moment, parked: &VecDeque<Ask<P, S>>) -> bool
+    ensures { MatchBool result (Unit {0}) (WaitBeyond at parked.now.items) }
+{
+    for place in 0..parked.len() {
+        if parked[place].wait_until.milliseconds() <= at.milliseconds() {
+            return true;
+        }
+    }
+    false
 }
 
 /// Asks what an ask asks, at a moment, at its own desk and with its own pass. The answer stands behind its

@@ -23,12 +23,12 @@ pub trait Beat {
         ensures { IfSome result (λ at. ticks self.old at self.new) };
 }
 
-/// The mailboxes of all actors, as a clock sees them.
+/// The queues, as a clock sees them.
 pub trait Bells {
-    // A tick of a moment may be put into them.
+    // They may be told a moment.
     ghost may_ring: { Self → ℕ → Type 0 };
 
-    /// Puts a tick of a moment into each mailbox that is empty.
+    /// Tells each queue the time.
     fn ring<R: Wait>(&self, rt: &R, alloc: Global, at: Moment)
         requires may { may_ring self.now at };
 }
@@ -48,22 +48,26 @@ pub(crate) fn tell<P: Press, S: Drop, O: Outbox<Mail<P, S>>, R: Wait>(
     }
 }
 
-/// Where there is no memory for the list of the mailboxes, all get the next tick.
-impl<P: Press, S: Drop> Bells for Directory<P, S> {
+/// A quiet queue is looked at here; of any other the actor is told. Where there is no memory for the list of the
+/// queues, all get the next tick.
+impl<P: Press, S: Drop> Bells for Directory<P, S>
+where
+    P::Told: Drop,
+{
     // What its channels carry no contract sees.
     ghost may_ring = { λ _ _. Unit {0} };
 
     fn ring<R: Wait>(&self, rt: &R, alloc: Global, at: Moment) {
-        let Ok(mailboxes) = self.mailboxes(rt, alloc) else {
+        let Ok(queues) = self.all(rt, alloc) else {
             return;
         };
-        for mailbox in mailboxes {
-            tell(rt, &mailbox, at);
+        for queue in queues {
+            queue.tick(rt, alloc, at);
         }
     }
 }
 
-/// Puts each tick of a clock, and nothing else, into the mailboxes, for as long as the clock goes.
+/// Tells the queues each tick of a clock, and no other moment, for as long as the clock goes.
 pub fn deadline_loop<D: Bells, B: Beat, R: Wait>(
     rt: &R,
     alloc: Global,

@@ -2,20 +2,23 @@
 
 ghost use Rattle.std.specs.Prelude.{◌≡◌, ◌⊎◌, ◌==◌, [], ◌∷◌, ◌++◌, false, true, Ok, Err, None, Some, IfSome, IfOk, IfErr, OnOk, OnErr};
 ghost use Rattle.std.specs.Arc.{arc_value};
-ghost use Rattle.std.specs.List.{position};
+ghost use Rattle.std.specs.List.{All, position};
 ghost use Rattle.std.specs.Str.{bytes_eq};
 ghost use Rattle.message.specs.declared.fault.Fault.TheVariants.{OutOfMemory, QueueDoesNotExist, QueueNameExists, OverLimit};
 ghost use Rattle.redrive.specs.Catalog.{IsDirectory, has_uid, names_listed, with_target, without_uid};
 ghost use Rattle.desk.specs.Views.{IsKnown, IsNewPass};
 ghost use Rattle.queue_actor.specs.Calling.{HasAsked};
+ghost use Rattle.queue_actor.specs.Reading.{IsSheetUnder};
 
 use crate::answer::Answer;
+use crate::deadline::tell;
 use crate::duties::Duties;
 use crate::mail::Mail;
+use crate::outbox::Outbox;
 use crate::readers::{Readers, Shown};
 use board::Sheet;
 use crossbeam_channel::Sender;
-use desk::{Desk, Gate, Pass, Press};
+use desk::{Desk, Gate, NoGate, Pass, Press};
 use journal::Moment;
 use message::{Fault, QueueName};
 use queue_config::Limits;
@@ -80,7 +83,8 @@ impl<P: Press, S: Drop> Served<P, S> {
         Ok(Served::new(self.uid, self.name, desk, pass, mailbox, duties))
     }
 
-    /// Asks the queue's desk once, with the pass that came with it.
+    /// Asks the queue's desk once, with the pass that came with it. Where the actor has to look behind it, it is told
+    /// the time.
     pub fn ask<R: Wait, G: Gate>(
         self,
         rt: &R,
@@ -95,9 +99,40 @@ impl<P: Press, S: Drop> Served<P, S> {
         ensures call { HasAsked self.pass at command result.reply result.pass }
         ensures known { IsKnown result.pass }
     {
-        let Served { desk, mut pass, .. } = self;
+        let Served {
+            desk,
+            mut pass,
+            mailbox,
+            duties,
+            ..
+        } = self;
         let reply = desk.ask(rt, alloc, &mut pass, at, &command, gate).reply;
+        if duties.follow(&command) {
+            tell(rt, &mailbox, at);
+        }
         Answer::new(desk, pass, command, reply)
+    }
+
+    /// Tells the queue the time. Where its actor has nothing to do but to look, and the turn is free, the look is
+    /// made here, so that what is printed is of that moment. Otherwise the actor is told.
+    pub(crate) fn tick<R: Wait>(self, rt: &R, alloc: Global, at: Moment)
+    where
+        P::Told: Drop,
+    {
+        let Served {
+            desk,
+            mut pass,
+            mailbox,
+            duties,
+            ..
+        } = self;
+        if duties.are_none() && mailbox.is_empty() {
+            let looked = desk.ask_now(rt, alloc, &mut pass, at, &Command::Look, &NoGate);
+            if looked.is_some() {
+                return;
+            }
+        }
+        tell(rt, &mailbox, at);
     }
 }
 
@@ -200,15 +235,15 @@ impl<P: Press, S: Drop> Entries<P, S> {
         (named, self.unserve(uid))
     }
 
-    /// The mailboxes of all queues that are served.
-    fn mailboxes(&self, alloc: Global) -> Result<Vec<Sender<Mail<P, S>>>, Fault>
+    /// All queues that are served once more. `OutOfMemory` is the only refusal.
+    fn all(&mut self, alloc: Global) -> Result<Vec<Served<P, S>>, Fault>
         ensures errors { IfErr result (λ fault. fault ≡ OutOfMemory) }
     {
-        let mut mailboxes = Vec::new(alloc);
-        for queue in self.served.as_slice() {
-            mailboxes.push(queue.mailbox.clone()?)?;
+        let mut all = Vec::with_capacity(alloc, self.served.len())?;
+        for place in 0..self.served.len() {
+            all.push(self.served[place].again()?)?;
         }
-        Ok(mailboxes)
+        Ok(all)
     }
 }
 
@@ -314,6 +349,7 @@ impl<P: Press, S: Drop> Directory<P, S> {
         name: &QueueName,
     ) -> Result<Option<Sheet>, Fault>
         ensures name { IfOk result (λ found. IfSome found (λ sheet. sheet.name ≡ name.now)) }
+        ensures under { IfOk result (λ found. IfSome found (IsSheetUnder name.now)) }
         ensures errors { IfErr result (λ fault. fault ≡ OutOfMemory) }
     {
         self.readers.lock(rt).sheet(alloc, name)
@@ -322,6 +358,7 @@ impl<P: Press, S: Drop> Directory<P, S> {
     /// The statistics of all queues that have a reader. This too takes the lock of the readers alone, and tests show
     /// that it answers while a turn is held.
     pub fn sheets<R: Wait>(&self, rt: &R, alloc: Global) -> Result<Vec<Sheet>, Fault>
+        ensures under { IfOk result (λ sheets. All (λ sheet. IsSheetUnder sheet.name sheet) sheets.items) }
         ensures errors { IfErr result (λ fault. fault ≡ OutOfMemory) }
     {
         self.readers.lock(rt).sheets(alloc)
@@ -370,14 +407,10 @@ impl<P: Press, S: Drop> Directory<P, S> {
         in_order(alloc, names)
     }
 
-    /// The mailboxes of all queues that are served.
-    pub fn mailboxes<R: Wait>(
-        &self,
-        rt: &R,
-        alloc: Global,
-    ) -> Result<Vec<Sender<Mail<P, S>>>, Fault>
+    /// All queues that are served once more, as they are found by their names. `OutOfMemory` is the only refusal.
+    pub(crate) fn all<R: Wait>(&self, rt: &R, alloc: Global) -> Result<Vec<Served<P, S>>, Fault>
         ensures errors { IfErr result (λ fault. fault ≡ OutOfMemory) }
     {
-        self.entries.lock(rt).mailboxes(alloc)
+        self.entries.lock(rt).all(alloc)
     }
 }

@@ -1,7 +1,7 @@
 //! What an actor has to do behind a call that was made without it.
 
 use queue_core::Command;
-use std::sync::atomic::{AtomicU64, Ordering};
+use std::sync::atomic::{AtomicBool, AtomicU64, Ordering};
 
 /// What an actor has to do behind a call that was made without it: polls wait, or a dead letter may have come to be
 /// there. The actor, the directory and those who ask the queue's desk share it. Of what threads store no clause
@@ -12,6 +12,8 @@ pub struct Duties {
     polls: AtomicU64,
     /// The uid of the queue that dead letters go to, 0 for none.
     target: AtomicU64,
+    /// Whether dead letters ever had a target: some may still wait to be moved, also where they have none now.
+    moves: AtomicBool,
 }
 
 impl Duties {
@@ -20,6 +22,7 @@ impl Duties {
         Duties {
             polls: AtomicU64::new(0),
             target: AtomicU64::new(0),
+            moves: AtomicBool::new(false),
         }
     }
 
@@ -31,6 +34,9 @@ impl Duties {
 
     /// Stores the target of dead letters, 0 for none.
     pub(crate) fn set_target(&self, target: u64) {
+        if target != 0 {
+            self.moves.store(true, Ordering::SeqCst);
+        }
         self.target.store(target, Ordering::SeqCst);
     }
 
@@ -38,5 +44,11 @@ impl Duties {
     pub(crate) fn follow(&self, command: &Command) -> bool {
         let moves = matches!(command, Command::Receive { .. });
         self.polls.load(Ordering::SeqCst) != 0 || moves && self.target.load(Ordering::SeqCst) != 0
+    }
+
+    /// Whether there is nothing for the actor to do as time goes by: no poll waits, and dead letters never had a
+    /// target.
+    pub(crate) fn are_none(&self) -> bool {
+        self.polls.load(Ordering::SeqCst) == 0 && !self.moves.load(Ordering::SeqCst)
     }
 }

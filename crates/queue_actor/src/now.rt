@@ -9,7 +9,7 @@ use crate::answer::Answer;
 use crate::deadline::tell;
 use crate::duties::Duties;
 use crate::mail::Mail;
-use crossbeam_channel::Sender;
+use crate::outbox::Outbox;
 use desk::{Desk, Gate, Pass, Press};
 use journal::Moment;
 use message::Fault;
@@ -86,10 +86,10 @@ where
 /// Asks a queue's desk without its actor, where the turn is free or soon is. Where it is not, and where mail waits for
 /// the actor, which is before what is asked now, nothing is asked. Where the actor has to look behind it, it is told
 /// the time.
-pub fn ask_now<P: Press, S: Drop, R: Wait, G: Gate>(
+pub fn ask_now<P: Press, S: Drop, O: Outbox<Mail<P, S>>, R: Wait, G: Gate>(
     rt: &R,
     alloc: Global,
-    mailbox: &Sender<Mail<P, S>>,
+    mailbox: &O,
     duties: &Duties,
     desk: Arc<Desk<P>>,
     mut pass: Pass<P>,
@@ -99,11 +99,13 @@ pub fn ask_now<P: Press, S: Drop, R: Wait, G: Gate>(
 ) -> Result<Answer<P>, Unasked<P>>
 where
     P::Told: Drop,
-    requires { pass.desk ≡ arc_value desk }
+    requires desk { pass.desk ≡ arc_value desk }
+    requires may { O.seemed_empty mailbox.now → O.may_put mailbox.now (Mail.Tick at) }
     ensures answer { IfOk result (IsAnswerTo (question (arc_value desk) pass at command at)) }
+    ensures empty { IfOk result (λ _. O.seemed_empty mailbox.now) }
     ensures unasked { IfErr result (λ back. (back.desk ≡ desk) × (back.command ≡ command) × SeesMore pass back.pass) }
 {
-    if mailbox.len() != 0 {
+    if !mailbox.is_empty() {
         return Err(Unasked::new(desk, pass, command));
     }
     let Some(reply) = try_now(rt, alloc, &desk, &mut pass, at, &command, gate) else {

@@ -5,35 +5,51 @@ ghost use Rattle.std.specs.List.{All, AllZip, find, position};
 ghost use Rattle.std.specs.Option.{option_map};
 ghost use Rattle.std.specs.Str.{bytes_eq};
 ghost use Rattle.message.specs.declared.fault.Fault.TheVariants.{OutOfMemory};
-ghost use Rattle.queue_actor.specs.Reading.{IsReadOf, IsLater, HasRecord, sheet_of};
+ghost use Rattle.board.specs.Queue as queues;
+ghost use Rattle.queue_actor.specs.Reading.{IsReadOf, IsSheetUnder, IsLater, HasRecord, sheet_of};
 
 use board::{Reader, Sheet};
 use message::{Fault, QueueName};
+use queue_core::QueueState;
 use redrive::is_same_name;
 use std::alloc::Global;
+use std::snapshot::Snapshot;
 
-/// The reader of a queue's board, with the uid and the name of the queue.
+/// The reader of a queue's board, with the uid and the name of the queue, and the queue as it was opened, which takes
+/// no bytes.
 #[derive(Drop)]
 pub struct Shown {
     pub uid: u64,
     pub name: QueueName,
     pub reader: Reader,
-    pub ghost named: { reader.given.name ≡ name },
+    pub queue: Snapshot<QueueState>,
+    pub ghost opened: { queue.value.uid ≡ uid },
+    pub ghost named: { queue.value.name ≡ name },
+    pub ghost told: { reader.given ≡ queues.sheet_of queue.value },
 }
 
 impl Shown {
-    /// The reader of the board of a queue: the sheet that the board began with has the queue's name.
-    pub fn new(uid: u64, name: QueueName, reader: Reader) -> Shown
-        requires { reader.given.name ≡ name }
-        ensures { (result.uid ≡ uid) × (result.name ≡ name) × (result.reader ≡ reader) }
+    /// The reader of the board of a queue: the sheet that the board began with tells of the queue as it was opened,
+    /// under this uid and this name.
+    pub fn new(uid: u64, name: QueueName, reader: Reader, queue: Snapshot<QueueState>) -> Shown
+        requires uid { queue.value.uid ≡ uid }
+        requires name { queue.value.name ≡ name }
+        requires told { reader.given ≡ queues.sheet_of queue.value }
+        ensures { (result.uid ≡ uid) × (result.name ≡ name) × (result.reader ≡ reader) × (result.queue ≡ queue) }
     {
-        Shown { uid, name, reader }
+        Shown {
+            uid,
+            name,
+            reader,
+            queue,
+        }
     }
 
     /// What was printed last, as far as it is seen. It takes no turn of the queue. `OutOfMemory` is the only refusal.
     fn read(&mut self, alloc: Global) -> Result<Sheet, Fault>
         ensures read { IfOk result (IsReadOf self.old.reader.given) }
         ensures name { IfOk result (λ sheet. sheet.name ≡ self.old.name) }
+        ensures under { IfOk result (IsSheetUnder self.old.name) }
         ensures same { (self.new.uid ≡ self.old.uid) × (self.new.name ≡ self.old.name) × (self.new.reader.given ≡ self.old.reader.given) }
         ensures sheet { IfOk result (λ sheet. sheet ≡ sheet_of self.new.reader) }
         ensures fits { HasRecord self.new.reader }
@@ -102,6 +118,7 @@ impl Readers {
     /// The statistics of the queue of a name, where it has a reader. `OutOfMemory` is the only refusal.
     pub(crate) fn sheet(&mut self, alloc: Global, name: &QueueName) -> Result<Option<Sheet>, Fault>
         ensures name { IfOk result (λ found. IfSome found (λ sheet. sheet.name ≡ name.now)) }
+        ensures under { IfOk result (λ found. IfSome found (IsSheetUnder name.now)) }
         ensures sheet { IfOk result (λ found. found ≡ option_map (λ shown. sheet_of shown.reader) (find (λ shown. bytes_eq shown.name name.now) self.new.all.items)) }
         ensures fits { IfOk result (λ found. IfSome (find (λ shown. bytes_eq shown.name name.now) self.new.all.items) (λ shown. HasRecord shown.reader)) }
         ensures absent { result ≡ Ok None → position (λ shown. bytes_eq shown.name name.now) self.old.all.items ≡ None }
@@ -118,6 +135,7 @@ impl Readers {
     /// refusal.
     pub(crate) fn sheets(&mut self, alloc: Global) -> Result<Vec<Sheet>, Fault>
         ensures names { IfOk result (λ sheets. map (λ sheet. sheet.name) sheets.items ≡ map (λ shown. shown.name) self.old.all.items) }
+        ensures under { IfOk result (λ sheets. All (λ sheet. IsSheetUnder sheet.name sheet) sheets.items) }
         ensures sheets { IfOk result (λ sheets. sheets.items ≡ map (λ shown. sheet_of shown.reader) self.new.all.items) }
         ensures fits { IfOk result (λ sheets. All (λ shown. HasRecord shown.reader) self.new.all.items) }
         ensures kept { AllZip (λ before after. (after.uid ≡ before.uid) × (after.name ≡ before.name) × IsLater before.reader after.reader) self.old.all.items self.new.all.items }

@@ -1,4 +1,4 @@
-use Rattle.queue_actor.proofs.NowLemmas.{tried_nothing, tried_again, called_then}
+use Rattle.queue_actor.proofs.NowLemmas.{tried_nothing, tried_again}
 use Rattle.queue_actor.proofs.now.try_now.Goals as goal
 
 pub loop-init : goal.loop-init

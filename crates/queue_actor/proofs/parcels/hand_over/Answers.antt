@@ -1,7 +1,4 @@
-use Rattle.std.proofs.Common.{◌≡◌, ◌∙◌, Ok, Err, IfOk, IfSome, ap, inr, refl, subst, sym}
-use Rattle.message.specs.declared.fault.Fault.TheVariants.{QueueDoesNotExist}
-use Rattle.queue_core.specs.declared.command.Command.TheVariants as commands
-use Rattle.queue_actor.specs.Calling.{HasAsked}
+use Rattle.std.proofs.Common.{◌≡◌, ◌∙◌, Ok, IfOk, IfSome, refl, subst, sym}
 use Rattle.queue_actor.proofs.MovingLemmas.{has_arrived}
 use Rattle.queue_actor.proofs.parcels.hand_over.Goals as goal
 

@@ -1,4 +1,4 @@
-use Rattle.std.proofs.Common.{◌≡◌, [], subst, sym, ap, ◌∙◌, refl, true, false}
+use Rattle.std.proofs.Common.{◌≡◌, [], subst, sym, ap}
 use Rattle.queue_actor.specs.Calling.{LooksAtTick}
 use Rattle.queue_actor.specs.Serving.{TakesIn, Ends, Serves}
 use Rattle.queue_actor.specs.Waiting.{TakesAnswers}

@@ -1,12 +1,12 @@
 -- The first reader of the name is read, and no other.
-use Rattle.std.proofs.Common.{◌≡◌, ◌∙◌, Option, Some, sym, ap, subst, set}
+use Rattle.std.proofs.Common.{◌≡◌, ◌∙◌, ℕ, List, Option, Some, sym, ap, subst, set}
 use Rattle.std.specs.List.{find}
 use Rattle.std.specs.Str.{bytes_eq}
 use Rattle.std.specs.Option.{IfSome, option_map}
 use Rattle.std.proofs.lemmas.List.Quantifiers.{position-Some}
 use Rattle.std.proofs.lemmas.Slice.Eq.{bytes_eq-Decides}
 use Rattle.queue_actor.specs.declared.readers.Shown.{Shown}
-use Rattle.queue_actor.specs.Reading.{sheet_of}
+use Rattle.queue_actor.specs.Reading.{IsSheetUnder, sheet_of}
 use Rattle.queue_actor.proofs.ReaderLemmas.{HasOwnRecord, all_later_self, found_set, later_lent, none_found}
 use Rattle.queue_actor.proofs.readers.Readers.sheet.Goals as goal
 
@@ -25,6 +25,13 @@ returns-in_ok-read-in-Some-clause-name c =
     let test = λ (s : Shown). bytes_eq s.name c.args.name.now in
     let found = position-Some test c.args.self.now.all.items c.in-Some.place c.index_mut.result.now (sym c.place_named.ensures ∙ c.in-Some.is) in
     c.in_ok-read-in-Some.ensures.name ∙ ap (λ (s : Shown). s.name) c.index_mut.ensures.value ∙ (bytes_eq-Decides _ _).0 found.1
+
+pub returns-in_ok-read-in-Some-clause-under : goal.returns-in_ok-read-in-Some-clause-under
+returns-in_ok-read-in-Some-clause-under c =
+    let test = λ (s : Shown). bytes_eq s.name c.args.name.now in
+    let found = position-Some test c.args.self.now.all.items c.in-Some.place c.index_mut.result.now (sym c.place_named.ensures ∙ c.in-Some.is) in
+    let same = ap (λ (s : Shown). s.name) c.index_mut.ensures.value ∙ (bytes_eq-Decides _ _).0 found.1 in
+    subst (λ (name : List ℕ). IsSheetUnder name c.in_ok-read-in-Some.field-0) same c.in_ok-read-in-Some.ensures.under
 
 pub returns-in_ok-read-in-Some-clause-sheet : goal.returns-in_ok-read-in-Some-clause-sheet
 returns-in_ok-read-in-Some-clause-sheet c =

@@ -1,10 +1,11 @@
 -- Each turn reads the next reader, adds its sheet, and leaves the other readers as they are.
-use Rattle.std.proofs.Common.{rules, ◌≡◌, ℕ, ◌<◌, List, [], ◌∷◌, ◌++◌, map, take, length, get_or, refl, sym, ap, ◌∙◌, arith}
+use Rattle.std.proofs.Common.{rules, ◌≡◌, ℕ, ◌<◌, List, [], ◌∷◌, ◌++◌, map, take, length, get_or, refl, sym, ap, subst, ◌∙◌, arith}
 use Rattle.std.proofs.Math.Seq.{map-set_same}
 use Rattle.std.proofs.lemmas.List.{take_more, take_more_set, map-append, get_or-map, length-map}
+use Rattle.std.proofs.lemmas.List.Elements.{All-push, All-same}
 use Rattle.board.specs.Sheet.{Statistics}
 use Rattle.queue_actor.specs.declared.readers.Shown.{Shown}
-use Rattle.queue_actor.specs.Reading.{sheet_of}
+use Rattle.queue_actor.specs.Reading.{IsSheetUnder, sheet_of}
 use Rattle.queue_actor.proofs.ReaderLemmas.{all_later_self, later_lent, records_more}
 use Rattle.queue_actor.proofs.readers.Readers.sheets.Goals as goal
 
@@ -30,6 +31,8 @@ loop-place-preserved c =
       sheets = c.in_ok-push.ensures.items ∙ ap (λ (ss : List Statistics). ss ++ sheet ∷ []) c.loop-place.invariant.sheets ∙ ap (λ (s : Statistics). map own (take i xs) ++ s ∷ []) c.in_ok-read.ensures.sheet
           ∙ sym (map-append own (take i xs) (now ∷ [])) ∙ ap (map own) (sym (take_more_set xs i now below));
       fits = records_more xs i now below c.loop-place.invariant.fits c.read.ensures.fits;
+      under = All-same (λ (s : Statistics). IsSheetUnder s.name s) c.push.new.self.items (c.loop-place.sheets.items ++ sheet ∷ []) c.in_ok-push.ensures.items
+          (All-push (λ (s : Statistics). IsSheetUnder s.name s) c.loop-place.sheets.items sheet c.loop-place.invariant.under (subst (λ (n : List ℕ). IsSheetUnder n sheet) (sym read) c.in_ok-read.ensures.under));
       kept = later_lent c.args.self.now.all.items xs i now shown c.loop-place.invariant.kept here (c.read.ensures.same.0, c.read.ensures.same.1, c.read.ensures.later);
     }
 
@@ -38,6 +41,7 @@ loop-place-init c = record {
   names = search rules;
   same = refl;
   sheets = search rules;
+  under = search rules;
   fits = λ k d from below. absurd (omega (arith, below));
   kept = all_later_self c.args.self.now.all.items;
 }

@@ -1,7 +1,7 @@
-use Rattle.std.proofs.Common.{◌≡◌, ◌+◌, ◌-◌, ◌∷◌, ◌++◌, [], Some, IfSome, is_some, true, false, subst, sym, ap, ◌∙◌, arith}
+use Rattle.std.proofs.Common.{◌≡◌, ◌+◌, ◌-◌, ◌∷◌, ◌++◌, [], IfSome, is_some, subst, sym, ap, ◌∙◌, arith}
 use Rattle.queue_actor.proofs.ServingLemmas.{Looking, looking_begins, looking_takes, looking_goes, looking_same, looking_ends, with_last, takes_behind}
-use Rattle.queue_actor.proofs.actor.Actor.look_over.Goals as goal
-use Rattle.queue_actor.proofs.actor.Actor.look_over.Goals.{in-Some-kept, in_default-kept}
+use Rattle.queue_actor.proofs.actor.Actor.look_over_all.Goals as goal
+use Rattle.queue_actor.proofs.actor.Actor.look_over_all.Goals.{in-Some-kept, in_default-kept}
 
 pub loop-init : goal.loop-init
 loop-init g c = looking_begins g.I.Inbox.brings g.I.Inbox.is_over g.I.Inbox.may_give g.I.Inbox.gives g.I.Inbox.was_left c.args.limit c.args.at c.args.known c.args.self.now.pass c.args.parked.now.items c.args.mailbox.now (c.len-end.result - 0) (omega (arith, c.len-end.ensures, c.args.parked.now.ok.0))

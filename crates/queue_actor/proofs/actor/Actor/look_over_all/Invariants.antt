@@ -1,6 +1,6 @@
 use Rattle.std.proofs.Common.{◌-◌}
 use Rattle.queue_actor.proofs.ServingLemmas.{Looking}
-use Rattle.queue_actor.proofs.actor.Actor.look_over.Given as goal
+use Rattle.queue_actor.proofs.actor.Actor.look_over_all.Given as goal
 
 abbrev pub invariant-loop : goal.invariant-loop
 invariant-loop g l =
