@@ -1,6 +1,6 @@
 -- What comes of each stage of a request: what a client is told, or what is asked of which queue next, at which moment and for which purpose. Of the
 -- directory no clause says which queues it has, so a queue that was found under a name is some queue that was opened under it.
-use Rattle.std.specs.Prelude.{◌≡◌, ◌≢◌, ◌⊎◌, ◌||◌, nat_lt, Bool, ⊤, ℕ, List, [], codes, Option, Some, None, Result, Ok, Err, IfOk, IfErr, IsSomeAnd, IsErrAnd, MatchBool, option_map}
+use Rattle.std.specs.Prelude.{◌≡◌, ◌≢◌, ◌⊎◌, ◌||◌, nat_lt, Bool, true, false, ⊤, ℕ, List, [], codes, Option, Some, None, Result, Ok, Err, IfOk, IfErr, IsSomeAnd, IsErrAnd, MatchBool, option_map}
 use Rattle.std.specs.Arc.{arc_value}
 use Rattle.aws_json.specs.Steps.{result_map}
 use Rattle.aws_json.specs.declared.reply.ReplyShape.{ReplyShape}
@@ -45,6 +45,7 @@ use Rattle.sqs_server.specs.declared.plan.Performed.{Performed}
 use Rattle.sqs_server.specs.declared.plan.Step.{Step}
 use Rattle.sqs_server.specs.declared.plan.Step.TheVariants as steps
 use Rattle.sqs_server.specs.declared.plan.Then.{Then}
+use Rattle.sqs_server.specs.declared.plan.Then.TheVariants as thens
 use Rattle.sqs_server.specs.declared.queues.Made.{Made}
 use Rattle.sqs_server.specs.declared.queues.Order.{Order}
 use Rattle.sqs_server.specs.declared.queues.Queue.{Queue}
@@ -76,9 +77,22 @@ SentOfError limits.LengthLimit sent = sent ≡ Ok (denied BodyTooLarge)
 SentOfError (limits.Body error) sent =
     ((kind_of error ≡ kinds.OutOfMemory) × (sent ≡ Ok (refused OutOfMemory))) ⊎ ((kind_of error ≢ kinds.OutOfMemory) × (sent ≡ Err error))
 
--- what a client is sent where no queue is found for it, or too much mail waits for the one that is
+-- what a client is sent where no queue is found for it
+abbrev pub IsLost : Sent → Type 0
+IsLost sent = (sent ≡ refused QueueDoesNotExist) ⊎ (sent ≡ refused OutOfMemory)
+
+-- the same, or too much mail waits for the one that is found
 abbrev pub IsTurnedAway : Sent → Type 0
-IsTurnedAway sent = (sent ≡ refused QueueDoesNotExist) ⊎ ((sent ≡ refused OutOfMemory) ⊎ (sent ≡ busy))
+IsTurnedAway sent = IsLost sent ⊎ (sent ≡ busy)
+
+-- whether a step asks for a queue's attributes
+abbrev pub is_for_attributes : Step → Bool
+is_for_attributes (steps.Ask command seconds (thens.Attributes queue names)) = true
+is_for_attributes _ = false
+
+-- what a client is sent for whose step no queue is found, or too busy a one: none is too busy to tell its attributes
+abbrev pub IsTurnedAwayWith : Step → Sent → Type 0
+IsTurnedAwayWith step sent = MatchBool (is_for_attributes step) (IsLost sent) (IsTurnedAway sent)
 
 -- ---- what is found, and what becomes of it
 
@@ -128,11 +142,11 @@ module _ {R : Type 0} where
 
   -- ---- queues
 
-  -- a queue was found that was opened under a name, and this holds of it; or the request is turned away
-  abbrev pub Opens : List ℕ → (Queue R → Type 0) → Next R → Type 0
-  Opens name P next =
+  -- a queue was found that was opened under a name, and this holds of it; or the client is sent something else, of which that holds
+  abbrev pub Opens : List ℕ → (Queue R → Type 0) → (Sent → Type 0) → Next R → Type 0
+  Opens name P Else next =
       ((queue : Queue R) × (queue.pass.start.name ≡ name) × P queue)
-      ⊎ ((sent : Sent) × IsTurnedAway sent × (next ≡ Ends (Ok sent)))
+      ⊎ ((sent : Sent) × Else sent × (next ≡ Ends (Ok sent)))
 
   -- the target that is asked for a queue of a name was found, and this holds of its uid; or the request is refused
   abbrev pub Targets : List ℕ → RequestedAttributes → (ℕ → Type 0) → Next R → Type 0
@@ -161,7 +175,7 @@ module _ {R : Type 0} where
   Ordered creation target next =
       ((order : Order) × IsOrder creation target order
       × ((made : Receiver Made) × (canceled_source order.made ≡ completed_source made) × (next ≡ On (stages.Making creation made))))
-      ⊎ ((next ≡ refuses OutOfMemory) ⊎ (next ≡ Ends (Ok busy)))
+      ⊎ (next ≡ refuses OutOfMemory) ⊎ (next ≡ Ends (Ok busy)) ⊎ (next ≡ refuses ActorGone)
 
   -- ---- turns
 
@@ -281,14 +295,14 @@ module _ {R : Type 0} (port : ℕ) where
   -- what a task begins with at a moment
   abbrev pub Begun : Task → ℕ → Next R → Type 0
   Begun (tasks.Create name wish) at next = next ≡ On (stages.Creating record { name = name; wish = wish; at = at })
-  Begun (tasks.Delete name) at next = Opens name (λ queue. Sends queue at commands.Close 0 purposes.Change next) next
+  Begun (tasks.Delete name) at next = Opens name (λ queue. Sends queue at commands.Close 0 purposes.Change next) IsLost next
   Begun (tasks.Set name wish) at next =
       Opens name (λ queue. Targets name wish (λ target.
-      Sends queue at (commands.Set wish target) 0 purposes.Change next) next) next
+      Sends queue at (commands.Set wish target) 0 purposes.Change next) next) IsTurnedAway next
   Begun (tasks.Url name) at next = TellsUrl name next
   Begun (tasks.Urls prefix) at next = TellsUrls prefix next
   Begun (tasks.Sources name) at next = TellsSources next
-  Begun (tasks.Ask name step) at next = Opens name (λ queue. next ≡ On (stages.Going queue.uid (Some queue) at step)) next
+  Begun (tasks.Ask name step) at next = Opens name (λ queue. next ≡ On (stages.Going queue.uid (Some queue) at step)) (IsTurnedAwayWith step) next
 
   -- A request is judged by its head and these bytes, and begins with its task at one moment; or it is refused. Want of memory may come in the place of
   -- what the bytes ask.
@@ -315,7 +329,7 @@ module _ {R : Type 0} (port : ℕ) where
   abbrev pub Creates : Creation → Result (Next R) Creation → Type 0
   Creates creation (Ok next) =
       Targets creation.name creation.wish (λ target.
-      Ordered creation target next ⊎ Opens creation.name (λ queue. Sends queue creation.at commands.Look 0 (purposes.Existing creation) next) next) next
+      Ordered creation target next ⊎ Opens creation.name (λ queue. Sends queue creation.at commands.Look 0 (purposes.Existing creation) next) IsTurnedAway next) next
   Creates creation (Err back) = back ≡ creation
 
   -- ---- all stages
@@ -336,10 +350,10 @@ module _ {R : Type 0} (port : ℕ) where
   abbrev pub Names : Creation → Turn R → Type 0
   Names creation = Leads (λ next. Creates creation (Ok next)) (λ stage. stage ≡ stages.Creating creation)
 
-  -- a queue was ordered; where the thread that makes queues is gone, there was no memory for it
+  -- a queue was ordered; or the thread that makes queues is gone
   abbrev pub AwaitsQueue : Creation → Turn R → Type 0
   AwaitsQueue creation =
-      Leads (λ next. ((outcome : Result ⊤ Fault) × Makes creation outcome next) ⊎ (next ≡ refuses OutOfMemory))
+      Leads (λ next. ((outcome : Result ⊤ Fault) × Makes creation outcome next) ⊎ (next ≡ refuses ActorGone))
       (λ stage. (made : Receiver Made) × (stage ≡ stages.Making creation made))
 
   -- a queue was asked

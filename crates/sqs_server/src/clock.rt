@@ -4,7 +4,8 @@ ghost use Rattle.std.specs.Prelude.{◌≡◌, ◌*◌, min};
 ghost use Rattle.sqs_server.specs.Times.{moment_within, wait_limit};
 
 use journal::Moment;
-use std::time::{Clock, SystemTime};
+use std::sync::atomic::{AtomicU64, Ordering};
+use std::time::{Clock, Duration, SystemTime};
 
 /// The latest moment there is, in milliseconds.
 const LATEST: u64 = (1 << 62) - 1;
@@ -35,5 +36,55 @@ pub(crate) fn moment_of_day<C: Clock>(clock: &C) -> Moment {
     match since {
         Some(since) => moment_within(u64::try_from(since.as_millis()).unwrap_or(LATEST)),
         None => Moment::zero(),
+    }
+}
+
+/// How many nanoseconds a reading of a clock has, 0 where it could not be read.
+fn nanoseconds<E: Drop>(reading: Result<Duration, E>) -> u64 {
+    match reading {
+        Ok(passed) => u64::try_from(passed.as_nanos()).unwrap_or(u64::MAX),
+        Err(_unread) => 0,
+    }
+}
+
+/// The time of day for all that the queues are told. Where the wall clock is put back, it goes on as the machine's
+/// other clock does, which counts from its start: so nothing waits longer than it is to. Where the wall clock is put
+/// on, it follows.
+#[derive(Drop)]
+pub struct Day {
+    /// By how many nanoseconds the wall clock was ahead of the other one, at most so far.
+    ahead: AtomicU64,
+}
+
+impl Day {
+    /// A time of day that was never asked for.
+    pub(crate) fn new() -> Day {
+        Day {
+            ahead: AtomicU64::new(0),
+        }
+    }
+
+    /// By how much the wall clock was ahead at most, if it is ahead by so much now.
+    fn raise(&self, now: u64) -> u64 {
+        let most = self.ahead.load(Ordering::SeqCst);
+        if now <= most {
+            return most;
+        }
+        match self
+            .ahead
+            .compare_exchange(most, now, Ordering::SeqCst, Ordering::SeqCst)
+        {
+            Ok(_) => now,
+            Err(found) => found.max(now),
+        }
+    }
+
+    /// The time of day, in milliseconds since 1970. The wall clock is read first: whoever is held up in between finds
+    /// it less far ahead.
+    pub(crate) fn moment<C: Clock>(&self, clock: &C) -> Moment {
+        let wall = nanoseconds(clock.since_1970());
+        let passed = nanoseconds(clock.monotonic());
+        let ahead = self.raise(wall.saturating_sub(passed));
+        moment_within(ahead.saturating_add(passed) / 1_000_000)
     }
 }

@@ -10,13 +10,13 @@ ghost use Rattle.sqs_server.specs.declared.stage.Purpose.TheVariants as purposes
 ghost use Rattle.sqs_server.specs.declared.stage.Stage.TheVariants as stages;
 ghost use Rattle.sqs_server.specs.declared.task.Task.TheVariants as tasks;
 ghost use Rattle.sqs_server.specs.Responses.{Halts, OnHeld};
-ghost use Rattle.sqs_server.specs.Stages.{Asks, AsksFound, AsksNow, AwaitsAnswer, AwaitsQueue, Begun, Changed, Collects, Compared, Creates, GoesOn, IsJudged, IsMissed, IsOrder, IsPostponed, IsRead, IsTarget, IsTurnedAway, Looked, Makes, Names, Ordered, Regains, Resumes, Returned, Seen, Sends, SentOfError, Tells, TellsSources, TellsUrl, TellsUrls, Turns};
+ghost use Rattle.sqs_server.specs.Stages.{Asks, AsksFound, AsksNow, AwaitsAnswer, AwaitsQueue, Begun, Changed, Collects, Compared, Creates, GoesOn, IsJudged, IsLost, IsMissed, IsOrder, IsPostponed, IsRead, IsTarget, IsTurnedAway, IsTurnedAwayWith, Looked, Makes, Names, Ordered, Regains, Resumes, Returned, Seen, Sends, SentOfError, Tells, TellsSources, TellsUrl, TellsUrls, Turns};
 ghost use Rattle.sqs_server.specs.Stages as told;
 ghost use Rattle.sqs_server.specs.Task.{Begins};
 ghost use Rattle.sqs_server.specs.Turns.{OnWaits};
 
 use crate::arriving::{Arriving, Asked};
-use crate::clock::{moment_of_day, wait_limit};
+use crate::clock::{Day, wait_limit};
 use crate::head::{Denial, asked_of, target_of};
 use crate::plan::{Outcome, Performed, Step, Then, after};
 use crate::queues::{Made, Mailbox, NewQueue, Order, Printer, Queue, Queues, is_full};
@@ -25,7 +25,7 @@ use crate::reply::{Sent, busy, denied, refused, sent_for};
 use crate::stage::{Creation, Exchange, Halt, Next, Postponed, Purpose, Stage, Turn};
 use crate::task::{Task, task_of};
 use aws_json::{Prefix, QueueNames, ReplyShape, Request};
-use crossbeam_channel::Sender;
+use crossbeam_channel::{SendError, Sender};
 use desk::NoGate;
 use futures::Future;
 use futures::channel::oneshot;
@@ -51,6 +51,7 @@ pub struct Front<R: Wait + Drop> {
     pub port: u16,
     pub queues: Arc<Queues<R>>,
     pub orders: Sender<Order>,
+    pub day: Arc<Day>,
     pub register: Arc<Register>,
 }
 
@@ -66,6 +67,7 @@ impl<R: Wait + Copy + Drop> Front<R> {
             port: self.port,
             queues: Arc::try_clone(&self.queues)?,
             orders: self.orders.clone()?,
+            day: Arc::try_clone(&self.day)?,
             register: Arc::try_clone(&self.register)?,
         })
     }
@@ -113,6 +115,19 @@ fn goes_by_mail(command: &Command, seconds: u64) -> bool
     seconds > 0 || is_for_actor(command)
 }
 
+/// Whether a step asks for a queue's attributes.
+fn is_for_attributes(step: &Step) -> bool
+    ensures { result ≡ told.is_for_attributes step.now }
+{
+    matches!(
+        step,
+        Step::Ask {
+            then: Then::Attributes { .. },
+            ..
+        }
+    )
+}
+
 /// What became of a command that was answered.
 fn outcome_of(command: Command, reply: Result<Reply, Fault>) -> Outcome
     ensures { result ≡ told.outcome command reply }
@@ -151,16 +166,39 @@ impl<R: Wait + Clock + Drop> Front<R> {
         }
     }
 
-    /// The queue of a name, where more mail may wait for it; or what the client is sent.
+    /// The queue of a name; or what the client is sent.
     fn find(&self, name: &QueueName) -> Result<Queue<R>, Sent>
         ensures found { IfOk result (λ queue. queue.pass.start.name ≡ name.now) }
-        ensures errors { IfErr result IsTurnedAway }
+        ensures errors { IfErr result IsLost }
     {
         match self.queues.find(&self.rt, name) {
-            Ok(Some(queue)) if is_full(queue.mailbox.len()) => Err(busy()),
             Ok(Some(queue)) => Ok(Queue::of(queue)),
             Ok(None) => Err(refused(Fault::QueueDoesNotExist)),
             Err(fault) => Err(refused(fault)),
+        }
+    }
+
+    /// The queue of a name, where more mail may wait for it; or what the client is sent.
+    fn find_free(&self, name: &QueueName) -> Result<Queue<R>, Sent>
+        ensures found { IfOk result (λ queue. queue.pass.start.name ≡ name.now) }
+        ensures errors { IfErr result IsTurnedAway }
+    {
+        match self.find(name) {
+            Ok(queue) if is_full(queue.mailbox.len()) => Err(busy()),
+            Ok(queue) => Ok(queue),
+            Err(sent) => Err(sent),
+        }
+    }
+
+    /// The queue of a name for what a request asks of it. However much mail waits, attributes are told.
+    fn find_for(&self, name: &QueueName, step: &Step) -> Result<Queue<R>, Sent>
+        ensures found { IfOk result (λ queue. queue.pass.start.name ≡ name.now) }
+        ensures errors { IfErr result (IsTurnedAwayWith step.now) }
+    {
+        if is_for_attributes(step) {
+            self.find(name)
+        } else {
+            self.find_free(name)
         }
     }
 
@@ -327,7 +365,7 @@ impl<R: Wait + Clock + Drop> Front<R> {
     fn begins(&self, name: &QueueName, at: Moment, step: Step) -> Next<R>
         ensures { Begun self.now.port (tasks.Ask name.now step) at result }
     {
-        match self.find(name) {
+        match self.find_for(name, &step) {
             Ok(queue) => Next::On(Stage::Going {
                 uid: queue.uid,
                 queue: Some(queue),
@@ -338,7 +376,7 @@ impl<R: Wait + Clock + Drop> Front<R> {
         }
     }
 
-    /// Closes a queue.
+    /// Closes a queue, however much mail waits for it.
     fn delete(&self, name: &QueueName, at: Moment) -> Next<R>
         ensures { Begun self.now.port (tasks.Delete name.now) at result }
     {
@@ -352,7 +390,7 @@ impl<R: Wait + Clock + Drop> Front<R> {
     fn set(&self, name: &QueueName, at: Moment, wish: Wish) -> Next<R>
         ensures { Begun self.now.port (tasks.Set name.now wish) at result }
     {
-        let queue = match self.find(name) {
+        let queue = match self.find_free(name) {
             Ok(queue) => queue,
             Err(sent) => return Next::Ends(Ok(sent)),
         };
@@ -420,7 +458,7 @@ impl<R: Wait + Clock + Drop> Front<R> {
         ensures { IsJudged self.now.port head.now bytes.now result }
     {
         match asked_of(self.alloc, target_of(head), bytes) {
-            Ok(request) => self.begin(request, moment_of_day(&self.rt)),
+            Ok(request) => self.begin(request, self.day.moment(&self.rt)),
             Err(fault) => refuses(fault),
         }
     }
@@ -471,7 +509,8 @@ impl<R: Wait + Clock + Drop> Front<R> {
         let order = order_of(self.alloc, &creation, target, tells);
         match self.orders.send(&self.rt, order) {
             Ok(()) => Next::On(Stage::Making { creation, made }),
-            Err(_refused) => refuses(Fault::OutOfMemory),
+            Err(SendError::OutOfMemory(_)) => refuses(Fault::OutOfMemory),
+            Err(SendError::Disconnected(_)) => refuses(Fault::ActorGone),
         }
     }
 
@@ -499,7 +538,7 @@ impl<R: Wait + Clock + Drop> Front<R> {
         match made.poll(cx) {
             Poll::Pending => Turn::Waits(Stage::Making { creation, made }),
             Poll::Ready(Ok(made)) => Turn::Goes(self.ordered(creation, made)),
-            Poll::Ready(Err(_gone)) => Turn::Goes(refuses(Fault::OutOfMemory)),
+            Poll::Ready(Err(_gone)) => Turn::Goes(refuses(Fault::ActorGone)),
         }
     }
 

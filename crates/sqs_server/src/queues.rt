@@ -9,7 +9,7 @@ ghost use Rattle.desk.specs.Views.{first_knowledge};
 ghost use Rattle.message.specs.declared.fault.Fault.TheVariants.{OutOfMemory};
 ghost use Rattle.queue_core.specs.Kept.{opened_queue};
 
-use crate::clock::moment_of_day;
+use crate::clock::Day;
 use board::{Publisher, Reader, Sheet, board};
 use crossbeam_channel::{Receiver, Sender, unbounded};
 use desk::{Desk, NoGate, Pass};
@@ -22,6 +22,7 @@ use queue_actor::{
 use queue_config::{AlarmRule, Config, ConfiguredAlarm, Limits, Settings};
 use queue_core::QueueState;
 use std::alloc::Global;
+use std::snapshot::Snapshot;
 use std::sync::{Arc, Wait};
 use std::thread;
 use std::thread::Threads;
@@ -101,19 +102,20 @@ pub(crate) fn is_full(waiting: usize) -> bool
 /// The queues that are served.
 pub type Queues<R> = Directory<Printer<R>, Slot<R>>;
 
-/// The wall clock, looked at every so often.
+/// The time of day, looked at every so often.
 #[derive(Drop)]
 struct Ticking<C> {
     clock: C,
+    day: Arc<Day>,
 }
 
 impl<C: Clock> Beat for Ticking<C> {
-    // Of the wall clock no contract knows anything.
+    // Of the time of day no contract knows anything.
     ghost ticks = { λ _ _ _. Unit {0} };
 
     fn next(&mut self) -> Option<Moment> {
         thread::sleep(&self.clock, Duration::from_millis(TICK_MILLISECONDS));
-        Some(moment_of_day(&self.clock))
+        Some(self.day.moment(&self.clock))
     }
 }
 
@@ -139,11 +141,12 @@ pub struct Order {
     pub made: oneshot::Sender<Made>,
 }
 
-/// The queues that are served, and where more of them are ordered.
+/// The queues that are served, where more of them are ordered, and the time of day that they are told.
 #[derive(Drop)]
 pub struct Opened<R: Wait + Drop> {
     pub queues: Arc<Queues<R>>,
     pub orders: Sender<Order>,
+    pub day: Arc<Day>,
 }
 
 /// The uid of the dead-letter queue that settings name, 0 for none.
@@ -164,8 +167,9 @@ pub struct Serving<R: Wait + Drop> {
     queues: Arc<Queues<R>>,
 }
 
-impl<R: Wait + Copy + Drop> Serving<R> {
-    /// Serves the queue until its mailbox ends.
+impl<R: Wait + Clock + Copy + Drop> Serving<R> {
+    /// Serves the queue until its mailbox ends. Who asked it last has let go of it a second later: so the memory of
+    /// what lies in it goes here, and holds up no request.
     fn run(self) {
         let Serving {
             rt,
@@ -174,12 +178,14 @@ impl<R: Wait + Copy + Drop> Serving<R> {
             mut mails,
             queues,
         } = self;
-        actor.run(&rt, alloc, &mut mails, &*queues, &NoGate)
+        actor.run(&rt, alloc, &mut mails, &*queues, &NoGate);
+        drop(mails);
+        thread::sleep(&rt, Duration::from_secs(1));
     }
 }
 
 /// Starts the thread of an actor. A thread that cannot be started is `OutOfMemory`.
-fn start_actor<R: Wait + Threads + Copy + Send + Drop + 'static>(
+fn start_actor<R: Wait + Threads + Clock + Copy + Send + Drop + 'static>(
     rt: &R,
     alloc: Global,
     actor: Actor<Printer<R>>,
@@ -221,7 +227,8 @@ fn open_board<R: Wait + Copy + Drop>(
     }
 }
 
-/// Opens a queue at a moment, on a desk, and a board for its statistics. `OutOfMemory` is the only refusal.
+/// Opens a queue at a moment, on a desk, and a board for its statistics. What it was then comes beside them, and takes
+/// no bytes. `OutOfMemory` is the only refusal.
 fn open_desk<R: Wait + Copy + Drop>(
     rt: &R,
     host: &HostRuntime,
@@ -230,19 +237,29 @@ fn open_desk<R: Wait + Copy + Drop>(
     new: NewQueue,
     limits: Limits,
     at: Moment,
-) -> Result<(Desk<Printer<R>>, Pass<Printer<R>>, Reader), Fault>
+) -> Result<
+    (
+        Desk<Printer<R>>,
+        Pass<Printer<R>>,
+        Reader,
+        Snapshot<QueueState>,
+    ),
+    Fault,
+>
     ensures ok { IfOk result (λ made. made.1 ≡ first_knowledge made.0 (opened_queue uid new.name new.settings limits new.rules.items at) (place_of made.2.book)) }
     ensures given { IfOk result (λ made. made.2.given ≡ sheet_of (opened_queue uid new.name new.settings limits new.rules.items at)) }
+    ensures opened { IfOk result (λ made. made.3.value ≡ opened_queue uid new.name new.settings limits new.rules.items at) }
     ensures errors { IfErr result (λ fault. fault ≡ OutOfMemory) }
 {
     let state = QueueState::open(alloc, uid, new.name, new.settings, limits, new.rules, at)?;
+    let opened = Snapshot::of(&state);
     let (printer, reader) = open_board(rt, alloc, &state, at)?;
     let (desk, pass) = Desk::new(host, alloc, state, printer)?;
-    Ok((desk, pass, reader))
+    Ok((desk, pass, reader, opened))
 }
 
 /// Opens a queue at a moment under a uid that was entered, and serves it.
-fn start_queue<R: Wait + Threads + Copy + Send + Drop + 'static>(
+fn start_queue<R: Wait + Threads + Clock + Copy + Send + Drop + 'static>(
     rt: &R,
     host: &HostRuntime,
     alloc: Global,
@@ -254,7 +271,7 @@ fn start_queue<R: Wait + Threads + Copy + Send + Drop + 'static>(
     let name = new.name;
     let target = target_of(&new.settings);
     let limits = queues.limits();
-    let (desk, mut pass, reader) = open_desk(rt, host, alloc, uid, new, limits, at)?;
+    let (desk, mut pass, reader, opened) = open_desk(rt, host, alloc, uid, new, limits, at)?;
     let own = desk.pass(&mut pass);
     let desk = Arc::new(alloc, desk)?;
     let (mailbox, mails) = unbounded::<Letter<R>, Global>(alloc)?;
@@ -262,7 +279,7 @@ fn start_queue<R: Wait + Threads + Copy + Send + Drop + 'static>(
     let shared = Arc::try_clone(&duties)?;
     let actor = Actor::new(Arc::try_clone(&desk)?, own, uid, limits, shared);
     start_actor(rt, alloc, actor, mails, Arc::try_clone(queues)?)?;
-    queues.show(rt, Shown::new(uid, name, reader))?;
+    queues.show(rt, Shown::new(uid, name, reader, opened))?;
     let queue = Served::new(uid, name, desk, pass, mailbox, duties);
     queues.serve(rt, queue, target)
 }
@@ -270,7 +287,7 @@ fn start_queue<R: Wait + Threads + Copy + Send + Drop + 'static>(
 /// Makes a queue at a moment. `QueueNameExists` where its name is there, `OverLimit` where there are as
 /// many queues as there may be, and `OutOfMemory` also where its thread cannot be started. A refused
 /// queue leaves no name.
-fn make_queue<R: Wait + Threads + Copy + Send + Drop + 'static>(
+fn make_queue<R: Wait + Threads + Clock + Copy + Send + Drop + 'static>(
     rt: &R,
     host: &HostRuntime,
     alloc: Global,
@@ -298,7 +315,7 @@ fn rules_of(alloc: Global, alarms: &[ConfiguredAlarm], uid: u64) -> Result<Vec<A
 }
 
 /// Makes the configured queues at a moment, in their order.
-fn make_configured<R: Wait + Threads + Copy + Send + Drop + 'static>(
+fn make_configured<R: Wait + Threads + Clock + Copy + Send + Drop + 'static>(
     rt: &R,
     host: &HostRuntime,
     alloc: Global,
@@ -324,10 +341,11 @@ fn start_clock<R: Wait + Threads + Clock + Copy + Send + Drop + 'static>(
     rt: &R,
     alloc: Global,
     queues: Arc<Queues<R>>,
+    day: Arc<Day>,
 ) -> Result<(), Fault> {
     let own = *rt;
     let telling = thread::spawn(rt, move || {
-        deadline_loop(&own, alloc, &*queues, &mut Ticking { clock: own })
+        deadline_loop(&own, alloc, &*queues, &mut Ticking { clock: own, day })
     });
     match telling {
         Ok(_thread) => Ok(()),
@@ -345,7 +363,7 @@ pub struct Maker<R: Wait + Drop> {
     orders: Receiver<Order>,
 }
 
-impl<R: Wait + Threads + Copy + Send + Drop + 'static> Maker<R> {
+impl<R: Wait + Threads + Clock + Copy + Send + Drop + 'static> Maker<R> {
     /// Makes the queues that are ordered, one after another, until nobody can order any more.
     fn run(self) {
         for _ in self.rt.forever() {
@@ -359,7 +377,7 @@ impl<R: Wait + Threads + Copy + Send + Drop + 'static> Maker<R> {
 }
 
 /// Starts the thread that makes queues.
-fn start_maker<R: Wait + Threads + Copy + Send + Drop + 'static>(
+fn start_maker<R: Wait + Threads + Clock + Copy + Send + Drop + 'static>(
     rt: &R,
     host: &HostRuntime,
     alloc: Global,
@@ -379,18 +397,22 @@ fn start_maker<R: Wait + Threads + Copy + Send + Drop + 'static>(
     }
 }
 
-/// The queues of a configuration, opened at a moment and served from now on.
+/// The queues of a configuration, opened and served from now on.
 pub(crate) fn open_all<R: Wait + Threads + Clock + Copy + Send + Drop + 'static>(
     rt: &R,
     host: &HostRuntime,
     alloc: Global,
     config: &Config,
-    at: Moment,
 ) -> Result<Opened<R>, Fault> {
+    let day = Arc::new(alloc, Day::new())?;
     let queues = Arc::new(alloc, Directory::new(alloc, config.limits)?)?;
-    make_configured(rt, host, alloc, &queues, config, at)?;
-    start_clock(rt, alloc, Arc::try_clone(&queues)?)?;
+    make_configured(rt, host, alloc, &queues, config, day.moment(rt))?;
+    start_clock(rt, alloc, Arc::try_clone(&queues)?, Arc::try_clone(&day)?)?;
     let (orders, ordered) = unbounded::<Order, Global>(alloc)?;
     start_maker(rt, host, alloc, Arc::try_clone(&queues)?, ordered)?;
-    Ok(Opened { queues, orders })
+    Ok(Opened {
+        queues,
+        orders,
+        day,
+    })
 }

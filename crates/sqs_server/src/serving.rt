@@ -7,7 +7,6 @@ ghost use Rattle.sqs_server.specs.Program.{refusal_of_system};
 ghost use Rattle.sqs_server.specs.declared.arguments.Refusal.TheVariants.{Listen, OutOfMemory};
 
 use crate::arguments::Refusal;
-use crate::clock::moment_of_day;
 use crate::door::{Door, Exhibition, Reception, Welcome};
 use crate::front::Front;
 use crate::notices::Notices;
@@ -210,6 +209,7 @@ where
         port,
         queues: opened.queues,
         orders: opened.orders,
+        day: opened.day,
         register: Arc::try_clone(register)?,
     };
     Ok(Reception {
@@ -290,7 +290,7 @@ where
         + 'static,
     ensures { IfErr result (λ refusal. (refusal ≡ OutOfMemory) ⊎ (refusal ≡ Listen)) }
 {
-    let Ok(opened) = open_all(rt, host, rt.alloc(), config, moment_of_day(rt)) else {
+    let Ok(opened) = open_all(rt, host, rt.alloc(), config) else {
         return Err(Refusal::OutOfMemory);
     };
     match let_in(rt, requests, statistics, opened, register, connections) {

@@ -3,7 +3,7 @@ use Rattle.desk.specs.Views.{Knowledge}
 use Rattle.sqs_server.proofs.front.Front.create.Goals as goal
 
 pub returns-in-Ok-Some : goal.returns-in-Ok-Some
-returns-in-Ok-Some g c = (Ok c.in-Ok.target, c.in-Ok.ensures, inr (inr (c.busy.result, inr (inr c.busy.ensures), refl)), tt)
+returns-in-Ok-Some g c = (Ok c.in-Ok.target, c.in-Ok.ensures, inr (inr (c.busy.result, inr c.busy.ensures, refl)), tt)
 
 pub returns-in-Ok-Some-2 : goal.returns-in-Ok-Some-2
 returns-in-Ok-Some-2 g c =

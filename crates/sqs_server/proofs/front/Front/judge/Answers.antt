@@ -9,7 +9,7 @@ returns-in-Ok g c =
       asked,
       subst (λ target. Meets asked (asked_of target c.args.bytes.now)) c.target_of.ensures c.in-Ok.ensures.asked,
       subst (λ target. IfErr (action_of target) (λ fault. asked ≡ Err fault)) c.target_of.ensures c.in-Ok.ensures.target,
-      (c.moment_of_day.result, c.begin.ensures.0, c.begin.ensures.1, c.begin.ensures.2),
+      (c.moment.result, c.begin.ensures.0, c.begin.ensures.1, c.begin.ensures.2),
       tt,
     )
 
