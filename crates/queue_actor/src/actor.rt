@@ -229,13 +229,15 @@ where
         }
     }
 
-    /// Looks over the polls that wait. Only where the wait of one is over it goes through all of them.
+    /// Looks over the polls that wait. Only at a tick, and where the wait of one is over, it goes through all of them: at a
+    /// tick those are found whose clients wait no longer.
     fn look_over<S: Drop, I: Inbox<Mail<P, S>, S, Answer<P>>, R: Wait, G: Gate>(
         &mut self,
         rt: &R,
         alloc: Global,
         at: Moment,
         limit: u32,
+        is_tick: bool,
         known: bool,
         parked: &mut VecDeque<Ask<P, S>>,
         mailbox: &mut I,
@@ -245,7 +247,7 @@ where
         ensures looked { (happened : List (Event (Mail P S P.Told) S Answered)) × LooksOver limit at known self.old.pass parked.old.items happened self.new.pass parked.new.items × GoesThrough I.brings I.is_over I.gives I.was_left mailbox.old happened mailbox.new }
         ensures may { TakesAnswers I.brings I.is_over I.may_give I.gives I.was_left parked.new.items at mailbox.new }
     {
-        if is_any_due(at, parked) {
+        if is_tick || is_any_due(at, parked) {
             self.look_over_all(rt, alloc, at, limit, known, parked, mailbox, gate);
         } else {
             self.look_over_first(rt, alloc, at, limit, known, parked, mailbox, gate);
@@ -296,7 +298,17 @@ where
             last = at;
             self.duties.set_polls(parked.len());
             let quiet = self.look_at_tick(rt, alloc, at, limit, is_tick, gate);
-            self.look_over(rt, alloc, at, limit, quiet, &mut parked, mailbox, gate);
+            self.look_over(
+                rt,
+                alloc,
+                at,
+                limit,
+                is_tick,
+                quiet,
+                &mut parked,
+                mailbox,
+                gate,
+            );
             self.move_parcels(rt, alloc, at, directory, gate);
         }
         unreachable!()

@@ -1,4 +1,4 @@
-//! The clock that tells all actors the time.
+//! The clock that tells the queues the time.
 
 ghost use Rattle.std.specs.Prelude.{ℕ, IfSome};
 
@@ -10,10 +10,10 @@ use journal::Moment;
 use std::alloc::Global;
 use std::sync::Wait;
 
-/// How often actors are told the time, in milliseconds.
+/// How often queues are told the time, in milliseconds.
 pub const TICK_MILLISECONDS: u64 = 100;
 
-/// A clock that actors are told the time by.
+/// A clock that queues are told the time by.
 pub trait Beat {
     // It ticks at a moment.
     ghost ticks: { Self → ℕ → Self → Type 0 };
@@ -28,8 +28,8 @@ pub trait Bells {
     // They may be told a moment.
     ghost may_ring: { Self → ℕ → Type 0 };
 
-    /// Tells each queue the time.
-    fn ring<R: Wait>(&self, rt: &R, alloc: Global, at: Moment)
+    /// Tells each queue the time, which may have leapt since the tick before.
+    fn ring<R: Wait>(&self, rt: &R, alloc: Global, at: Moment, is_leap: bool)
         requires may { may_ring self.now at };
 }
 
@@ -48,8 +48,9 @@ pub(crate) fn tell<P: Press, S: Drop, O: Outbox<Mail<P, S>>, R: Wait>(
     }
 }
 
-/// A quiet queue is looked at here; of any other the actor is told. Where there is no memory for the list of the
-/// queues, all get the next tick.
+/// The actors that have something to do are told first. Then each quiet queue is looked at here; behind a leap, where
+/// much may come due in each of them, their actors are told. Where there is no memory for the list of the queues, all
+/// get the next tick.
 impl<P: Press, S: Drop> Bells for Directory<P, S>
 where
     P::Told: Drop,
@@ -57,13 +58,31 @@ where
     // What its channels carry no contract sees.
     ghost may_ring = { λ _ _. Unit {0} };
 
-    fn ring<R: Wait>(&self, rt: &R, alloc: Global, at: Moment) {
-        let Ok(queues) = self.all(rt, alloc) else {
+    fn ring<R: Wait>(&self, rt: &R, alloc: Global, at: Moment, is_leap: bool) {
+        let Ok((busy, quiet)) = self.all(rt, alloc) else {
             return;
         };
-        for queue in queues {
-            queue.tick(rt, alloc, at);
+        for queue in busy {
+            queue.tell(rt, at);
         }
+        for queue in quiet {
+            if is_leap {
+                queue.tell(rt, at);
+            } else {
+                queue.tick(rt, alloc, at);
+            }
+        }
+    }
+}
+
+/// From how many milliseconds between two ticks on the time has leapt: the wall clock was put on, or the machine slept.
+const LEAP: u64 = 1000;
+
+/// Whether the time has leapt since the tick before, where there was one.
+fn is_leap(last: Option<Moment>, at: Moment) -> bool {
+    match last {
+        Some(last) => LEAP < at.milliseconds().saturating_sub(last.milliseconds()),
+        None => false,
     }
 }
 
@@ -76,11 +95,14 @@ pub fn deadline_loop<D: Bells, B: Beat, R: Wait>(
 )
     requires may { (before after : B) (at : ℕ) → B.ticks before at after → D.may_ring directory.now at }
 {
+    let mut last = None;
     for _ in rt.forever() {
         let Some(at) = clock.next() else {
             return;
         };
-        directory.ring(rt, alloc, at);
+        let is_leap = is_leap(last, at);
+        last = Some(at);
+        directory.ring(rt, alloc, at, is_leap);
     }
     unreachable!()
 }

@@ -1,12 +1,15 @@
 //! The directory of the queues that are served: names, mailboxes and desks.
 
-ghost use Rattle.std.specs.Prelude.{◌≡◌, ◌⊎◌, ◌==◌, [], ◌∷◌, ◌++◌, false, true, Ok, Err, None, Some, IfSome, IfOk, IfErr, OnOk, OnErr};
+ghost use Rattle.std.specs.Prelude.{◌≡◌, ◌⊎◌, ◌==◌, ◌+◌, [], ◌∷◌, ◌++◌, length, false, true, Result, Ok, Err, None, Some, IfSome, IfOk, IfErr, OnOk, OnErr};
 ghost use Rattle.std.specs.Arc.{arc_value};
 ghost use Rattle.std.specs.List.{All, position};
 ghost use Rattle.std.specs.Str.{bytes_eq};
 ghost use Rattle.message.specs.declared.fault.Fault.TheVariants.{OutOfMemory, QueueDoesNotExist, QueueNameExists, OverLimit};
 ghost use Rattle.redrive.specs.Catalog.{IsDirectory, has_uid, names_listed, with_target, without_uid};
-ghost use Rattle.desk.specs.Views.{IsKnown, IsNewPass};
+ghost use Rattle.message.specs.declared.fault.Fault.{Fault};
+ghost use Rattle.queue_core.specs.declared.command.Command.TheVariants as commands;
+ghost use Rattle.queue_core.specs.declared.reply.Reply.{Reply};
+ghost use Rattle.desk.specs.Views.{HasCalled, IsKnown, IsNewPass, SeesMore};
 ghost use Rattle.queue_actor.specs.Calling.{HasAsked};
 ghost use Rattle.queue_actor.specs.Reading.{IsSheetUnder};
 
@@ -113,12 +116,30 @@ impl<P: Press, S: Drop> Served<P, S> {
         Answer::new(desk, pass, command, reply)
     }
 
+    /// Whether its actor has nothing to do as time goes by.
+    fn is_quiet(&self) -> bool {
+        self.duties.are_none()
+    }
+
+    /// Whether its actor has nothing to do, and no mail either.
+    fn is_idle(&self) -> bool {
+        self.duties.are_none() && self.mailbox.is_empty()
+    }
+
+    /// Tells the actor the time.
+    pub(crate) fn tell<R: Wait>(&self, rt: &R, at: Moment) {
+        tell(rt, &self.mailbox, at);
+    }
+
     /// Tells the queue the time. Where its actor has nothing to do but to look, and the turn is free, the look is
-    /// made here, so that what is printed is of that moment. Otherwise the actor is told.
-    pub(crate) fn tick<R: Wait>(self, rt: &R, alloc: Global, at: Moment)
+    /// made here, so that what is printed is of that moment. Otherwise the actor is told, and so it is where it
+    /// came to have something to do meanwhile. What the pass has seen then comes back.
+    pub(crate) fn tick<R: Wait>(self, rt: &R, alloc: Global, at: Moment) -> Pass<P>
     where
         P::Told: Drop,
+        ensures { ((reply : Result Reply Fault) × HasCalled self.pass at commands.Look reply result) ⊎ SeesMore self.pass result }
     {
+        let is_idle = self.is_idle();
         let Served {
             desk,
             mut pass,
@@ -126,13 +147,16 @@ impl<P: Press, S: Drop> Served<P, S> {
             duties,
             ..
         } = self;
-        if duties.are_none() && mailbox.is_empty() {
-            let looked = desk.ask_now(rt, alloc, &mut pass, at, &Command::Look, &NoGate);
-            if looked.is_some() {
-                return;
-            }
+        if !is_idle {
+            tell(rt, &mailbox, at);
+            return pass;
+        }
+        let looked = desk.ask_now(rt, alloc, &mut pass, at, &Command::Look, &NoGate);
+        if looked.is_some() && duties.are_none() {
+            return pass;
         }
         tell(rt, &mailbox, at);
+        pass
     }
 }
 
@@ -235,15 +259,22 @@ impl<P: Press, S: Drop> Entries<P, S> {
         (named, self.unserve(uid))
     }
 
-    /// All queues that are served once more. `OutOfMemory` is the only refusal.
-    fn all(&mut self, alloc: Global) -> Result<Vec<Served<P, S>>, Fault>
+    /// All queues that are served once more: those whose actors have something to do as time goes by, and the
+    /// quiet ones. `OutOfMemory` is the only refusal.
+    fn all(&mut self, alloc: Global) -> Result<(Vec<Served<P, S>>, Vec<Served<P, S>>), Fault>
+        ensures all { IfOk result (λ parts. length parts.0.items + length parts.1.items ≡ length self.old.served.items) }
         ensures errors { IfErr result (λ fault. fault ≡ OutOfMemory) }
     {
-        let mut all = Vec::with_capacity(alloc, self.served.len())?;
+        let (mut busy, mut quiet) = (Vec::new(alloc), Vec::new(alloc));
         for place in 0..self.served.len() {
-            all.push(self.served[place].again()?)?;
+            let queue = self.served[place].again()?;
+            if queue.is_quiet() {
+                quiet.push(queue)?;
+            } else {
+                busy.push(queue)?;
+            }
         }
-        Ok(all)
+        Ok((busy, quiet))
     }
 }
 
@@ -407,8 +438,13 @@ impl<P: Press, S: Drop> Directory<P, S> {
         in_order(alloc, names)
     }
 
-    /// All queues that are served once more, as they are found by their names. `OutOfMemory` is the only refusal.
-    pub(crate) fn all<R: Wait>(&self, rt: &R, alloc: Global) -> Result<Vec<Served<P, S>>, Fault>
+    /// All queues that are served once more: those whose actors have something to do as time goes by, and the
+    /// quiet ones. `OutOfMemory` is the only refusal.
+    pub(crate) fn all<R: Wait>(
+        &self,
+        rt: &R,
+        alloc: Global,
+    ) -> Result<(Vec<Served<P, S>>, Vec<Served<P, S>>), Fault>
         ensures errors { IfErr result (λ fault. fault ≡ OutOfMemory) }
     {
         self.entries.lock(rt).all(alloc)

@@ -12,7 +12,7 @@
 //! - [`Targets`]: the queues that dead letters are for, and [`Delivery`], what became of one there.
 //! - [`Directory`]: which queues there are, and where each is served; [`Served`] is one of them, and [`Shown`] the
 //!   reader of one's statistics.
-//! - [`deadline_loop`]: tells all actors the time.
+//! - [`deadline_loop`]: tells the queues the time.
 //!
 //! `Answered` in `specs/` has the words for answers. An answer's pass is of its desk, and its last call has
 //! the answer's command and reply, by the type: so it holds after the answer has crossed threads too. A

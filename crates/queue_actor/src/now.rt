@@ -52,9 +52,9 @@ pub fn is_for_actor(command: &Command) -> bool
     )
 }
 
-/// How often a desk is asked whose turn is not free: as long as a turn of a command takes, or two, and not as long as a
-/// thread takes to sleep and to wake. This project's own choice.
-const TRIES: u32 = 50;
+/// How often a desk is asked whose turn is not free. By what processors take for it that is 10 to 60 microseconds: longer
+/// than the turns of a few others, and about as long as a thread takes to sleep and to wake. This project's own choice.
+const TRIES: u32 = 1000;
 
 /// Asks a desk where its turn is free, or comes to be free soon.
 fn try_now<P: Press, R: Wait, G: Gate>(
