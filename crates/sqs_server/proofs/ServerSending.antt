@@ -67,10 +67,12 @@ use Rattle.sqs_server.specs.contracts.door.Caller as caller
 use Rattle.sqs_server.specs.contracts.door.Exhibition as exhibition
 use Rattle.sqs_server.specs.contracts.door.Guest as guest_type
 use Rattle.sqs_server.specs.contracts.front.Front as front
+use Rattle.sqs_server.specs.contracts.front.Hall as hall
 use Rattle.sqs_server.specs.contracts.queues.Maker as maker
 use Rattle.sqs_server.specs.contracts.queues.Queue as queue
 use Rattle.sqs_server.specs.contracts.queues.Serving as serving
 use Rattle.sqs_server.specs.contracts.serving.Showing as showing
+use Rattle.sqs_server.specs.contracts.serving.Working as working
 use Rattle.sqs_server.specs.contracts.stage.Exchange as exchange
 use Rattle.sqs_server.specs.contracts.stage.Stage as stage
 use Rattle.sqs_server.specs.contracts.statistics.StatisticsFront as statistics
@@ -114,121 +116,26 @@ module _ (T : RattleType) (w : wait.Ghosts T.Denot) (s : IsSend T) where
   pub directory_sync : IsSync (directory.the_row Prints Slots told.the_row g)
   directory_sync = directory_syncs Prints told.the_row g prints_send
 
-  queue_send : IsSend (queue.the_row T w)
-  queue_send = search (desk_send, desk_sync, pass_send, mail_send, sendable, crosses) depth 40 fits 100000
-
-  exchange_field_send : IsSend (exchange.the_field T w).row
-  exchange_field_send =
-      struct_send
-      (parts.shape (exchange.the_type T w)) (
-        search (sendable, crosses) depth 40 fits 100000,
-        (
-          search (mail_send, sendable, crosses) depth 40 fits 100000,
-          (
-            search (sendable, crosses) depth 40 fits 100000,
-            (
-              search (sendable, crosses) depth 40 fits 100000,
-              (purpose.the_field_send, (search (future_send, sendable) depth 40 fits 100000, tt)),
-            ),
-          ),
-        ),
-      )
-
-  stage_field_send : IsSend (stage.the_field T w).row
-  stage_field_send =
-      enum_send
-      (variants.shape (stage.the_type T w)) (
-        (arriving.the_field_send, tt),
-        (
-          (creation.the_field_send, tt),
-          (
-            (creation.the_field_send, (receiver.the_field_send _ made.the_send, tt)),
-            (
-              (
-                search (sendable, crosses) depth 40 fits 100000,
-                (
-                  option.the_field_send (queue.the_row T w) queue_send,
-                  (search (sendable, crosses) depth 40 fits 100000, (step.the_field_send, tt)),
-                ),
-              ),
-              (
-                (exchange_field_send, tt),
-                ((sent.the_field_send, tt), (tt, tt)),
-              ),
-            ),
-          ),
-        ),
-      )
-
-pub front_send : (T : RattleType) (w : wait.Ghosts T.Denot) → IsSend T → IsSend (front.the_row T w)
-front_send T w s =
+pub hall_send : (T : RattleType) (w : wait.Ghosts T.Denot) → IsSend T → IsSend (hall.the_row T w)
+hall_send T w s =
     let one = directory_send T w s in
     let both = directory_sync T w s in
     search (order.the_send, register.the_send, register.the_sync, sendable, crosses) depth 40 fits 100000
 
-pub answering_send : (T : RattleType) (w : wait.Ghosts T.Denot) → IsSend T → IsSend (answering.the_row T w)
-answering_send T w s =
-    recorded_send
-    (answering.the_field T w).row
-    _
-    _
-    (answering.the_type T w).to_one
-    (
-    struct_send
-    (parts.shape (answering.the_type T w))
-    (global.the_field_send, (option.the_field_send (front.the_row T w) (front_send T w s), (stage_field_send T w s, (option.the_field_send asked_type.the_row asked.the_send, tt))))
-    )
-
--- ---- connections
-
-abbrev Body : RattleType
-Body = full_body.the_row (shared_bytes.the_row heap_handle.the_row allocator.ghosts)
-
-body_send : IsSend Body
-body_send = full.the_send _ (bytes.the_send _ _ global.the_send global.the_sync heap.the_frees)
-
-abbrev Served : (T : RattleType) → wait.Ghosts T.Denot → RattleType
-Served T w = served.the_row stream.the_row (front.the_row T w) Body (tokio_timer.the_row T) (response.the_row Body) error.the_row (answering.the_row T w)
-
-served_send : (T : RattleType) (w : wait.Ghosts T.Denot) → IsSend T → IsSend (Served T w)
-served_send T w s = connection.the_send _ _ _ _ _ _ _ tcp.the_send (front_send T w s) body_send (timer.the_send T s) (answering_send T w s)
-
-pub caller_send : (T : RattleType) (w : wait.Ghosts T.Denot) → IsSend T → IsSend (caller.the_row T w)
-caller_send T w s =
-    recorded_send
-    (caller.the_field T w).row
-    _
-    _
-    (caller.the_type T w).to_one
-    (struct_send (parts.shape (caller.the_type T w)) (guest.the_field_send (Served T w) T (served_send T w s) s, tt))
-
--- those who ask for statistics
-
-statistics_field_send : (T : RattleType) (w : wait.Ghosts T.Denot) → IsSend T → IsSend (statistics.the_field T w).row
-statistics_field_send T w s =
+pub hall_sync : (T : RattleType) (w : wait.Ghosts T.Denot) → IsSend T → IsSync (hall.the_row T w)
+hall_sync T w s =
     let one = directory_send T w s in
     let both = directory_sync T w s in
+    search (order.the_send, register.the_send, register.the_sync, sendable, crosses) depth 40 fits 100000
+
+-- part by part, as a field of what goes with it
+front_field_send : (T : RattleType) (w : wait.Ghosts T.Denot) → IsSend T → IsSend (front.the_field T w).row
+front_field_send T w s =
+    let one = hall_send T w s in
+    let both = hall_sync T w s in
     struct_send
-    (parts.shape (statistics.the_type T w)) (
-      s,
-      (
-        global.the_field_send,
-        (search (sendable, crosses) depth 40 fits 100000, (search (register.the_send, register.the_sync, sendable, crosses) depth 40 fits 100000, tt)),
-      ),
-    )
-
-statistics_send : (T : RattleType) (w : wait.Ghosts T.Denot) → IsSend T → IsSend (statistics.the_row T w)
-statistics_send T w s = recorded_send (statistics.the_field T w).row _ _ (statistics.the_type T w).to_one (statistics_field_send T w s)
-
-abbrev Viewed : (T : RattleType) → wait.Ghosts T.Denot → RattleType
-Viewed T w = served.the_row stream.the_row (statistics.the_row T w) Body (tokio_timer.the_row T) (response.the_row Body) error.the_row (ready.the_row (result.the_row (response.the_row Body) error.the_row))
-
-viewed_send : (T : RattleType) (w : wait.Ghosts T.Denot) → IsSend T → IsSend (Viewed T w)
-viewed_send T w s = connection.the_send _ _ _ _ _ _ _ tcp.the_send (statistics_send T w s) body_send (timer.the_send T s)
-    (readies.the_send _ (results.the_send _ _ (responses.the_send Body body_send) errors.the_send))
-
-pub viewer_send : (T : RattleType) (w : wait.Ghosts T.Denot) → IsSend T → IsSend (guest_type.the_row (Viewed T w) T)
-viewer_send T w s = guest.the_send (Viewed T w) T (viewed_send T w s) s
+    (parts.shape (front.the_type T w))
+    (s, (global.the_field_send, (search (sendable, crosses) depth 40 fits 100000, (search (sendable, crosses) depth 40 fits 100000, tt))))
 
 -- ---- threads of their own
 
@@ -262,39 +169,31 @@ maker_send T w s =
     let both = directory_sync T w s in
     search (order.the_send, channel.the_send, sendable, crosses) depth 40 fits 100000
 
-exhibition_field_send : (T : RattleType) (w : wait.Ghosts T.Denot) → IsSend T → IsSend (exhibition.the_field T w).row
-exhibition_field_send T w s =
-    struct_send
-    (parts.shape (exhibition.the_type T w)) (
-      s,
-      (
-        global.the_field_send,
-        (
-          builder.the_field_send _ (timer.the_send T s),
-          (
-            statistics_field_send T w s,
-            (notices.the_field_send, (search (semaphore.the_send, semaphore.the_sync, sendable, crosses) depth 40 fits 100000, tt)),
-          ),
-        ),
-      ),
-    )
-
 pub showing_send : (T : RattleType) (w : wait.Ghosts T.Denot) → IsSend T → IsSend (showing.the_row T w)
 showing_send T w s =
+    let one = directory_send T w s in
+    let both = directory_sync T w s in
+    search (register.the_send, register.the_sync, semaphore.the_send, semaphore.the_sync, notices.the_send, sendable, crosses) depth 40 fits 100000
+
+pub working_send : (T : RattleType) (w : wait.Ghosts T.Denot) → IsSend T → IsSend (working.the_row T w)
+working_send T w s =
     recorded_send
-    (showing.the_field T w).row
+    (working.the_field T w).row
     _
     _
-    (showing.the_type T w).to_one
+    (working.the_type T w).to_one
     (
     struct_send
-    (parts.shape (showing.the_type T w)) (
+    (parts.shape (working.the_type T w)) (
       s,
       (
         port.the_field_send,
         (
-          exhibition_field_send T w s,
-          (notices.the_field_send, (search (semaphore.the_send, semaphore.the_sync, sendable, crosses) depth 40 fits 100000, tt)),
+          front_field_send T w s,
+          (
+            search (semaphore.the_send, semaphore.the_sync, sendable, crosses) depth 40 fits 100000,
+            (search (sendable, crosses) depth 40 fits 100000, (notices.the_field_send, tt)),
+          ),
         ),
       ),
     )

@@ -1,6 +1,6 @@
 //! The wall clock, as moments.
 
-ghost use Rattle.std.specs.Prelude.{◌≡◌, ◌*◌, min};
+ghost use Rattle.std.specs.Prelude.{◌≡◌, ◌≤◌, ◌*◌, min};
 ghost use Rattle.sqs_server.specs.Times.{moment_within, wait_limit};
 
 use journal::Moment;
@@ -39,12 +39,12 @@ pub(crate) fn moment_of_day<C: Clock>(clock: &C) -> Moment {
     }
 }
 
-/// How many nanoseconds a reading of a clock has, 0 where it could not be read.
-fn nanoseconds<E: Drop>(reading: Result<Duration, E>) -> u64 {
-    match reading {
-        Ok(passed) => u64::try_from(passed.as_nanos()).unwrap_or(u64::MAX),
-        Err(_unread) => 0,
-    }
+/// How many nanoseconds a reading of a clock has.
+fn nanoseconds<E>(reading: Result<Duration, E>) -> Option<u64>
+where
+    E: Drop,
+{
+    u64::try_from(reading.ok()?.as_nanos()).ok()
 }
 
 /// The time of day for all that the queues are told. Where the wall clock is put back, it goes on as the machine's
@@ -65,7 +65,9 @@ impl Day {
     }
 
     /// By how much the wall clock was ahead at most, if it is ahead by so much now.
-    fn raise(&self, now: u64) -> u64 {
+    fn raise(&self, now: u64) -> u64
+        ensures { now ≤ result }
+    {
         let most = self.ahead.load(Ordering::SeqCst);
         if now <= most {
             return most;
@@ -80,11 +82,20 @@ impl Day {
     }
 
     /// The time of day, in milliseconds since 1970. The wall clock is read first: whoever is held up in between finds
-    /// it less far ahead.
+    /// it less far ahead. Where one of the clocks cannot be read it is that of the other as it was ahead, or the first
+    /// moment.
     pub(crate) fn moment<C: Clock>(&self, clock: &C) -> Moment {
         let wall = nanoseconds(clock.since_1970());
         let passed = nanoseconds(clock.monotonic());
-        let ahead = self.raise(wall.saturating_sub(passed));
-        moment_within(ahead.saturating_add(passed) / 1_000_000)
+        let told = match (wall, passed) {
+            (Some(wall), Some(passed)) => {
+                let ahead = self.raise(wall.saturating_sub(passed));
+                ahead.saturating_add(passed)
+            }
+            (Some(wall), None) => wall,
+            (None, Some(passed)) => self.raise(0).saturating_add(passed),
+            (None, None) => 0,
+        };
+        moment_within(told / 1_000_000)
     }
 }

@@ -23,9 +23,6 @@ use tokio::net::{TcpListener, TcpStream};
 use tokio::sync::{AcquireOwned, Semaphore};
 use tokio::time::{Handle, Sleep};
 
-/// How many connections one look accepts before it lets others go on.
-const BUDGET: u32 = 64;
-
 /// How long nothing is accepted after the system has refused to, in milliseconds.
 const PAUSE_MILLISECONDS: u64 = 50;
 
@@ -168,6 +165,10 @@ pub struct Door<'a, R, W: Welcome> {
     pub tasks: &'a TaskSet<W::Guest>,
     pub timers: Handle,
     pub pause: Option<Sleep>,
+    /// How many times in a row nothing was accepted.
+    pub failures: u32,
+    /// How often that may be. Without a number it goes on for ever.
+    pub patience: Option<u32>,
     pub enough: Option<AcquireOwned>,
 }
 
@@ -187,14 +188,21 @@ impl<R: Wait + Clock, W: Welcome> Door<'_, R, W> {
         }
     }
 
-    /// Tells a fault of the system, and accepts nothing for a while.
-    fn complain(&mut self, error: io::Error)
+    /// Tells a fault of the system, and accepts nothing for a while. It comes back where it is one too many.
+    fn complain(&mut self, error: io::Error) -> Option<io::Error>
         ensures enough { self.new.enough ≡ self.old.enough }
     {
         let line = format!(in self.alloc; "sqs_server: accept: {error}");
         self.notices.tell(&self.rt, line);
+        self.failures = self.failures.saturating_add(1);
+        if let Some(most) = self.patience {
+            if most < self.failures {
+                return Some(error);
+            }
+        }
         let pause = Duration::from_millis(PAUSE_MILLISECONDS);
         self.pause = self.timers.sleep(&self.rt, pause).ok();
+        None
     }
 
     /// Whether nothing is to be accepted yet.
@@ -239,14 +247,19 @@ impl<R: Wait + Clock + Drop, W: Welcome> Future for Door<'_, R, W> {
         if let Poll::Ready(ended) = self.is_enough(cx) {
             return Poll::Ready(ended);
         }
-        for _ in 0..BUDGET {
-            if self.is_pausing(cx) {
-                return Poll::Pending;
+        if self.is_pausing(cx) {
+            return Poll::Pending;
+        }
+        match self.listener.poll_accept(cx) {
+            Poll::Pending => return Poll::Pending,
+            Poll::Ready(Ok((socket, _))) => {
+                self.failures = 0;
+                self.receive(socket);
             }
-            match self.listener.poll_accept(cx) {
-                Poll::Pending => return Poll::Pending,
-                Poll::Ready(Ok((socket, _))) => self.receive(socket),
-                Poll::Ready(Err(error)) => self.complain(error),
+            Poll::Ready(Err(error)) => {
+                if let Some(error) = self.complain(error) {
+                    return Poll::Ready(Err(error));
+                }
             }
         }
         cx.yield_now()

@@ -42,6 +42,15 @@ use std::alloc::Global;
 use std::sync::{Arc, Wait};
 use std::time::Clock;
 
+/// What all connections share: the queues, where more of them are ordered, the time of day, and what is told of requests.
+#[derive(Drop)]
+pub struct Hall<R: Wait + Drop> {
+    pub queues: Arc<Queues<R>>,
+    pub orders: Sender<Order>,
+    pub day: Arc<Day>,
+    pub register: Arc<Register>,
+}
+
 /// Answers the requests of one connection.
 #[derive(Drop)]
 pub struct Front<R: Wait + Drop> {
@@ -49,10 +58,7 @@ pub struct Front<R: Wait + Drop> {
     pub alloc: Global,
     /// The port at which requests are answered, which the URLs of queues have.
     pub port: u16,
-    pub queues: Arc<Queues<R>>,
-    pub orders: Sender<Order>,
-    pub day: Arc<Day>,
-    pub register: Arc<Register>,
+    pub hall: Arc<Hall<R>>,
 }
 
 impl<R: Wait + Copy + Drop> Front<R> {
@@ -65,10 +71,7 @@ impl<R: Wait + Copy + Drop> Front<R> {
             rt: self.rt,
             alloc: self.alloc,
             port: self.port,
-            queues: Arc::try_clone(&self.queues)?,
-            orders: self.orders.clone()?,
-            day: Arc::try_clone(&self.day)?,
-            register: Arc::try_clone(&self.register)?,
+            hall: Arc::try_clone(&self.hall)?,
         })
     }
 }
@@ -171,7 +174,7 @@ impl<R: Wait + Clock + Drop> Front<R> {
         ensures found { IfOk result (λ queue. queue.pass.start.name ≡ name.now) }
         ensures errors { IfErr result IsLost }
     {
-        match self.queues.find(&self.rt, name) {
+        match self.hall.queues.find(&self.rt, name) {
             Ok(Some(queue)) => Ok(Queue::of(queue)),
             Ok(None) => Err(refused(Fault::QueueDoesNotExist)),
             Err(fault) => Err(refused(fault)),
@@ -214,7 +217,7 @@ impl<R: Wait + Clock + Drop> Front<R> {
         if name == *own {
             return Err(Fault::InvalidAttributeValue);
         }
-        match self.queues.uid_of(&self.rt, &name) {
+        match self.hall.queues.uid_of(&self.rt, &name) {
             Some(uid) => Ok(uid),
             None => Err(Fault::InvalidAttributeValue),
         }
@@ -224,7 +227,7 @@ impl<R: Wait + Clock + Drop> Front<R> {
     fn url(&self, name: QueueName) -> Result<ReplyShape, Fault>
         ensures { (result ≡ Ok (shapes.QueueUrl name)) ⊎ (result ≡ Err QueueDoesNotExist) }
     {
-        match self.queues.uid_of(&self.rt, &name) {
+        match self.hall.queues.uid_of(&self.rt, &name) {
             Some(_) => Ok(ReplyShape::QueueUrl(name)),
             None => Err(Fault::QueueDoesNotExist),
         }
@@ -235,7 +238,10 @@ impl<R: Wait + Clock + Drop> Front<R> {
         ensures ok { IfOk result (λ shape. (listed : Directory) × IsDirectory listed × (shape ≡ shapes.QueueUrls (names_listed listed prefix.now))) }
         ensures errors { IfErr result (λ fault. fault ≡ OutOfMemory) }
     {
-        let names = self.queues.list(&self.rt, self.alloc, prefix.as_text())?;
+        let names = self
+            .hall
+            .queues
+            .list(&self.rt, self.alloc, prefix.as_text())?;
         Ok(ReplyShape::QueueUrls(QueueNames::new(names)))
     }
 
@@ -244,10 +250,10 @@ impl<R: Wait + Clock + Drop> Front<R> {
         ensures ok { IfOk result (λ shape. (names : _) × (shape ≡ shapes.SourceQueueUrls names)) }
         ensures errors { IfErr result IsMissed }
     {
-        let Some(uid) = self.queues.uid_of(&self.rt, name) else {
+        let Some(uid) = self.hall.queues.uid_of(&self.rt, name) else {
             return Err(Fault::QueueDoesNotExist);
         };
-        let names = self.queues.sources(&self.rt, self.alloc, uid)?;
+        let names = self.hall.queues.sources(&self.rt, self.alloc, uid)?;
         Ok(ReplyShape::SourceQueueUrls(QueueNames::new(names)))
     }
 
@@ -458,7 +464,7 @@ impl<R: Wait + Clock + Drop> Front<R> {
         ensures { IsJudged self.now.port head.now bytes.now result }
     {
         match asked_of(self.alloc, target_of(head), bytes) {
-            Ok(request) => self.begin(request, self.day.moment(&self.rt)),
+            Ok(request) => self.begin(request, self.hall.day.moment(&self.rt)),
             Err(fault) => refuses(fault),
         }
     }
@@ -500,14 +506,14 @@ impl<R: Wait + Clock + Drop> Front<R> {
     fn order(&self, creation: Creation, target: u64) -> Next<R>
         ensures { Ordered creation target result }
     {
-        if is_full(self.orders.len()) {
+        if is_full(self.hall.orders.len()) {
             return Next::Ends(Ok(busy()));
         }
         let Ok((tells, made)) = oneshot::channel(self.alloc) else {
             return refuses(Fault::OutOfMemory);
         };
         let order = order_of(self.alloc, &creation, target, tells);
-        match self.orders.send(&self.rt, order) {
+        match self.hall.orders.send(&self.rt, order) {
             Ok(()) => Next::On(Stage::Making { creation, made }),
             Err(SendError::OutOfMemory(_)) => refuses(Fault::OutOfMemory),
             Err(SendError::Disconnected(_)) => refuses(Fault::ActorGone),
@@ -551,10 +557,10 @@ impl<R: Wait + Clock + Drop> Front<R> {
             Ok(target) => target,
             Err(fault) => return Ok(refuses(fault)),
         };
-        if self.queues.uid_of(&self.rt, &creation.name).is_none() {
+        if self.hall.queues.uid_of(&self.rt, &creation.name).is_none() {
             return Ok(self.order(creation, target));
         }
-        match self.queues.find(&self.rt, &creation.name) {
+        match self.hall.queues.find(&self.rt, &creation.name) {
             Ok(Some(queue)) if is_full(queue.mailbox.len()) => Ok(Next::Ends(Ok(busy()))),
             Ok(Some(queue)) => {
                 let purpose = Purpose::Existing(creation);
@@ -585,7 +591,7 @@ impl<R: Wait + Clock + Drop> Front<R> {
     fn ask_found(&self, uid: u64, at: Moment, command: Command, seconds: u64, then: Then) -> Next<R>
         ensures { AsksFound self.now.port uid at command seconds then result }
     {
-        let fault = match self.queues.find_uid(&self.rt, uid) {
+        let fault = match self.hall.queues.find_uid(&self.rt, uid) {
             Ok(Some(queue)) => {
                 return self.ask(Queue::of(queue), at, command, seconds, Purpose::Plan(then));
             }
@@ -767,7 +773,7 @@ impl<R: Wait + Clock + Drop> Front<R> {
     /// Notes how a request has ended. One whose connection failed gets no answer.
     pub(crate) fn note(&self, asked: Option<&Asked>, ended: &Result<Sent, hyper::Error>) {
         if let Ok(sent) = ended {
-            self.register.note(&self.rt, self.alloc, asked, sent);
+            self.hall.register.note(&self.rt, self.alloc, asked, sent);
         }
     }
 

@@ -44,9 +44,9 @@ use message::Fault;
 use notices::{Notices, start_telling};
 use register::Register;
 use request_log::Level;
-use serving::{Port, listen, refusal_of_system, serve};
+use serving::{Port, Ports, listen, refusal_of_system, serve};
 use startup::VERSION;
-use std::net::{Ipv4Addr, Net, SocketAddr};
+use std::net::{Ipv4Addr, Net, SocketAddr, TcpListener, TcpStream};
 use std::process::ExitCode;
 use std::random::RandomSource;
 use std::sync::Wait;
@@ -56,9 +56,6 @@ use std::{env, fs, thread};
 
 /// How many threads look after the connections of the port for requests, at the least. This project's own choice.
 const LEAST_WORKERS: usize = 2;
-
-/// How many look after those of the port for statistics.
-const STATISTICS_WORKERS: usize = 1;
 
 /// What `--help` tells.
 const HELP: &str = "\
@@ -89,7 +86,7 @@ where
     R: Wait
         + Threads
         + Clock
-        + Net
+        + Net<Listener = TcpListener, Stream = TcpStream>
         + RandomSource
         + AllocGlobal
         + Eprint
@@ -149,13 +146,12 @@ where
 }
 
 /// Opens a port for requests or for statistics.
-fn open<R>(rt: &R, purpose: &str, port: u16, workers: usize) -> Result<Port, Ending>
+fn open<R>(rt: &R, purpose: &str, port: u16) -> Result<Port, Ending>
 where
-    R: Clock + Net + RandomSource + AllocGlobal,
-    requires { 0 < workers }
+    R: Net<Listener = TcpListener, Stream = TcpStream> + AllocGlobal,
     ensures { IfErr result (λ ending. (ending.refusal ≡ OutOfMemory) ⊎ (ending.refusal ≡ Listen)) }
 {
-    match listen(rt, address_of(port), workers) {
+    match listen(rt, address_of(port)) {
         Ok(port) => Ok(port),
         Err(error) => Err(Ending {
             refusal: refusal_of_system(&error),
@@ -165,8 +161,9 @@ where
 }
 
 /// Says where the server is to be found.
-fn greet(host: &HostRuntime, requests: &Port, statistics: &Port, count: usize, path: &str) {
-    let (Ok(requests), Ok(statistics)) = (requests.address(), statistics.address()) else {
+fn greet(host: &HostRuntime, ports: &Ports, count: usize, path: &str) {
+    let (Ok(requests), Ok(statistics)) = (ports.requests.address(), ports.statistics.address())
+    else {
         return;
     };
     let (port, shown) = (requests.port(), statistics.port());
@@ -182,7 +179,7 @@ where
     R: Wait
         + Threads
         + Clock
-        + Net
+        + Net<Listener = TcpListener, Stream = TcpStream>
         + RandomSource
         + AllocGlobal
         + Eprint
@@ -195,25 +192,15 @@ where
     let path = arguments.path.as_str();
     let environment = environment(host)?;
     let config = configuration_in(host.alloc(), path, fs::read(host, path))?;
-    let requests = open(rt, "requests", environment.port, workers(rt))?;
-    let statistics = open(
-        rt,
-        "statistics",
-        environment.statistics_port,
-        STATISTICS_WORKERS,
-    )?;
+    let ports = Ports {
+        requests: open(rt, "requests", environment.port)?,
+        statistics: open(rt, "statistics", environment.statistics_port)?,
+        workers: workers(rt),
+    };
     let Ok(register) = register_of(rt, environment.level) else {
         return Err(Refusal::OutOfMemory.into());
     };
-    greet(host, &requests, &statistics, config.queues.len(), path);
-    serve(
-        rt,
-        host,
-        requests,
-        statistics,
-        &config,
-        register,
-        arguments.connections,
-    )?;
+    greet(host, &ports, config.queues.len(), path);
+    serve(rt, host, ports, &config, register, arguments.connections)?;
     Ok(())
 }

@@ -157,6 +157,12 @@ fn target_of(settings: &Settings) -> u64 {
     }
 }
 
+/// How often an actor that has ended looks whether it has its queue alone.
+const LINGERS: u64 = 1000;
+
+/// How long it waits in between, in milliseconds.
+const LINGER_MILLISECONDS: u64 = 10;
+
 /// An actor and what its thread works with.
 #[derive(Drop)]
 pub struct Serving<R: Wait + Drop> {
@@ -168,8 +174,8 @@ pub struct Serving<R: Wait + Drop> {
 }
 
 impl<R: Wait + Clock + Copy + Drop> Serving<R> {
-    /// Serves the queue until its mailbox ends. Who asked it last has let go of it a second later: so the memory of
-    /// what lies in it goes here, and holds up no request.
+    /// Serves the queue until its mailbox ends. Then it waits until who asked it last has let go of it: so the memory
+    /// of what lies in it goes here, and holds up no request.
     fn run(self) {
         let Serving {
             rt,
@@ -180,7 +186,12 @@ impl<R: Wait + Clock + Copy + Drop> Serving<R> {
         } = self;
         actor.run(&rt, alloc, &mut mails, &*queues, &NoGate);
         drop(mails);
-        thread::sleep(&rt, Duration::from_secs(1));
+        for _ in 0..LINGERS {
+            if Arc::strong_count(&actor.desk) <= 1 {
+                return;
+            }
+            thread::sleep(&rt, Duration::from_millis(LINGER_MILLISECONDS));
+        }
     }
 }
 
@@ -336,7 +347,7 @@ fn make_configured<R: Wait + Threads + Clock + Copy + Send + Drop + 'static>(
     Ok(())
 }
 
-/// Starts the thread that tells all actors the time.
+/// Starts the thread that tells the queues the time.
 fn start_clock<R: Wait + Threads + Clock + Copy + Send + Drop + 'static>(
     rt: &R,
     alloc: Global,

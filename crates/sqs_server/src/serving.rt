@@ -1,6 +1,6 @@
 //! What serves the connections of the ports: the runtimes, the queues and the doors.
 
-ghost use Rattle.std.specs.Prelude.{◌≡◌, ◌<◌, ◌⊎◌, IfErr, IfOk, IfSome};
+ghost use Rattle.std.specs.Prelude.{◌≡◌, ◌⊎◌, IfErr, IfOk, IfSome};
 ghost use Rattle.std.specs.IoError.{error_kind};
 ghost use Rattle.tokio.specs.Locks.{CanAcquire};
 ghost use Rattle.sqs_server.specs.Program.{refusal_of_system};
@@ -8,7 +8,7 @@ ghost use Rattle.sqs_server.specs.declared.arguments.Refusal.TheVariants.{Listen
 
 use crate::arguments::Refusal;
 use crate::door::{Door, Exhibition, Reception, Welcome};
-use crate::front::Front;
+use crate::front::{Front, Hall};
 use crate::notices::Notices;
 use crate::queues::{Opened, Queues, open_all};
 use crate::register::Register;
@@ -17,14 +17,14 @@ use hyper::rt::TokioTimer;
 use hyper::server::conn::http1::Builder;
 use queue_config::Config;
 use std::hash::RandomState;
-use std::net::{Net, SocketAddr};
+use std::net::{self, Net, SocketAddr};
 use std::random::RandomSource;
 use std::sync::{Arc, Wait};
 use std::thread::Threads;
 use std::time::{Clock, Duration};
 use std::{io, thread};
 use tokio::net::TcpListener;
-use tokio::runtime::Runtime;
+use tokio::runtime::LocalRuntime;
 use tokio::sync::{AcquireOwned, Semaphore};
 
 /// Why nothing can be served: memory ran out, or the system refused.
@@ -37,22 +37,19 @@ pub(crate) fn refusal_of_system(error: &io::Error) -> Refusal
     }
 }
 
-/// A port that is open, and the runtime that looks after its connections.
+/// A port that is open.
 #[derive(Drop)]
 pub struct Port {
-    runtime: Runtime,
-    listener: TcpListener,
+    listener: net::TcpListener,
 }
 
-/// Opens a port, whose connections so many threads look after.
-pub(crate) fn listen<R>(rt: &R, address: SocketAddr, workers: usize) -> io::Result<Port>
+/// Opens a port.
+pub(crate) fn listen<R>(rt: &R, address: SocketAddr) -> io::Result<Port>
 where
-    R: Clock + Net + RandomSource + AllocGlobal,
-    requires { 0 < workers }
+    R: Net<Listener = net::TcpListener, Stream = net::TcpStream>,
 {
-    let runtime = Runtime::with_worker_threads(rt, workers)?;
-    let listener = TcpListener::bind(rt, address, runtime.handle().reactor())?;
-    Ok(Port { runtime, listener })
+    let listener = net::TcpListener::bind(rt, address)?;
+    Ok(Port { listener })
 }
 
 impl Port {
@@ -60,21 +57,33 @@ impl Port {
     pub(crate) fn address(&self) -> io::Result<SocketAddr> {
         self.listener.local_addr()
     }
+
+    /// The same for another thread.
+    fn again(&self) -> io::Result<Port> {
+        let listener = self.listener.try_clone()?;
+        Ok(Port { listener })
+    }
+
+    /// Where its connections come from, for the thread of a runtime.
+    fn entrance(&self, runtime: &LocalRuntime) -> io::Result<TcpListener> {
+        TcpListener::from_std(self.listener.try_clone()?, runtime.handle().reactor())
+    }
 }
 
-/// Lets connections in until enough have closed. Those that are open then are let go.
+/// Lets connections in until enough have closed, or until nothing could be accepted more often in a row than is
+/// said. Those that are open then are let go.
 fn keep_door<R, W>(
     rt: &R,
-    runtime: &mut Runtime,
+    runtime: &mut LocalRuntime,
     listener: TcpListener,
     welcome: W,
     notices: Notices,
+    patience: Option<u32>,
     counted: (Arc<Semaphore>, Option<AcquireOwned>),
 ) -> io::Result<()>
 where
-    R: Wait + Threads + Clock + RandomSource + AllocGlobal + Copy + Sync + Drop,
+    R: Wait + Clock + RandomSource + AllocGlobal + Copy + Drop,
     W: Welcome,
-    W::Guest: Send,
     requires { IfSome counted.1 CanAcquire }
 {
     let (closed, enough) = counted;
@@ -90,6 +99,8 @@ where
         tasks: &tasks,
         timers,
         pause: None,
+        failures: 0,
+        patience,
         enough,
     };
     runtime.set_shutdown_timeout(Some(Duration::from_millis(0)));
@@ -108,41 +119,96 @@ fn closings(closed: &Arc<Semaphore>, connections: Option<u64>) -> io::Result<Opt
     Ok(Some(Semaphore::acquire_many_owned(closed, count)))
 }
 
+/// How often in a row nothing may be accepted at the port for statistics, until it counts as failed.
+const PATIENCE: u32 = 10;
+
+/// How long a port that failed stays closed, in seconds.
+const REOPENING: u64 = 1;
+
 /// What the thread works with that serves the statistics.
 #[derive(Drop)]
 struct Showing<R: Wait + Drop> {
     rt: R,
-    port: Port,
-    welcome: Exhibition<R>,
-    notices: Notices,
+    queues: Arc<Queues<R>>,
+    register: Arc<Register>,
     closed: Arc<Semaphore>,
+    notices: Notices,
 }
 
 impl<R> Showing<R>
 where
-    R: Wait + Threads + Clock + RandomSource + AllocGlobal + Copy + Send + Sync + Drop + 'static,
+    R: Wait
+        + Threads
+        + Clock
+        + Net<Listener = net::TcpListener, Stream = net::TcpStream>
+        + RandomSource
+        + AllocGlobal
+        + Copy
+        + Send
+        + Sync
+        + Drop
+        + 'static,
 {
-    /// Lets connections in for as long as the program goes.
-    fn run(self) {
-        let Showing {
+    /// What has the statistics of a socket told, by the timers of a runtime.
+    fn exhibition(&self, runtime: &LocalRuntime) -> io::Result<Exhibition<R>> {
+        let (rt, alloc) = (self.rt, self.rt.alloc());
+        let timer = TokioTimer::new(rt, runtime.handle().time().clone()?);
+        let Ok(notices) = self.notices.again() else {
+            return Err(io::ErrorKind::OutOfMemory.into());
+        };
+        Ok(Exhibition {
             rt,
-            port,
-            welcome,
+            alloc,
+            http: Builder::new(alloc, RandomState::new(&rt)?).timer(timer),
+            front: StatisticsFront {
+                rt,
+                alloc,
+                queues: Arc::try_clone(&self.queues)?,
+                register: Arc::try_clone(&self.register)?,
+            },
             notices,
-            closed,
-        } = self;
-        let Port {
-            mut runtime,
-            listener,
-        } = port;
-        let _ended = keep_door(
-            &rt,
+            closed: Arc::try_clone(&self.closed)?,
+        })
+    }
+
+    /// Lets connections in at a port, until it fails.
+    fn show_at(&self, port: Port) -> io::Result<()> {
+        let mut runtime = LocalRuntime::new(&self.rt)?;
+        let entrance = port.entrance(&runtime)?;
+        let welcome = self.exhibition(&runtime)?;
+        let Ok(notices) = self.notices.again() else {
+            return Err(io::ErrorKind::OutOfMemory.into());
+        };
+        let closed = Arc::try_clone(&self.closed)?;
+        keep_door(
+            &self.rt,
             &mut runtime,
-            listener,
+            entrance,
             welcome,
             notices,
+            Some(PATIENCE),
             (closed, None),
-        );
+        )
+    }
+
+    /// The same, and opens it where it is closed.
+    fn show_again(&self, address: SocketAddr, port: Option<Port>) -> io::Result<()> {
+        match port {
+            Some(port) => self.show_at(port),
+            None => self.show_at(listen(&self.rt, address)?),
+        }
+    }
+
+    /// Lets connections in at an address for as long as the program goes. A port that fails is told, and opened again.
+    fn run(self, address: SocketAddr, port: Port) {
+        let mut port = Some(port);
+        for _ in self.rt.forever() {
+            if let Err(error) = self.show_again(address, port.take()) {
+                let line = format!(in self.rt.alloc(); "sqs_server: statistics: {error}");
+                self.notices.tell(&self.rt, line);
+            }
+            thread::sleep(&self.rt, Duration::from_secs(REOPENING));
+        }
     }
 }
 
@@ -155,103 +221,172 @@ fn show<R>(
     closed: &Arc<Semaphore>,
 ) -> io::Result<()>
 where
-    R: Wait + Threads + Clock + RandomSource + AllocGlobal + Copy + Send + Sync + Drop + 'static,
+    R: Wait
+        + Threads
+        + Clock
+        + Net<Listener = net::TcpListener, Stream = net::TcpStream>
+        + RandomSource
+        + AllocGlobal
+        + Copy
+        + Send
+        + Sync
+        + Drop
+        + 'static,
 {
-    let alloc = rt.alloc();
-    let timer = TokioTimer::new(*rt, port.runtime.handle().time().clone()?);
-    let (Ok(notices), Ok(own_notices)) = (register.notices(), register.notices()) else {
-        return Err(io::ErrorKind::OutOfMemory.into());
-    };
-    let welcome = Exhibition {
-        rt: *rt,
-        alloc,
-        http: Builder::new(alloc, RandomState::new(rt)?).timer(timer),
-        front: StatisticsFront {
-            rt: *rt,
-            alloc,
-            queues: Arc::try_clone(queues)?,
-            register: Arc::try_clone(register)?,
-        },
-        notices: own_notices,
-        closed: Arc::try_clone(closed)?,
-    };
-    let showing = Showing {
-        rt: *rt,
-        port,
-        welcome,
-        notices,
-        closed: Arc::try_clone(closed)?,
-    };
-    let _thread = thread::spawn(rt, move || showing.run())?;
-    Ok(())
-}
-
-/// What has the requests of a socket answered by these queues.
-fn reception<R>(
-    rt: &R,
-    requests: &Port,
-    opened: Opened<R>,
-    register: &Arc<Register>,
-    closed: &Arc<Semaphore>,
-) -> io::Result<Reception<R>>
-where
-    R: Wait + Clock + RandomSource + AllocGlobal + Copy + Send + Drop + 'static,
-{
-    let alloc = rt.alloc();
-    let timer = TokioTimer::new(*rt, requests.runtime.handle().time().clone()?);
-    let port = requests.address()?.port();
     let Ok(notices) = register.notices() else {
         return Err(io::ErrorKind::OutOfMemory.into());
     };
-    let front = Front {
+    let address = port.address()?;
+    let showing = Showing {
         rt: *rt,
-        alloc,
-        port,
-        queues: opened.queues,
-        orders: opened.orders,
-        day: opened.day,
+        queues: Arc::try_clone(queues)?,
         register: Arc::try_clone(register)?,
-    };
-    Ok(Reception {
-        rt: *rt,
-        alloc,
-        http: Builder::new(alloc, RandomState::new(rt)?).timer(timer),
-        front,
-        notices,
         closed: Arc::try_clone(closed)?,
-    })
+        notices,
+    };
+    let _thread = thread::spawn(rt, move || showing.run(address, port))?;
+    Ok(())
 }
 
-/// Lets connections in at the port for requests until enough have closed.
-fn receive<R>(
-    rt: &R,
-    requests: Port,
-    welcome: Reception<R>,
+/// What a thread works with that serves requests.
+#[derive(Drop)]
+struct Working<R: Wait + Drop> {
+    rt: R,
+    port: Port,
+    front: Front<R>,
+    closed: Arc<Semaphore>,
+    /// How many connections are to close until it ends.
+    connections: Option<u64>,
     notices: Notices,
-    counted: (Arc<Semaphore>, Option<AcquireOwned>),
-) -> io::Result<()>
+}
+
+impl<R> Working<R>
 where
-    R: Wait + Threads + Clock + RandomSource + AllocGlobal + Copy + Send + Sync + Drop + 'static,
-    requires { IfSome counted.1 CanAcquire }
+    R: Wait
+        + Clock
+        + Net<Listener = net::TcpListener, Stream = net::TcpStream>
+        + RandomSource
+        + AllocGlobal
+        + Copy
+        + Send
+        + Drop
+        + 'static,
 {
-    let Port {
-        mut runtime,
-        listener,
-    } = requests;
-    keep_door(rt, &mut runtime, listener, welcome, notices, counted)
+    /// The same for another thread.
+    fn again(&self) -> io::Result<Working<R>> {
+        let (Ok(front), Ok(notices)) = (self.front.again(), self.notices.again()) else {
+            return Err(io::ErrorKind::OutOfMemory.into());
+        };
+        Ok(Working {
+            rt: self.rt,
+            port: self.port.again()?,
+            front,
+            closed: Arc::try_clone(&self.closed)?,
+            connections: self.connections,
+            notices,
+        })
+    }
+
+    /// What has the requests of a socket answered, by the timers of a runtime.
+    fn reception(&self, runtime: &LocalRuntime) -> io::Result<Reception<R>> {
+        let (rt, alloc) = (self.rt, self.rt.alloc());
+        let timer = TokioTimer::new(rt, runtime.handle().time().clone()?);
+        let (Ok(front), Ok(notices)) = (self.front.again(), self.notices.again()) else {
+            return Err(io::ErrorKind::OutOfMemory.into());
+        };
+        Ok(Reception {
+            rt,
+            alloc,
+            http: Builder::new(alloc, RandomState::new(&rt)?).timer(timer),
+            front,
+            notices,
+            closed: Arc::try_clone(&self.closed)?,
+        })
+    }
+
+    /// Lets connections in until enough have closed.
+    fn receive(&self) -> io::Result<()> {
+        let mut runtime = LocalRuntime::new(&self.rt)?;
+        let entrance = self.port.entrance(&runtime)?;
+        let welcome = self.reception(&runtime)?;
+        let Ok(notices) = self.notices.again() else {
+            return Err(io::ErrorKind::OutOfMemory.into());
+        };
+        let closed = Arc::try_clone(&self.closed)?;
+        let enough = closings(&self.closed, self.connections)?;
+        keep_door(
+            &self.rt,
+            &mut runtime,
+            entrance,
+            welcome,
+            notices,
+            None,
+            (closed, enough),
+        )
+    }
+
+    /// The same in a thread of its own. Where the system ends it, that is told, and it begins anew.
+    fn run(self) {
+        for _ in self.rt.forever() {
+            let Err(error) = self.receive() else {
+                return;
+            };
+            let line = format!(in self.rt.alloc(); "sqs_server: requests: {error}");
+            self.notices.tell(&self.rt, line);
+            thread::sleep(&self.rt, Duration::from_secs(REOPENING));
+        }
+    }
+}
+
+/// Starts so many threads that serve requests beside the one that calls.
+fn employ<R>(rt: &R, working: &Working<R>, count: usize) -> io::Result<()>
+where
+    R: Wait
+        + Threads
+        + Clock
+        + Net<Listener = net::TcpListener, Stream = net::TcpStream>
+        + RandomSource
+        + AllocGlobal
+        + Copy
+        + Send
+        + Drop
+        + 'static,
+{
+    for _ in 0..count {
+        let other = working.again()?;
+        let _thread = thread::spawn(rt, move || other.run())?;
+    }
+    Ok(())
+}
+
+/// The ports that are open, and how many threads look after the connections of the one for requests.
+#[derive(Drop)]
+pub struct Ports {
+    pub requests: Port,
+    pub statistics: Port,
+    pub workers: usize,
 }
 
 /// Lets connections in that are answered over HTTP/1.1, at both ports.
 fn let_in<R>(
     rt: &R,
-    requests: Port,
-    statistics: Port,
+    ports: Ports,
     opened: Opened<R>,
     register: Register,
     connections: Option<u64>,
 ) -> io::Result<()>
 where
-    R: Wait + Threads + Clock + RandomSource + AllocGlobal + Copy + Send + Sync + Drop + 'static,
+    R: Wait
+        + Threads
+        + Clock
+        + Net<Listener = net::TcpListener, Stream = net::TcpStream>
+        + RandomSource
+        + AllocGlobal
+        + Copy
+        + Send
+        + Sync
+        + Drop
+        + 'static,
 {
     let alloc = rt.alloc();
     let Ok(notices) = register.notices() else {
@@ -259,10 +394,29 @@ where
     };
     let register = Arc::new(alloc, register)?;
     let closed = Arc::new(alloc, Semaphore::new(alloc, 0)?)?;
-    let enough = closings(&closed, connections)?;
-    show(rt, statistics, &opened.queues, &register, &closed)?;
-    let welcome = reception(rt, &requests, opened, &register, &closed)?;
-    receive(rt, requests, welcome, notices, (closed, enough))
+    show(rt, ports.statistics, &opened.queues, &register, &closed)?;
+    let hall = Hall {
+        queues: opened.queues,
+        orders: opened.orders,
+        day: opened.day,
+        register,
+    };
+    let front = Front {
+        rt: *rt,
+        alloc,
+        port: ports.requests.address()?.port(),
+        hall: Arc::new(alloc, hall)?,
+    };
+    let working = Working {
+        rt: *rt,
+        port: ports.requests,
+        front,
+        closed,
+        connections,
+        notices,
+    };
+    employ(rt, &working, ports.workers.saturating_sub(1))?;
+    working.receive()
 }
 
 /// Serves the queues of a configuration at two open ports, the one for requests and the one for statistics, until as
@@ -270,8 +424,7 @@ where
 pub(crate) fn serve<R>(
     rt: &R,
     host: &HostRuntime,
-    requests: Port,
-    statistics: Port,
+    ports: Ports,
     config: &Config,
     register: Register,
     connections: Option<u64>,
@@ -280,6 +433,7 @@ where
     R: Wait
         + Threads
         + Clock
+        + Net<Listener = net::TcpListener, Stream = net::TcpStream>
         + RandomSource
         + AllocGlobal
         + Eprint
@@ -293,7 +447,7 @@ where
     let Ok(opened) = open_all(rt, host, rt.alloc(), config) else {
         return Err(Refusal::OutOfMemory);
     };
-    match let_in(rt, requests, statistics, opened, register, connections) {
+    match let_in(rt, ports, opened, register, connections) {
         Ok(()) => Ok(()),
         Err(error) => Err(refusal_of_system(&error)),
     }

@@ -7,14 +7,14 @@ use crate::arguments::{Refusal, configuration_in};
 use crate::notices::Notices;
 use crate::queues::is_full;
 use crate::register::Register;
-use crate::serving::{listen, refusal_of_system, serve};
+use crate::serving::{Ports, listen, refusal_of_system, serve};
 use crossbeam_channel::{Receiver, unbounded};
 use desk::NoPress;
 use queue_actor::Mail;
 use request_log::Level;
 use std::alloc::{AllocError, Global};
 use std::io::{ErrorKind, Read, Write};
-use std::net::{Ipv4Addr, Net, SocketAddr, TcpStream};
+use std::net::{Ipv4Addr, Net, SocketAddr, TcpListener, TcpStream};
 use std::process::Abort;
 use std::random::RandomSource;
 use std::sync::Wait;
@@ -42,7 +42,7 @@ where
     R: Wait
         + Threads
         + Clock
-        + Net
+        + Net<Listener = TcpListener, Stream = TcpStream>
         + RandomSource
         + AllocGlobal
         + Eprint
@@ -58,23 +58,18 @@ where
         "config.toml",
         Ok(Vec::from_slice(alloc, text.as_bytes())?),
     )?;
-    let requests = listen(rt, SocketAddr::from((Ipv4Addr::LOCALHOST, 0)), 2)?;
-    let shown = listen(rt, SocketAddr::from((Ipv4Addr::LOCALHOST, 0)), 1)?;
-    let (address, statistics) = (requests.address()?, shown.address()?);
+    let ports = Ports {
+        requests: listen(rt, SocketAddr::from((Ipv4Addr::LOCALHOST, 0)))?,
+        statistics: listen(rt, SocketAddr::from((Ipv4Addr::LOCALHOST, 0)))?,
+        workers: 2,
+    };
+    let (address, statistics) = (ports.requests.address()?, ports.statistics.address()?);
     let (ends, ended) = unbounded::<bool, Global>(alloc)?;
     let (notices, lines) = Notices::new(alloc)?;
     let register = Register::new(rt, alloc, Level::Refused, notices)?;
     let (own, host) = (*rt, *host);
     let _server = thread::spawn(rt, move || {
-        let outcome = serve(
-            &own,
-            &host,
-            requests,
-            shown,
-            &config,
-            register,
-            Some(connections),
-        );
+        let outcome = serve(&own, &host, ports, &config, register, Some(connections));
         let _ = ends.send(&own, outcome.is_ok());
     })?;
     Ok(Started {

@@ -633,8 +633,8 @@ fn closed_connections_are_counted(rt: HostRuntime) -> Result<(), Fail> {
 /// A port that is taken cannot be opened.
 #[test]
 fn taken_port_is_refused(rt: HostRuntime) -> Result<(), Fail> {
-    let first = listen(&rt, SocketAddr::from((Ipv4Addr::LOCALHOST, 0)), 1)?;
-    let Err(refused) = listen(&rt, first.address()?, 1) else {
+    let first = listen(&rt, SocketAddr::from((Ipv4Addr::LOCALHOST, 0)))?;
+    let Err(refused) = listen(&rt, first.address()?) else {
         return Err(Fail::from("a port that is taken"));
     };
     assert_eq!(rt; refusal_of_system(&refused), Refusal::Listen);
