@@ -316,8 +316,13 @@ impl House {
         None
     }
 
-    /// Does a command in the queue of a uid, unless it is refused before.
-    pub(crate) fn perform_in(
+    /// Does a command in the queue of a uid. Where no queue has the uid it is `QueueDoesNotExist`. The
+    /// commands that the registry itself gives, a close ([`delete_queue`](House::delete_queue)) and
+    /// those of dead letters ([`move_one`](House::move_one)), are `UnsupportedOperation`. A `Set` whose
+    /// dead-letter queue is not there under the uid that is given, or is the queue itself, is
+    /// `InvalidAttributeValue`. Each of these changes nothing, and needs no memory. With `OutOfMemory`
+    /// only that queue's clock has moved, and after `FirstParcel`, which leaves it, not even that.
+    pub fn step(
         &mut self,
         alloc: Global,
         uid: u64,
@@ -335,29 +340,6 @@ impl House {
             Some(fault) => Err(fault),
             None => self.command_in(alloc, uid, at, command, ticks),
         }
-    }
-
-    /// Does a command in the queue of a uid. Where no queue has the uid it is `QueueDoesNotExist`. The
-    /// commands that the registry itself gives, a close ([`delete_queue`](House::delete_queue)) and
-    /// those of dead letters ([`move_one`](House::move_one)), are `UnsupportedOperation`. A `Set` whose
-    /// dead-letter queue is not there under the uid that is given, or is the queue itself, is
-    /// `InvalidAttributeValue`. Each of these changes nothing, and needs no memory. With `OutOfMemory`
-    /// only that queue's clock has moved, and after `FirstParcel`, which leaves it, not even that.
-    pub fn step(
-        &mut self,
-        alloc: Global,
-        uid: u64,
-        at: Moment,
-        command: Command,
-        ticks: &mut Ticks,
-    ) -> Result<Reply, Fault>
-        ensures answer { Meets result (step_answer self.old uid at command) }
-        ensures absent { queue_of_uid self.old uid ≡ None → result ≡ Err Fault.QueueDoesNotExist }
-        ensures refused { IfSome (step_refusal self.old uid command) (λ fault. result ≡ Err fault) }
-        ensures exact { takes_memory_at self.old uid at command ≡ false → result ≡ step_answer self.old uid at command }
-        ensures state { self.new ≡ world_after_step self.old uid at command result }
-    {
-        self.perform_in(alloc, uid, at, &command, ticks)
     }
 
     /// Closes the queue of a uid, takes it out and hands it over; its name is free. Its journal has

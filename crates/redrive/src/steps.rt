@@ -114,7 +114,7 @@ impl House {
                 Ok(HouseReply::Deleted(self.take_queue(alloc, *uid, *at, ticks)?))
             }
             HouseStep::Perform { at, uid, command } => {
-                Ok(HouseReply::Performed(self.perform_in(alloc, *uid, *at, command, ticks)?))
+                Ok(HouseReply::Performed(self.step(alloc, *uid, *at, command, ticks)?))
             }
             HouseStep::HandOver { at, source } => {
                 Ok(HouseReply::HandedOver(self.hand_over(alloc, *source, *at, ticks)?))

@@ -208,7 +208,7 @@ impl Talk {
                 Ok(HouseReply::Deleted(house.take_queue(alloc, uid, at, ticks)?))
             }
             HouseStep::Perform { at, uid, command } => {
-                Ok(HouseReply::Performed(house.step(alloc, uid, at, command, ticks)?))
+                Ok(HouseReply::Performed(house.step(alloc, uid, at, &command, ticks)?))
             }
             HouseStep::HandOver { at, source } => {
                 Ok(HouseReply::HandedOver(Ok(house.arrive_one(alloc, source, at, ticks)?)))
