@@ -64,7 +64,9 @@ impl<P: Press> Desk<P> {
         ensures ok { IfOk result (λ r. r.1 ≡ first_knowledge r.0 state (P.place press)) }
         ensures errors { IfErr result (λ fault. fault ≡ OutOfMemory) }
     {
-        let held = Held::new(state, press, Ticks::new(rt));
+        let Ok(held) = Held::new(alloc, state, press, Ticks::new(rt)) else {
+            return Err(Fault::OutOfMemory);
+        };
         let start = Snapshot::of(&held);
         let Ok(mut slots) = Vec::with_capacity(alloc, 1) else {
             return Err(Fault::OutOfMemory);

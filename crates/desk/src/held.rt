@@ -1,6 +1,6 @@
 //! What lies on a desk.
 
-ghost use Rattle.std.specs.Prelude.{◌≡◌, [], IfSome};
+ghost use Rattle.std.specs.Prelude.{◌≡◌, [], IfOk, IfSome};
 
 use crate::kept_rows::MinuteRows;
 use crate::made::Made;
@@ -9,7 +9,7 @@ use crate::turn::Turn;
 use journal::{Moment, Ticks};
 use message::Fault;
 use queue_core::{Command, QueueState, Reply};
-use std::alloc::Global;
+use std::alloc::{AllocError, Global};
 use std::marker::Model;
 use std::snapshot::Snapshot;
 use std::sync::Wait;
@@ -18,7 +18,8 @@ use std::sync::Wait;
 /// the call that was made last. Contracts see the queue, that call, and the place of the press.
 #[derive(Drop)]
 pub(crate) struct Held<P: Press> {
-    pub(crate) state: QueueState,
+    /// In a place of its own, so that a turn moves no more than where it lies.
+    state: Box<QueueState>,
     press: P,
     /// How many marks of the queue's journal were printed.
     told: usize,
@@ -36,9 +37,9 @@ impl<P: Press> Model for Held<P> {
 
     ghost Value = { Lying };
 
-    ghost view = { λ h. record { queue = h.state; made = h.made; place = P.place h.press } };
+    ghost view = { λ h. record { queue = h.state.value; made = h.made; place = P.place h.press } };
 
-    ghost invariant = { λ h. IsPrinted (P.stands h.press) h.state h.told × IfSome h.rows (λ k. AreRowsOf k h.state) };
+    ghost invariant = { λ h. IsPrinted (P.stands h.press) h.state.value h.told × IfSome h.rows (λ k. AreRowsOf k h.state.value) };
 }
 
 impl<P: Press> Held<P> {
@@ -47,18 +48,23 @@ impl<P: Press> Held<P> {
     ghost use Rattle.desk.specs.Printed.{IsToldOf};
 
     /// A queue to which no call was made yet.
-    pub(crate) fn new(state: QueueState, press: P, ticks: Ticks) -> Held<P>
+    pub(crate) fn new(
+        alloc: Global,
+        state: QueueState,
+        press: P,
+        ticks: Ticks,
+    ) -> Result<Held<P>, AllocError>
         requires { P.stands press [] }
-        ensures { result ≡ untouched state (P.place press) }
+        ensures { IfOk result (λ held. held ≡ untouched state (P.place press)) }
     {
-        Held {
-            state,
+        Ok(Held {
+            state: Box::new(alloc, state)?,
             press,
             told: 0,
             rows: None,
             ticks,
             made: None,
-        }
+        })
     }
 
     /// Performs a command, and keeps the call.
@@ -108,7 +114,7 @@ impl<P: Press> Held<P> {
     {
         let Ok(turn) = Turn::of(
             alloc,
-            &mut self.state,
+            &mut *self.state,
             self.told,
             &mut self.rows,
             &mut self.ticks,
@@ -125,6 +131,6 @@ impl<P: Press> Held<P> {
     pub(crate) fn into_state(self) -> QueueState
         ensures { result ≡ self.queue }
     {
-        self.state
+        Box::into_inner(self.state)
     }
 }
