@@ -1,6 +1,7 @@
 //! The clock that tells the queues the time.
 
-ghost use Rattle.std.specs.Prelude.{ℕ, IfSome};
+ghost use Rattle.std.specs.Prelude.{ℕ, ◌≡◌, IfSome};
+ghost use Rattle.queue_actor.specs.Ticking.{is_leap};
 
 use crate::directory::Directory;
 use crate::mail::Mail;
@@ -59,13 +60,18 @@ where
     ghost may_ring = { λ _ _. Unit {0} };
 
     fn ring<R: Wait>(&self, rt: &R, alloc: Global, at: Moment, is_leap: bool) {
-        let Ok((busy, quiet)) = self.all(rt, alloc) else {
+        let Ok(queues) = self.all(rt, alloc) else {
             return;
         };
-        for queue in busy {
-            queue.tell(rt, at);
+        for queue in &queues {
+            if !queue.is_quiet() {
+                queue.tell(rt, at);
+            }
         }
-        for queue in quiet {
+        for queue in queues {
+            if !queue.is_quiet() {
+                continue;
+            }
             if is_leap {
                 queue.tell(rt, at);
             } else {
@@ -75,11 +81,13 @@ where
     }
 }
 
-/// From how many milliseconds between two ticks on the time has leapt: the wall clock was put on, or the machine slept.
+/// Beyond how many milliseconds between two ticks the time has leapt: the wall clock was put on, or the machine slept.
 const LEAP: u64 = 1000;
 
 /// Whether the time has leapt since the tick before, where there was one.
-fn is_leap(last: Option<Moment>, at: Moment) -> bool {
+fn is_leap(last: Option<Moment>, at: Moment) -> bool
+    ensures { result ≡ is_leap last at }
+{
     match last {
         Some(last) => LEAP < at.milliseconds().saturating_sub(last.milliseconds()),
         None => false,

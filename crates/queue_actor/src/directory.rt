@@ -1,6 +1,6 @@
 //! The directory of the queues that are served: names, mailboxes and desks.
 
-ghost use Rattle.std.specs.Prelude.{◌≡◌, ◌⊎◌, ◌==◌, ◌+◌, [], ◌∷◌, ◌++◌, length, false, true, Result, Ok, Err, None, Some, IfSome, IfOk, IfErr, OnOk, OnErr};
+ghost use Rattle.std.specs.Prelude.{◌≡◌, ◌⊎◌, ◌==◌, ◌+◌, [], ◌∷◌, ◌++◌, map, false, true, Result, Ok, Err, None, Some, IfSome, IfOk, IfErr, OnOk, OnErr};
 ghost use Rattle.std.specs.Arc.{arc_value};
 ghost use Rattle.std.specs.List.{All, position};
 ghost use Rattle.std.specs.Str.{bytes_eq};
@@ -117,7 +117,7 @@ impl<P: Press, S: Drop> Served<P, S> {
     }
 
     /// Whether its actor has nothing to do as time goes by.
-    fn is_quiet(&self) -> bool {
+    pub(crate) fn is_quiet(&self) -> bool {
         self.duties.are_none()
     }
 
@@ -259,22 +259,16 @@ impl<P: Press, S: Drop> Entries<P, S> {
         (named, self.unserve(uid))
     }
 
-    /// All queues that are served once more: those whose actors have something to do as time goes by, and the
-    /// quiet ones. `OutOfMemory` is the only refusal.
-    fn all(&mut self, alloc: Global) -> Result<(Vec<Served<P, S>>, Vec<Served<P, S>>), Fault>
-        ensures all { IfOk result (λ parts. length parts.0.items + length parts.1.items ≡ length self.old.served.items) }
+    /// All queues that are served once more. `OutOfMemory` is the only refusal.
+    fn all(&mut self, alloc: Global) -> Result<Vec<Served<P, S>>, Fault>
+        ensures all { IfOk result (λ queues. map (λ queue. queue.uid) queues.items ≡ map (λ queue. queue.uid) self.old.served.items) }
         ensures errors { IfErr result (λ fault. fault ≡ OutOfMemory) }
     {
-        let (mut busy, mut quiet) = (Vec::new(alloc), Vec::new(alloc));
+        let mut queues = Vec::new(alloc);
         for place in 0..self.served.len() {
-            let queue = self.served[place].again()?;
-            if queue.is_quiet() {
-                quiet.push(queue)?;
-            } else {
-                busy.push(queue)?;
-            }
+            queues.push(self.served[place].again()?)?;
         }
-        Ok((busy, quiet))
+        Ok(queues)
     }
 }
 
@@ -438,13 +432,8 @@ impl<P: Press, S: Drop> Directory<P, S> {
         in_order(alloc, names)
     }
 
-    /// All queues that are served once more: those whose actors have something to do as time goes by, and the
-    /// quiet ones. `OutOfMemory` is the only refusal.
-    pub(crate) fn all<R: Wait>(
-        &self,
-        rt: &R,
-        alloc: Global,
-    ) -> Result<(Vec<Served<P, S>>, Vec<Served<P, S>>), Fault>
+    /// All queues that are served once more. `OutOfMemory` is the only refusal.
+    pub(crate) fn all<R: Wait>(&self, rt: &R, alloc: Global) -> Result<Vec<Served<P, S>>, Fault>
         ensures errors { IfErr result (λ fault. fault ≡ OutOfMemory) }
     {
         self.entries.lock(rt).all(alloc)

@@ -1,7 +1,9 @@
-use Rattle.std.specs.Prelude.{◌≡◌, ◌+◌, length}
+-- The queues so far are those of the first places, and those that are served stay the same ones.
+use Rattle.std.proofs.Common.{◌≡◌, map, take}
 use Rattle.queue_actor.proofs.directory.Entries.all.Given as goal
 
--- each queue that was passed lies in one of the two lists
 abbrev pub invariant-loop-place : goal.invariant-loop-place
-invariant-loop-place g l =
-    (length l.busy.items + length l.quiet.items ≡ l.place) × (length l.self.served.items ≡ length l.fn.self.served.items)
+invariant-loop-place g l = record {
+  uids : map (λ queue. queue.uid) l.queues.items ≡ take l.place (map (λ queue. queue.uid) l.fn.self.served.items);
+  same : map (λ queue. queue.uid) l.self.served.items ≡ map (λ queue. queue.uid) l.fn.self.served.items;
+}
