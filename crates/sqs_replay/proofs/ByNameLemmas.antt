@@ -1,6 +1,6 @@
 -- The statistics of all queues, by name: the same as those of the names that are listed.
-use Rattle.std.proofs.Common.{◌≡◌, ℕ, suc, zero, ◌+◌, ◌<◌, ◌≤◌, Bool, true, false, cond, List, [], ◌∷◌, ◌++◌, length, get_or, take, map, max, Option, Some, Result, Ok, Err, MatchBool, inl, inr, refl, sym, ap, subst, ◌∙◌, arith}
-use Rattle.std.specs.Prelude.{⊤, nat_eq, filter, fold}
+use Rattle.std.proofs.Common.{◌≡◌, ℕ, suc, zero, ◌+◌, ◌<◌, ◌≤◌, Bool, true, false, cond, List, [], ◌∷◌, ◌++◌, length, get_or, take, map, max, Option, Some, Result, Ok, Err, inl, inr, refl, sym, ap, subst, ◌∙◌, arith}
+use Rattle.std.specs.Prelude.{nat_eq, filter, fold}
 use Rattle.std.specs.Option.{option_map_or}
 use Rattle.std.specs.List.{find, starts_with, IsDistinct, AllByRecursion}
 use Rattle.std.specs.Str.{bytes_eq}
@@ -19,9 +19,8 @@ use Rattle.redrive.specs.Listing.{put_name, in_order}
 use Rattle.redrive.specs.World.{World, queue_named, queue_of_uid, names_in_world, with_queue_changed, world_at_moment, IsRegistry}
 use Rattle.sqs_replay.specs.Sheets.{sheets_of}
 use Rattle.sqs_replay.specs.Served.{sheet_served, named_sheet_served}
-use Rattle.sqs_replay.specs.Answers.{IsOneOf}
-use Rattle.sqs_replay.proofs.SheetLemmas.{look-left, look-failed, look-queue}
-use Rattle.sqs_replay.proofs.Stages.{memory_or_other}
+use Rattle.sqs_replay.proofs.SheetLemmas.{look-left, look-queue}
+use Rattle.sqs_replay.proofs.Memory.{memory_or_other, met}
 
 -- ---- names
 
@@ -134,7 +133,7 @@ module _ (w : World) (at : ℕ) where
   -- the statistics of its name are these, and nothing changes by looking
   pub record IsServed (s : Statistics) : Type 0 where
     pub answer : (named_sheet_served w at s.name).answer ≡ Ok s
-    pub stays : (x : World) → IsOneOf x (w ∷ (named_sheet_served w at s.name).stages) → x ≡ w
+    pub stays : (named_sheet_served w at s.name).world ≡ w
 
   module _ (all : AllByRecursion (IsAt at) w.queues) (q : QueueHistory) (still : at_moment q at ≡ q) (named : queue_named w q.name ≡ Some q) (here : queue_of_uid w q.uid ≡ Some q) where
     named-served : named_sheet_served w at q.name ≡ sheet_served w q.uid at
@@ -143,19 +142,13 @@ module _ (w : World) (at : ℕ) where
     looked-still : with_queue_changed w q.uid (λ x. at_moment x at) ≡ w
     looked-still = ap (λ (queues : List QueueHistory). record w { queues = queues }) (changed-still at q.uid w.queues all)
 
-    stays-at : (x : World) → IsOneOf x (w ∷ (sheet_served w q.uid at).stages) → x ≡ w
-    stays-at x (inl is) = is
-    stays-at x (inr (inl is)) = is ∙ look-failed w q.uid at q here ∙ looked-still
-    stays-at x (inr (inr (inl is))) = is ∙ look-left w q.uid at q here ∙ looked-still
-    stays-at x (inr (inr (inr none))) = absurd none
-
     served-sheet : IsServed (sheet_of q)
     served-sheet = record {
       answer =
           ap (λ s. s.answer) named-served
           ∙ ap (λ (o : Option QueueHistory). option_map_or (λ x. Ok (sheet_of x)) o (Err QueueDoesNotExist)) (look-queue w q.uid at q here)
           ∙ ap (λ (x : QueueHistory). Ok (sheet_of x)) still;
-      stays = λ x is. stays-at x (subst (λ s. IsOneOf x (w ∷ s.stages)) named-served is);
+      stays = ap (λ s. s.world) named-served ∙ look-left w q.uid at q here ∙ looked-still;
     }
 
   served-each : AllByRecursion (IsAt at) w.queues → (queues : List QueueHistory) → AllByRecursion (IsAt at) queues
@@ -182,8 +175,7 @@ only-memory {T} fault wanted x meets is =
     elim (memory_or_other {T = T} (Err fault)) [
       | inl memory ↦ cc
       | inr other ↦
-          let same : ◌≡◌ {A = Result T Fault} (Err fault) wanted = subst (λ (b : Bool). MatchBool b ⊤ (◌≡◌ {A = Result T Fault} (Err fault) wanted)) other meets in
-          absurd (let no : ◌≡◌ {A = Result T Fault} (Err fault) (Ok x) = same ∙ is in cc)
+          absurd (let no : ◌≡◌ {A = Result T Fault} (Err fault) (Ok x) = met (Err fault) wanted other meets ∙ is in cc)
     ]
 
 -- ---- one name further
@@ -214,8 +206,9 @@ module _ (w : World) (at : ℕ) (same : w ≡ world_at_moment w at) (h : IsRegis
         subst (λ (v : World). (named_sheet_served v at name).answer ≡ Ok one) (sym now)
         (subst (λ (n : List ℕ). (named_sheet_served w at n).answer ≡ Ok one) (sym one-name) one-served.answer)
 
-    pub next-stays : (x : World) → IsOneOf x (house ∷ (named_sheet_served house at name).stages) → x ≡ w
-    next-stays x on = one-served.stays x (subst (λ (n : List ℕ). IsOneOf x (w ∷ (named_sheet_served w at n).stages)) one-name (subst (λ (v : World). IsOneOf x (v ∷ (named_sheet_served v at name).stages)) now on))
+    pub next-stays : (x : World) → x ≡ (named_sheet_served house at name).world → x ≡ w
+    next-stays x is =
+        is ∙ ap (λ (v : World). (named_sheet_served v at name).world) now ∙ ap (λ (n : List ℕ). (named_sheet_served w at n).world) one-name ∙ one-served.stays
 
     pub next-fault : (fault : Fault) → Meets {T = Statistics} (Err fault) (named_sheet_served house at name).answer → fault ≡ OutOfMemory
     next-fault fault meets = only-memory fault (named_sheet_served house at name).answer one meets one-answer

@@ -3,11 +3,11 @@ pub mod Cuts
 pub mod LineLemmas
 pub mod GrammarLemmas
 pub mod AnswerLemmas
-pub mod Stages
+pub mod Memory
 pub mod Stops
 pub mod Counts
 pub mod ReadFaults
-pub mod BatchLemmas
+pub mod StepLemmas
 pub mod MoveLemmas
 pub mod SheetLemmas
 pub mod ByNameLemmas

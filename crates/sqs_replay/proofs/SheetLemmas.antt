@@ -3,7 +3,7 @@ use Rattle.std.proofs.Common.{◌≡◌, ℕ, true, Option, Some, None, Result, 
 use Rattle.std.specs.Option.{ForSome}
 use Rattle.std.proofs.lemmas.Cmp.{nat_eq_equiv}
 use Rattle.message.specs.declared.fault.Fault.{Fault}
-use Rattle.message.specs.declared.fault.Fault.TheVariants.{QueueDoesNotExist, OutOfMemory}
+use Rattle.message.specs.declared.fault.Fault.TheVariants.{QueueDoesNotExist}
 use Rattle.queue_core.specs.declared.command.Command.TheVariants.{Look}
 use Rattle.queue_core.specs.declared.reply.Reply.{Reply}
 use Rattle.queue_core.specs.declared.reply.Reply.TheVariants.{Looked}
@@ -26,10 +26,6 @@ module _ (w : World) (uid at : ℕ) where
 
     look-world : world_after_step {T = Reply} w uid at Look (Ok (Looked (look_of (at_moment q at)))) ≡ with_queue_changed w uid (λ x. at_moment x at)
     look-world = rw here refl
-
-    -- also where no memory was left
-    pub look-failed : world_after_step {T = Reply} w uid at Look (Err OutOfMemory) ≡ with_queue_changed w uid (λ x. at_moment x at)
-    look-failed = rw here refl
 
     -- a look moves the queue's clock
     pub look-left : (command_served w uid at Look).world ≡ with_queue_changed w uid (λ x. at_moment x at)

@@ -1,6 +1,5 @@
--- What a replay writes, and what it leaves: `text` answers a line in a state, `after` is the state after the line, and `stages` are the states that the line
--- goes through.
-use Rattle.std.specs.Prelude.{◌≡◌, ℕ, List, [], ◌∷◌, ◌++◌, ◌⊎◌}
+-- What a replay writes, and what it leaves: `text` answers a line in a state, and `after` is the state after the line.
+use Rattle.std.specs.Prelude.{ℕ, List, [], ◌∷◌, ◌++◌}
 use Rattle.sqs_replay.specs.Cutting.{lines_of}
 
 -- the texts that answer these lines, one after another
@@ -20,8 +19,3 @@ replay_text text after state input = texts text after state (lines_of input)
 -- the state after an input
 abbrev pub replay_state : {S : Type 0} → (S → List ℕ → S) → S → List ℕ → S
 replay_state after state input = state_after after state (lines_of input)
-
--- x is one of these
-abbrev pub IsOneOf : {X : Type 0} → X → List X → Type 0
-IsOneOf x [] = ⊥
-IsOneOf x (y ∷ ys) = (x ≡ y) ⊎ IsOneOf x ys

@@ -8,7 +8,7 @@ use Rattle.message.specs.declared.fault.Fault.TheVariants.{SerializationExceptio
 use Rattle.sqs_replay.specs.declared.answer.Timed.{Timed}
 use Rattle.sqs_replay.specs.Cutting.{longest_line}
 use Rattle.redrive.specs.World.{World}
-use Rattle.sqs_replay.specs.Served.{asked_of, answer_text, line_served, text_of_line, world_of_line, stages_of_line}
+use Rattle.sqs_replay.specs.Served.{asked_of, answer_text, line_served, text_of_line, world_of_line}
 
 asked_of-long : (line : List ℕ) → longest_line < length line → asked_of line ≡ Err SerializationException
 asked_of-long line long = rw (lt-ltb longest_line (length line) long)
@@ -22,8 +22,3 @@ pub world_of_long_line : (w : World) (first second : List ℕ) → longest_line 
     → world_of_line w first ≡ world_of_line w second
 world_of_long_line w first second one two =
     ap (λ (r : Result Timed Fault). (line_served w r).world) (asked_of-long first one ∙ sym (asked_of-long second two))
-
-pub stages_of_long_line : (w : World) (first second : List ℕ) → longest_line < length first → longest_line < length second
-    → stages_of_line w first ≡ stages_of_line w second
-stages_of_long_line w first second one two =
-    ap (λ (r : Result Timed Fault). (line_served w r).stages) (asked_of-long first one ∙ sym (asked_of-long second two))

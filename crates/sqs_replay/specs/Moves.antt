@@ -1,9 +1,7 @@
 -- The dead letters of a queue, which move on after a line that names it.
-use Rattle.std.specs.Prelude.{ℕ, suc, zero, Bool, true, false, if◌then◌else◌, List, [], ◌∷◌, ◌++◌, Result, Ok, Err}
+use Rattle.std.specs.Prelude.{ℕ, suc, zero, Bool, true, false, if◌then◌else◌, Result, Ok, Err}
 use Rattle.std.specs.Option.{option_map_or}
 use Rattle.message.specs.declared.fault.Fault.{Fault}
-use Rattle.message.specs.declared.fault.Fault.TheVariants.{OutOfMemory}
-use Rattle.queue_core.specs.declared.reply.Reply.{Reply}
 use Rattle.queue_core.specs.Messages.{message_count}
 use Rattle.redrive.specs.declared.moved.Moved.{Moved}
 use Rattle.redrive.specs.declared.moved.Moved.TheVariants as moved
@@ -23,15 +21,6 @@ abbrev pub world_after_move : World → ℕ → ℕ → World
 world_after_move w source at =
     if needs_confirmation (arrive_answer w source at) then confirmed_world (world_between w source at) source at else world_between w source at
 
--- the worlds that it goes through, where memory may run out: one half finds none, or is done
-abbrev pub move_stages : World → ℕ → ℕ → List World
-move_stages w source at =
-    world_after_hand_over {T = Moved} w source at (Err OutOfMemory)
-    ∷ world_between w source at
-    ∷ world_after_confirm {T = Reply} (world_between w source at) source at (Err OutOfMemory)
-    ∷ confirmed_world (world_between w source at) source at
-    ∷ []
-
 -- ---- one after another
 
 -- whether another parcel is tried after this answer: none is where none waits, or where a queue refuses
@@ -40,28 +29,16 @@ goes_on (Ok moved.None) = false
 goes_on (Ok _) = true
 goes_on (Err fault) = false
 
--- the world after moves, and the worlds that they go through
-pub record Moves : Type 0 where
-  pub world : World
-  pub stages : List World
-
-abbrev pub no_moves : World → Moves
-no_moves w = record { world = w; stages = [] }
-
-abbrev pub behind : List World → Moves → Moves
-behind stages moves = record moves { stages = stages ++ moves.stages }
-
--- so many parcels at most, until none waits or a queue refuses
-abbrev pub some_moves : ℕ → World → ℕ → ℕ → Moves
-some_moves zero w source at = no_moves w
+-- what so many parcels at most leave, until none waits or a queue refuses
+abbrev pub some_moves : ℕ → World → ℕ → ℕ → World
+some_moves zero w source at = w
 some_moves (suc n) w source at =
-    behind (move_stages w source at)
-    (if goes_on (move_answer w source at) then some_moves n (world_after_move w source at) source at else no_moves (world_after_move w source at))
+    if goes_on (move_answer w source at) then some_moves n (world_after_move w source at) source at else world_after_move w source at
 
 -- how many messages the queue of a uid ever had: no more of them can wait than that
 abbrev pub message_count_in : World → ℕ → ℕ
 message_count_in w uid = option_map_or (λ q. message_count q.lines) (queue_of_uid w uid) 0
 
--- every parcel of the queue of a uid
-abbrev pub all_moves : World → ℕ → ℕ → Moves
+-- what every parcel of the queue of a uid leaves
+abbrev pub all_moves : World → ℕ → ℕ → World
 all_moves w source at = some_moves (message_count_in w source) w source at

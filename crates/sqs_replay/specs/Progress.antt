@@ -5,7 +5,7 @@ use Rattle.sqs_replay.specs.declared.fault.ReplayFault.{ReplayFault}
 use Rattle.sqs_replay.specs.declared.fault.ReplayFault.TheVariants.{Read, Write, OutOfMemory}
 use Rattle.sqs_replay.specs.Failures.{counted, AppendsPart, AppendsAndPart}
 use Rattle.sqs_replay.specs.Cutting.{longest_line, whole_lines, last_piece, lines_of}
-use Rattle.sqs_replay.specs.Answers.{texts, state_after, replay_text, replay_state, IsOneOf}
+use Rattle.sqs_replay.specs.Answers.{texts, state_after, replay_text, replay_state}
 
 -- After these bytes were read, from this state and these bytes taken on: the state, what is kept of the line that has
 -- begun, and the bytes taken.
@@ -38,29 +38,26 @@ pub record AnswersWhole {S : Type 0} (text : S → List ℕ → List ℕ) (after
   pub appended : Appends taken_before taken_after (texts text after start (whole_lines read))
   pub state_is : end ≡ state_after after start (whole_lines read)
 
--- A run stopped in this state, where these lines were still to be answered, and `front` is the text of those before them. None of them was begun; or the
--- first was not answered, and left the state as it was or one that the line goes through; or the first was answered, and a part of its text was written.
-abbrev pub StopsBefore : {S : Type 0} → (S → List ℕ → List ℕ) → (S → List ℕ → S) → (S → List ℕ → List S) → S → S → Option (List ℕ) → Option (List ℕ)
-    → List ℕ → List (List ℕ) → Type 0
-StopsBefore text after stages state end taken_before taken_after front [] = Appends taken_before taken_after front × (end ≡ state)
-StopsBefore text after stages state end taken_before taken_after front (line ∷ lines) =
-    (Appends taken_before taken_after front × IsOneOf end (state ∷ stages state line))
-    ⊎ (AppendsAndPart taken_before taken_after front (text state line) × (end ≡ after state line))
+-- A run stopped where these lines were still to be answered from this state on, and `front` is the text of those before them. All of that was written, and
+-- of the text of the first of them a part at most.
+abbrev pub StopsBefore : {S : Type 0} → (S → List ℕ → List ℕ) → S → Option (List ℕ) → Option (List ℕ) → List ℕ → List (List ℕ) → Type 0
+StopsBefore text state taken_before taken_after front [] = Appends taken_before taken_after front
+StopsBefore text state taken_before taken_after front (line ∷ lines) = AppendsAndPart taken_before taken_after front (text state line)
 
 -- A run over these lines stopped: those that are done were answered whole, and the rest were still to be answered.
-pub record StopsAmong {S : Type 0} (text : S → List ℕ → List ℕ) (after : S → List ℕ → S) (stages : S → List ℕ → List S) (start end : S)
-    (taken_before taken_after : Option (List ℕ)) (lines : List (List ℕ)) : Type 0 where
+pub record StopsAmong {S : Type 0} (text : S → List ℕ → List ℕ) (after : S → List ℕ → S) (start : S) (taken_before taken_after : Option (List ℕ))
+    (lines : List (List ℕ)) : Type 0 where
   pub done : List (List ℕ)
   pub rest : List (List ℕ)
   pub split : lines ≡ done ++ rest
-  pub stop : StopsBefore text after stages (state_after after start done) end taken_before taken_after (texts text after start done) rest
+  pub stop : StopsBefore text (state_after after start done) taken_before taken_after (texts text after start done) rest
 
 -- The run stopped after it had read these bytes, among the whole lines of them, or, where the input had ended, among all their lines.
-pub record Stops {S : Type 0} (text : S → List ℕ → List ℕ) (after : S → List ℕ → S) (stages : S → List ℕ → List S) (start end : S)
+pub record Stops {S : Type 0} (text : S → List ℕ → List ℕ) (after : S → List ℕ → S) (start : S)
     (left_before left_after taken_before taken_after : Option (List ℕ)) (read : List ℕ) : Type 0 where
   pub consumed : Consumes left_before left_after read
-  pub among : StopsAmong text after stages start end taken_before taken_after (whole_lines read)
-      ⊎ (IsAtEnd left_after × StopsAmong text after stages start end taken_before taken_after (lines_of read))
+  pub among : StopsAmong text after start taken_before taken_after (whole_lines read)
+      ⊎ (IsAtEnd left_after × StopsAmong text after start taken_before taken_after (lines_of read))
 
 -- What a run's outcome says of the inlet's counts of failures and of reads: one failure more where reading failed, and
 -- none where it was read 2^32 times, which is a fault too.

@@ -1,5 +1,5 @@
 -- What a line of the input asks, and what a world answers it.
-use Rattle.std.specs.Prelude.{◌≡◌, ℕ, ⊤, nat_lt, if◌then◌else◌, List, [], ◌∷◌, ◌++◌, length, codes, decimal, Option, Some, None, option_and_then, Result, Ok, Err, MatchBool}
+use Rattle.std.specs.Prelude.{◌≡◌, ℕ, zero, suc, ⊤, nat_lt, if◌then◌else◌, List, ◌++◌, length, codes, decimal, Option, Some, None, option_and_then, Result, Ok, Err, MatchBool}
 use Rattle.std.specs.Option.{option_map_or}
 use Rattle.std.specs.Str.{bytes_eq}
 use Rattle.message.specs.declared.fault.Fault.{Fault}
@@ -8,23 +8,25 @@ use Rattle.message.specs.Fault.{is_out_of_memory}
 use Rattle.queue_core.specs.declared.command.Command.{Command}
 use Rattle.queue_core.specs.declared.command.Command.TheVariants as commands
 use Rattle.queue_core.specs.declared.reply.Reply.{Reply}
-use Rattle.queue_core.specs.declared.reply.Reply.TheVariants as replies
 use Rattle.serde_json.specs.Written.{compact_text}
 use Rattle.aws_json.specs.Steps.{◌>>=◌, result_map, required}
 use Rattle.aws_json.specs.Members.{object_of}
 use Rattle.aws_json.specs.Request.{request_of, queue_of_body}
 use Rattle.aws_json.specs.Reply.{reply_data}
 use Rattle.aws_json.specs.FaultText.{fault_body, fault_status}
-use Rattle.aws_json.specs.declared.batch.BatchAnswer.{BatchAnswer}
-use Rattle.aws_json.specs.declared.batch.BatchEntry.{BatchEntry}
-use Rattle.aws_json.specs.declared.batch.EntryReply.{EntryReply}
-use Rattle.aws_json.specs.declared.batch.EntryReply.TheVariants as entries
-use Rattle.aws_json.specs.declared.request.AttributeNames.{AttributeNames}
-use Rattle.aws_json.specs.declared.request.ReceiveNames.{ReceiveNames}
 use Rattle.aws_json.specs.declared.request.Request.{Request}
 use Rattle.aws_json.specs.declared.request.Request.TheVariants as requests
 use Rattle.aws_json.specs.declared.reply.ReplyShape.{ReplyShape}
-use Rattle.aws_json.specs.declared.reply.ReplyShape.TheVariants.{QueueUrl, QueueUrls, SourceQueueUrls, Sent, Attributes, Messages, Batch, Nothing}
+use Rattle.aws_json.specs.declared.reply.ReplyShape.TheVariants.{QueueUrl, QueueUrls, SourceQueueUrls, Nothing}
+use Rattle.request_plan.specs.declared.plan.Performed.{Performed}
+use Rattle.request_plan.specs.declared.plan.Step.{Step}
+use Rattle.request_plan.specs.declared.plan.Step.TheVariants as steps
+use Rattle.request_plan.specs.declared.plan.Then.{Then}
+use Rattle.request_plan.specs.declared.plan.Then.TheVariants as thens
+use Rattle.request_plan.specs.declared.task.Task.{Task}
+use Rattle.request_plan.specs.declared.task.Task.TheVariants as tasks
+use Rattle.request_plan.specs.Plan.{after}
+use Rattle.request_plan.specs.Task.{task_of}
 use Rattle.sqs_replay.specs.declared.answer.Asked.{Asked}
 use Rattle.sqs_replay.specs.declared.answer.Asked.TheVariants.{Client, Tick, Statistics, Rows, Alarms}
 use Rattle.sqs_replay.specs.declared.answer.Timed.{Timed}
@@ -36,7 +38,7 @@ use Rattle.statistics_api.specs.Texts.{sheet_text, sheets_text, rows_text, alarm
 use Rattle.sqs_replay.specs.Cutting.{longest_line}
 use Rattle.sqs_replay.specs.InputLine.{input_line_of}
 use Rattle.redrive.specs.World.{World, queue_of_uid, found_uid, target_uid, create_answer, world_after_create, step_answer, world_after_step, delete_answer, world_after_delete, names_in_world, sources_answer, world_at_moment}
-use Rattle.sqs_replay.specs.Moves.{Moves, no_moves, all_moves}
+use Rattle.sqs_replay.specs.Moves.{all_moves}
 use Rattle.sqs_replay.specs.Sheets.{sheets_of}
 
 -- ---- what a line asks
@@ -62,23 +64,22 @@ asked_of line =
 
 -- ---- what an action answers, and what it leaves
 
--- the answer, the world after it, and the worlds that it goes through: where memory runs out, one of these may be left
+-- the answer, and the world after it
 pub record Served (T : Type 0) : Type 0 where
   pub answer : T
   pub world : World
-  pub stages : List World
 
 -- nothing changes
 abbrev pub unchanged : {T : Type 0} → World → T → Served T
-unchanged w answer = record { answer = answer; world = w; stages = [] }
+unchanged w answer = record { answer = answer; world = w }
 
 -- a call of the queue registry, by its answer and what it leaves with an answer
 abbrev pub called : {T : Type 0} → Result T Fault → (Result T Fault → World) → Served (Result T Fault)
-called answer after = record { answer = answer; world = after answer; stages = after (Err OutOfMemory) ∷ after answer ∷ [] }
+called answer after = record { answer = answer; world = after answer }
 
 -- the same with another form of its answer
 abbrev pub told : {A B : Type 0} → (A → B) → Served A → Served B
-told form s = record { answer = form s.answer; world = s.world; stages = s.stages }
+told form s = record { answer = form s.answer; world = s.world }
 
 -- what is done in the queue of a name; nothing where no queue has it
 abbrev pub in_queue : {T : Type 0} → World → List ℕ → (ℕ → Served (Result T Fault)) → Served (Result T Fault)
@@ -92,73 +93,52 @@ command_served w uid at command = called (step_answer w uid at command) (world_a
 abbrev pub delete_served : World → ℕ → ℕ → Served (Result (Unit {0}) Fault)
 delete_served w uid at = called (delete_answer w uid) (world_after_delete w uid at)
 
--- ---- a queue's reply as a client sees it. A queue answers each command by its own kind of reply, so the equations for other kinds never apply
+-- ---- requests, each by its plan: what it is about, and the steps that it asks of one queue
 
--- what a client is told of a command that was done: of a send the message, of any other that it succeeded
-abbrev pub done_reply : Command → Reply → EntryReply
-done_reply (commands.Send content delay) (replies.Sent posted) = entries.Sent content posted.id
-done_reply _ _ = entries.Done
+-- what became of a command that was answered so
+abbrev pub outcome_of : Command → Result Reply Fault → Result Performed Fault
+outcome_of command answer = result_map (λ reply. record { command = command; reply = reply }) answer
 
-abbrev pub done_shape : EntryReply → ReplyShape
-done_shape (entries.Sent content id) = Sent content id
-done_shape _ = Nothing
+-- a command in the queue of a uid, and the step that comes behind it
+abbrev pub step_served : World → ℕ → ℕ → Command → Then → Served Step
+step_served w uid at command purpose = told (λ answer. after uid purpose (outcome_of command answer)) (command_served w uid at command)
 
-abbrev pub attributes_shape : Option AttributeNames → List ℕ → Reply → ReplyShape
-attributes_shape names queue (replies.Looked look) = Attributes names queue look
-attributes_shape names queue _ = Nothing
+-- Steps in the queue of a uid, one after another until there is an answer: so many commands at most, and then as if memory had run out. The replay does
+-- not wait, so the seconds are not looked at
+abbrev pub played : ℕ → World → ℕ → ℕ → Step → Served (Result ReplyShape Fault)
+played n w uid at (steps.Answer answer) = unchanged w answer
+played zero w uid at (steps.Ask command seconds purpose) = unchanged w (Err OutOfMemory)
+played (suc n) w uid at (steps.Ask command seconds purpose) =
+    played n (step_served w uid at command purpose).world uid at (step_served w uid at command purpose).answer
 
-abbrev pub messages_shape : ReceiveNames → List (List ℕ) → ℕ → Reply → ReplyShape
-messages_shape names patterns uid (replies.Received offers) = Messages uid names patterns offers
-messages_shape names patterns uid _ = Nothing
+-- how many commands may come behind one that was asked for this
+abbrev pub most_behind : Then → ℕ
+most_behind (thens.Receive maximum timeout told) = 1
+most_behind (thens.Entry id es answers) = length es
+most_behind purpose = 0
 
--- ---- commands whose success a client is told, one by itself or as an entry of a batch
+-- how many commands a step may ask in all
+abbrev pub most_commands : Step → ℕ
+most_commands (steps.Ask command seconds purpose) = suc (most_behind purpose)
+most_commands (steps.Answer answer) = 0
 
-abbrev pub done_served : World → ℕ → ℕ → Command → Served (Result EntryReply Fault)
-done_served w uid at command = told (result_map (done_reply command)) (command_served w uid at command)
+-- from a step on, all that it may ask
+abbrev pub steps_served : World → ℕ → ℕ → Step → Served (Result ReplyShape Fault)
+steps_served w uid at step = played (most_commands step) w uid at step
 
--- an entry with a fault of its own reaches no queue
-abbrev pub entry_served : World → ℕ → ℕ → Result Command Fault → Served (Result EntryReply Fault)
-entry_served w uid at (Ok command) = done_served w uid at command
-entry_served w uid at (Err fault) = unchanged w (Err fault)
-
--- the answer of the first entry, and then those of the rest
-abbrev pub followed : BatchAnswer → Served (Result EntryReply Fault) → Served (List BatchAnswer) → Served (List BatchAnswer)
-followed answer first rest = record { answer = answer ∷ rest.answer; world = rest.world; stages = first.stages ++ rest.stages }
-
--- the entries of a batch are done one after another, each by itself
-abbrev pub batch_served : World → ℕ → ℕ → List BatchEntry → Served (List BatchAnswer)
-batch_served w uid at [] = unchanged w []
-batch_served w uid at (e ∷ es) =
-    followed (record { id = e.id; answer = (entry_served w uid at e.command).answer }) (entry_served w uid at e.command)
-    (batch_served (entry_served w uid at e.command).world uid at es)
-
--- ---- requests
-
--- a command in the queue of a name, whose success a client is told
-abbrev pub request_done : World → ℕ → List ℕ → Command → Served (Result ReplyShape Fault)
-request_done w at queue command = in_queue w queue (λ uid. told (result_map done_shape) (done_served w uid at command))
-
--- a receive's command in the queue of a name. The replay does not wait for messages
-abbrev pub receive_served : World → ℕ → List ℕ → Command → ReceiveNames → List (List ℕ) → Served (Result ReplyShape Fault)
-receive_served w at queue command names patterns = in_queue w queue (λ uid. told (result_map (messages_shape names patterns uid))
-    (command_served w uid at command))
+abbrev pub task_served : World → ℕ → Task → Served (Result ReplyShape Fault)
+task_served w at (tasks.Create name wish) = told (result_map (λ uid. QueueUrl name))
+    (called (create_answer w name wish) (world_after_create w at name wish))
+task_served w at (tasks.Delete queue) = in_queue w queue (λ uid. told (result_map (λ deleted. Nothing)) (delete_served w uid at))
+task_served w at (tasks.Set queue wish) = in_queue w queue
+    (λ uid. told (result_map (λ reply. Nothing)) (command_served w uid at (commands.Set wish (target_uid w wish))))
+task_served w at (tasks.Url name) = in_queue w name (λ uid. unchanged w (Ok (QueueUrl name)))
+task_served w at (tasks.Urls prefix) = unchanged w (Ok (QueueUrls (names_in_world w prefix)))
+task_served w at (tasks.Sources queue) = in_queue w queue (λ uid. unchanged w (result_map SourceQueueUrls (sources_answer w uid)))
+task_served w at (tasks.Ask queue step) = in_queue w queue (λ uid. steps_served w uid at step)
 
 abbrev pub served : World → ℕ → Request → Served (Result ReplyShape Fault)
-served w at (requests.CreateQueue name wish) = told (result_map (λ uid. QueueUrl name))
-    (called (create_answer w name wish) (world_after_create w at name wish))
-served w at (requests.DeleteQueue queue) = in_queue w queue (λ uid. told (result_map (λ deleted. Nothing)) (delete_served w uid at))
-served w at (requests.GetQueueUrl name) = in_queue w name (λ uid. unchanged w (Ok (QueueUrl name)))
-served w at (requests.ListQueues prefix) = unchanged w (Ok (QueueUrls (names_in_world w prefix)))
-served w at (requests.ListDeadLetterSourceQueues queue) = in_queue w queue (λ uid. unchanged w (result_map SourceQueueUrls (sources_answer w uid)))
-served w at (requests.GetQueueAttributes queue names) = in_queue w queue
-    (λ uid. told (result_map (attributes_shape names queue)) (command_served w uid at commands.Look))
-served w at (requests.ReceiveMessage queue maximum timeout wait names patterns) = receive_served w at queue (commands.Receive maximum timeout) names patterns
-served w at (requests.SendMessage queue content delay) = request_done w at queue (commands.Send content delay)
-served w at (requests.DeleteMessage queue handle) = request_done w at queue (commands.Delete handle)
-served w at (requests.ChangeMessageVisibility queue handle timeout) = request_done w at queue (commands.Change handle timeout)
-served w at (requests.SetQueueAttributes queue wish) = request_done w at queue (commands.Set wish (target_uid w wish))
-served w at (requests.PurgeQueue queue) = request_done w at queue commands.Purge
-served w at (requests.Batch queue entries) = in_queue w queue (λ uid. told (λ answers. Ok (Batch answers)) (batch_served w uid at entries))
+served w at request = task_served w at (task_of request)
 
 -- ---- statistics
 
@@ -180,7 +160,7 @@ sheet_shown show w at name = told (result_map show) (named_sheet_served w at nam
 
 -- every queue's clock moves to a moment, and then this is the answer
 abbrev pub all_served : {T : Type 0} → World → ℕ → (World → T) → Served T
-all_served w at answer = record { answer = answer (world_at_moment w at); world = world_at_moment w at; stages = world_at_moment w at ∷ [] }
+all_served w at answer = record { answer = answer (world_at_moment w at); world = world_at_moment w at }
 
 -- ---- lines
 
@@ -216,18 +196,17 @@ queue_of_asked (Statistics queue) = queue
 queue_of_asked (Rows queue) = Some queue
 queue_of_asked (Alarms queue) = Some queue
 
--- the parcels of the queue of a name move on, where that queue is there
-abbrev pub moves_after : World → ℕ → Option (List ℕ) → Moves
-moves_after w at name = option_map_or (λ uid. all_moves w uid at) (option_and_then (λ name. found_uid w name) name) (no_moves w)
+-- the world after the parcels of the queue of a name moved on, where that queue is there
+abbrev pub moves_after : World → ℕ → Option (List ℕ) → World
+moves_after w at name = option_map_or (λ uid. all_moves w uid at) (option_and_then (λ name. found_uid w name) name) w
 
--- an answer, and then these moves
-abbrev pub then_moves : {T : Type 0} → Served T → Moves → Served T
-then_moves s moves = record { answer = s.answer; world = moves.world; stages = s.stages ++ s.world ∷ moves.stages }
+-- the answer, and what the moves leave that come after it
+abbrev pub then_moves : {T : Type 0} → ℕ → Option (List ℕ) → Served T → Served T
+then_moves at name s = record { answer = s.answer; world = moves_after s.world at name }
 
 -- what is asked is answered, and then the dead letters of the queue that it names move on, whatever the answer was
 abbrev pub timed_served : World → Timed → Served (Result Shown Fault)
-timed_served w timed =
-    then_moves (asked_served w timed.at timed.asked) (moves_after (asked_served w timed.at timed.asked).world timed.at (queue_of_asked timed.asked))
+timed_served w timed = then_moves timed.at (queue_of_asked timed.asked) (asked_served w timed.at timed.asked)
 
 -- a line that cannot be read changes nothing
 abbrev pub line_served : World → Result Timed Fault → Served (Result Shown Fault)
@@ -247,15 +226,12 @@ abbrev pub answer_text : Result Shown Fault → List ℕ
 answer_text (Ok shown) = decimal 200 ++ codes " " ++ shown_text shown ++ codes "\n"
 answer_text (Err fault) = decimal (fault_status fault) ++ codes " " ++ fault_body fault ++ codes "\n"
 
--- what answers a line, the world after it, and the worlds that it goes through
+-- what answers a line, and the world after it
 abbrev pub text_of_line : World → List ℕ → List ℕ
 text_of_line w line = answer_text (line_served w (asked_of line)).answer
 
 abbrev pub world_of_line : World → List ℕ → World
 world_of_line w line = (line_served w (asked_of line)).world
-
-abbrev pub stages_of_line : World → List ℕ → List World
-stages_of_line w line = (line_served w (asked_of line)).stages
 
 -- ---- for private clauses
 

@@ -1,31 +1,31 @@
 //! What a line of the input asks, and its answer.
 
-ghost use Rattle.std.specs.Prelude.{◌≡◌, ◌∷◌, ◌++◌, codes, decimal, IfOk, IfErr, OnOk, Ok, false};
+ghost use Rattle.std.specs.Prelude.{◌≡◌, ◌++◌, codes, decimal, IfOk, IfErr, OnOk, Ok, false};
 ghost use Rattle.message.specs.Fault.{Meets, is_out_of_memory};
 ghost use Rattle.redrive.specs.World.{names_in_world, sources_answer, target_uid};
 ghost use Rattle.aws_json.specs.declared.reply.ReplyShape.TheVariants.{QueueUrl, QueueUrls, SourceQueueUrls};
 ghost use Rattle.aws_json.specs.Steps.{result_map};
 ghost use Rattle.aws_json.specs.Request.{request_of};
+ghost use Rattle.request_plan.specs.declared.task.Task.TheVariants.{Create, Delete, Set, Ask};
 ghost use Rattle.sqs_replay.specs.declared.answer.Asked.TheVariants.{Client};
-ghost use Rattle.sqs_replay.specs.Answers.{IsOneOf};
-ghost use Rattle.sqs_replay.specs.Served.{asked_by, asked_of, unchanged, in_queue, delete_served, attributes_shape, messages_shape, receive_served, done_shape, request_done, served, asked_served, queue_of_request, queue_of_asked, required_queue, timed_served, line_served, answer_text, text_of_line, world_of_line, stages_of_line, Leaves};
+ghost use Rattle.sqs_replay.specs.Served.{asked_by, asked_of, unchanged, in_queue, delete_served, task_served, served, asked_served, queue_of_request, queue_of_asked, required_queue, timed_served, line_served, answer_text, text_of_line, world_of_line, Leaves};
 
 use crate::ReplayFault;
-use crate::batch::{serve_batch, serve_command, serve_done};
 use crate::input_line::{InputLine, read_line};
 use crate::lines::{LINE_LIMIT, Lines};
 use crate::moves::move_dead_letters;
 use crate::shown::{Shown, shown_text};
 use crate::statistics::{show_alarms, show_rows, show_statistics};
+use crate::steps::{play, serve_command};
 use aws_json::{
-    AttributeNames, EntryReply, Patterns, Prefix, QueueNames, ReceiveNames, ReplyShape, Request,
-    fault_text, parse, read_object, read_queue, status,
+    Prefix, QueueNames, ReplyShape, Request, fault_text, parse, read_object, read_queue, status,
 };
 use journal::{Moment, Ticks};
 use message::{Fault, QueueName};
 use queue_config::Wish;
-use queue_core::{Command, Reply};
+use queue_core::Command;
 use redrive::House;
+use request_plan::{Step, Task, task_of};
 use std::alloc::Global;
 
 /// What a line asks.
@@ -105,9 +105,8 @@ fn create(
     name: QueueName,
     wish: Wish,
 ) -> Result<ReplyShape, Fault>
-    ensures answer { Meets result (served house.old at (Request.CreateQueue name wish)).answer }
-    ensures state { Leaves result house.new (served house.old at (Request.CreateQueue name wish)).world }
-    ensures stages { IsOneOf house.new (house.old ∷ (served house.old at (Request.CreateQueue name wish)).stages) }
+    ensures answer { Meets result (task_served house.old at (Create name wish)).answer }
+    ensures state { Leaves result house.new (task_served house.old at (Create name wish)).world }
 {
     house.create(alloc, at, name, wish)?;
     Ok(ReplyShape::QueueUrl(name))
@@ -123,7 +122,6 @@ fn delete_of_uid(
 ) -> Result<(), Fault>
     ensures answer { Meets result (delete_served house.old uid at).answer }
     ensures state { Leaves result house.new (delete_served house.old uid at).world }
-    ensures stages { IsOneOf house.new (house.old ∷ (delete_served house.old uid at).stages) }
 {
     house.delete_queue(alloc, uid, at, ticks)
 }
@@ -136,9 +134,8 @@ fn delete_queue(
     queue: &QueueName,
     ticks: &mut Ticks,
 ) -> Result<ReplyShape, Fault>
-    ensures answer { Meets result (served house.old at (Request.DeleteQueue queue.now)).answer }
-    ensures state { Leaves result house.new (served house.old at (Request.DeleteQueue queue.now)).world }
-    ensures stages { IsOneOf house.new (house.old ∷ (served house.old at (Request.DeleteQueue queue.now)).stages) }
+    ensures answer { Meets result (task_served house.old at (Delete queue.now)).answer }
+    ensures state { Leaves result house.new (task_served house.old at (Delete queue.now)).world }
 {
     let Some(uid) = house.find(queue) else {
         return Err(Fault::QueueDoesNotExist);
@@ -177,19 +174,16 @@ fn set_attributes(
     wish: Wish,
     ticks: &mut Ticks,
 ) -> Result<ReplyShape, Fault>
-    ensures answer { Meets result (served house.old at (Request.SetQueueAttributes queue.now wish)).answer }
-    ensures state { Leaves result house.new (served house.old at (Request.SetQueueAttributes queue.now wish)).world }
-    ensures stages { IsOneOf house.new (house.old ∷ (served house.old at (Request.SetQueueAttributes queue.now wish)).stages) }
+    ensures answer { Meets result (task_served house.old at (Set queue.now wish)).answer }
+    ensures state { Leaves result house.new (task_served house.old at (Set queue.now wish)).world }
 {
+    let Some(uid) = house.find(queue) else {
+        return Err(Fault::QueueDoesNotExist);
+    };
     let target = target_uid(house, &wish);
-    finish(
-        alloc,
-        house,
-        at,
-        queue,
-        Command::Set { wish, target },
-        ticks,
-    )
+    let command = Command::Set { wish, target };
+    serve_command(alloc, house, at, uid, &command, ticks)?;
+    Ok(ReplyShape::Nothing)
 }
 
 /// The uid of the dead-letter queue that a request names, 0 where it names none or no queue has the
@@ -211,111 +205,44 @@ fn urls(alloc: Global, house: &House, prefix: &Prefix) -> Result<ReplyShape, Fau
     Ok(ReplyShape::QueueUrls(QueueNames::new(names)))
 }
 
-/// What a look's reply is to a client.
-fn attributes_shape(names: Option<AttributeNames>, queue: &QueueName, reply: &Reply) -> ReplyShape
-    ensures { result ≡ attributes_shape names queue.now reply.now }
-{
-    match reply {
-        Reply::Looked(look) => ReplyShape::Attributes {
-            names,
-            queue: *queue,
-            look: *look,
-        },
-        _ => ReplyShape::Nothing,
-    }
-}
-
-/// Answers the attributes of a queue, which is looked at even where no name was asked.
-fn attributes(
+/// Asks the queue of a name, from a step on.
+fn ask(
     alloc: Global,
     house: &mut House,
     at: Moment,
     queue: &QueueName,
-    names: Option<AttributeNames>,
+    step: Step,
     ticks: &mut Ticks,
 ) -> Result<ReplyShape, Fault>
-    ensures answer { Meets result (served house.old at (Request.GetQueueAttributes queue.now names)).answer }
-    ensures state { Leaves result house.new (served house.old at (Request.GetQueueAttributes queue.now names)).world }
-    ensures stages { IsOneOf house.new (house.old ∷ (served house.old at (Request.GetQueueAttributes queue.now names)).stages) }
+    ensures answer { Meets result (task_served house.old at (Ask queue.now step)).answer }
+    ensures state { Leaves result house.new (task_served house.old at (Ask queue.now step)).world }
 {
     let Some(uid) = house.find(queue) else {
         return Err(Fault::QueueDoesNotExist);
     };
-    let reply = serve_command(alloc, house, at, uid, Command::Look, ticks)?;
-    Ok(attributes_shape(names, queue, &reply))
+    play(alloc, house, at, uid, step, ticks)
 }
 
-/// What a receive's reply tells of a message.
-#[derive(Debug, Drop)]
-struct Told {
-    names: ReceiveNames,
-    attributes: Patterns,
-}
-
-/// What a receive's reply is to a client.
-fn messages_shape(told: Told, uid: u64, reply: Reply) -> ReplyShape
-    ensures { result ≡ messages_shape told.names told.attributes uid reply }
-{
-    match reply {
-        Reply::Received(offers) => ReplyShape::Messages {
-            uid,
-            names: told.names,
-            attributes: told.attributes,
-            offers,
-        },
-        _ => ReplyShape::Nothing,
-    }
-}
-
-/// Does a receive's command. The replay does not wait for messages.
-fn receive(
+/// Does what a request is about.
+fn serve_task(
     alloc: Global,
     house: &mut House,
     at: Moment,
-    queue: &QueueName,
-    command: Command,
-    told: Told,
+    task: Task,
     ticks: &mut Ticks,
 ) -> Result<ReplyShape, Fault>
-    ensures answer { Meets result (receive_served house.old at queue.now command told.names told.attributes).answer }
-    ensures state { Leaves result house.new (receive_served house.old at queue.now command told.names told.attributes).world }
-    ensures stages { IsOneOf house.new (house.old ∷ (receive_served house.old at queue.now command told.names told.attributes).stages) }
+    ensures answer { Meets result (task_served house.old at task).answer }
+    ensures state { Leaves result house.new (task_served house.old at task).world }
 {
-    let Some(uid) = house.find(queue) else {
-        return Err(Fault::QueueDoesNotExist);
-    };
-    let reply = serve_command(alloc, house, at, uid, command, ticks)?;
-    Ok(messages_shape(told, uid, reply))
-}
-
-/// What a client is told of a command that was done, by itself.
-fn done_shape(reply: EntryReply) -> ReplyShape
-    ensures { result ≡ done_shape reply }
-{
-    match reply {
-        EntryReply::Sent { content, id } => ReplyShape::Sent { content, id },
-        EntryReply::Done => ReplyShape::Nothing,
+    match task {
+        Task::Create { name, wish } => create(alloc, house, at, name, wish),
+        Task::Delete { queue } => delete_queue(alloc, house, at, &queue, ticks),
+        Task::Set { queue, wish } => set_attributes(alloc, house, at, &queue, wish, ticks),
+        Task::Url { name } => url(house, &name),
+        Task::Urls { prefix } => urls(alloc, house, &prefix),
+        Task::Sources { queue } => source_urls(alloc, house, &queue),
+        Task::Ask { queue, step } => ask(alloc, house, at, &queue, step, ticks),
     }
-}
-
-/// Does a command whose success a client is told.
-fn finish(
-    alloc: Global,
-    house: &mut House,
-    at: Moment,
-    queue: &QueueName,
-    command: Command,
-    ticks: &mut Ticks,
-) -> Result<ReplyShape, Fault>
-    ensures answer { Meets result (request_done house.old at queue.now command).answer }
-    ensures state { Leaves result house.new (request_done house.old at queue.now command).world }
-    ensures stages { IsOneOf house.new (house.old ∷ (request_done house.old at queue.now command).stages) }
-{
-    let Some(uid) = house.find(queue) else {
-        return Err(Fault::QueueDoesNotExist);
-    };
-    let reply = serve_done(alloc, house, at, uid, command, ticks)?;
-    Ok(done_shape(reply))
 }
 
 /// Answers a client's request.
@@ -328,54 +255,8 @@ fn serve(
 ) -> Result<ReplyShape, Fault>
     ensures answer { Meets result (served house.old at request).answer }
     ensures state { Leaves result house.new (served house.old at request).world }
-    ensures stages { IsOneOf house.new (house.old ∷ (served house.old at request).stages) }
 {
-    match request {
-        Request::CreateQueue { name, wish } => create(alloc, house, at, name, wish),
-        Request::DeleteQueue { queue } => delete_queue(alloc, house, at, &queue, ticks),
-        Request::GetQueueUrl { name } => url(house, &name),
-        Request::ListQueues { prefix } => urls(alloc, house, &prefix),
-        Request::ListDeadLetterSourceQueues { queue } => source_urls(alloc, house, &queue),
-        Request::GetQueueAttributes { queue, names } => {
-            attributes(alloc, house, at, &queue, names, ticks)
-        }
-        Request::ReceiveMessage {
-            queue,
-            maximum,
-            timeout,
-            wait: _,
-            names,
-            attributes,
-        } => {
-            let command = Command::Receive { maximum, timeout };
-            let told = Told { names, attributes };
-            receive(alloc, house, at, &queue, command, told, ticks)
-        }
-        Request::SendMessage {
-            queue,
-            content,
-            delay,
-        } => {
-            let command = Command::Send { content, delay };
-            finish(alloc, house, at, &queue, command, ticks)
-        }
-        Request::DeleteMessage { queue, handle } => {
-            finish(alloc, house, at, &queue, Command::Delete { handle }, ticks)
-        }
-        Request::ChangeMessageVisibility {
-            queue,
-            handle,
-            timeout,
-        } => {
-            let command = Command::Change { handle, timeout };
-            finish(alloc, house, at, &queue, command, ticks)
-        }
-        Request::SetQueueAttributes { queue, wish } => {
-            set_attributes(alloc, house, at, &queue, wish, ticks)
-        }
-        Request::PurgeQueue { queue } => finish(alloc, house, at, &queue, Command::Purge, ticks),
-        Request::Batch { queue, entries } => serve_batch(alloc, house, at, &queue, entries, ticks),
-    }
+    serve_task(alloc, house, at, task_of(alloc, request), ticks)
 }
 
 /// Answers what a line asks.
@@ -387,7 +268,6 @@ fn serve_asked(
 ) -> Result<Shown, Fault>
     ensures answer { Meets result (asked_served house.old timed.at timed.asked).answer }
     ensures state { Leaves result house.new (asked_served house.old timed.at timed.asked).world }
-    ensures stages { IsOneOf house.new (house.old ∷ (asked_served house.old timed.at timed.asked).stages) }
 {
     let Timed { at, asked } = timed;
     match asked {
@@ -444,7 +324,6 @@ fn serve_timed(
 ) -> Result<Shown, Fault>
     ensures answer { Meets result (timed_served house.old timed).answer }
     ensures state { Leaves result house.new (timed_served house.old timed).world }
-    ensures stages { IsOneOf house.new (house.old ∷ (timed_served house.old timed).stages) }
 {
     let at = timed.at;
     let queue = queue_of_asked(&timed.asked);
@@ -465,7 +344,6 @@ fn serve_line(
 ) -> Result<Shown, Fault>
     ensures answer { Meets result (line_served house.old (asked_of line.now)).answer }
     ensures state { Leaves result house.new (line_served house.old (asked_of line.now)).world }
-    ensures stages { IsOneOf house.new (house.old ∷ (line_served house.old (asked_of line.now)).stages) }
 {
     let timed = read_timed(alloc, line)?;
     serve_timed(alloc, house, timed, ticks)
@@ -509,13 +387,11 @@ fn written(alloc: Global, status: u16, json: &str) -> Result<Vec<u8>, ReplayFaul
 }
 
 impl Lines for House {
-    ghost use Rattle.sqs_replay.specs.LongLines.{text_of_long_line, world_of_long_line, stages_of_long_line};
+    ghost use Rattle.sqs_replay.specs.LongLines.{text_of_long_line, world_of_long_line};
 
     ghost text = { text_of_line };
 
     ghost after = { world_of_line };
-
-    ghost stages = { stages_of_line };
 
     fn answer(
         &mut self,
@@ -530,6 +406,4 @@ impl Lines for House {
     ghost same_text = { text_of_long_line };
 
     ghost same_after = { world_of_long_line };
-
-    ghost same_stages = { stages_of_long_line };
 }

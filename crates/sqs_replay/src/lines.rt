@@ -1,8 +1,7 @@
 //! What answers the lines of a replay, and how the input is cut into them.
 
-ghost use Rattle.std.specs.Prelude.{◌≡◌, ◌⊎◌, ◌<◌, ℕ, List, [], ◌∷◌, ◌++◌, length, IfOk, OnOk, OnErr, IfErr};
+ghost use Rattle.std.specs.Prelude.{◌≡◌, ◌⊎◌, ◌<◌, ℕ, List, [], ◌∷◌, ◌++◌, length, IfOk, OnOk, IfErr};
 ghost use Rattle.std.specs.List.{AllByRecursion, flat_map};
-ghost use Rattle.sqs_replay.specs.Answers.{IsOneOf};
 ghost use Rattle.sqs_replay.specs.Cutting.{HasNoFeed, whole_pieces, last_piece, line_of};
 
 use crate::ReplayFault;
@@ -23,12 +22,9 @@ pub trait Lines {
     /// The state after a line.
     ghost after: { Self → List ℕ → Self };
 
-    /// The states that a line goes through, where memory may run out.
-    ghost stages: { Self → List ℕ → List Self };
-
     /// Answers a line, which is not empty and has neither its line feed nor the carriage return
     /// before it. Of a line longer than [`LINE_LIMIT`] it may be given another that is too long.
-    /// `OutOfMemory` is the only fault; it leaves the state as it was, or one that the line goes through.
+    /// `OutOfMemory` is the only fault; no clause says which state it leaves.
     fn answer(
         &mut self,
         alloc: Global,
@@ -38,7 +34,6 @@ pub trait Lines {
         requires { 0 < length line.now }
         ensures text { IfOk result (λ bytes. bytes.items ≡ text self.old line.now) }
         ensures state { OnOk result (self.new ≡ after self.old line.now) }
-        ensures stopped { OnErr result (IsOneOf self.new (self.old ∷ stages self.old line.now)) }
         ensures fault { IfErr result (λ fault. fault ≡ ReplayFault.OutOfMemory) };
 
     /// All lines that are too long are answered alike.
@@ -46,9 +41,6 @@ pub trait Lines {
 
     /// All lines that are too long leave the same state.
     ghost same_after: { (state : Self) (first second : List ℕ) → longest_line < length first → longest_line < length second → after state first ≡ after state second };
-
-    /// All lines that are too long go through the same states.
-    ghost same_stages: { (state : Self) (first second : List ℕ) → longest_line < length first → longest_line < length second → stages state first ≡ stages state second };
 }
 
 /// A piece without the one carriage return that may end it.

@@ -6,8 +6,8 @@
 //! - [`Inlet`] and [`Outlet`]: where the bytes come from and where they go. Each tells its bytes
 //!   where it can, and counts its failures, memory refused to it and, of the inlet, its reads.
 //!   [`Device`] makes one of any reader or writer of std.
-//! - [`Lines`] and [`run_lines`]: what answers a line, and the run over all lines, with what is
-//!   left where it stops.
+//! - [`Lines`] and [`run_lines`]: what answers a line, and the run over all lines, with the state
+//!   after them.
 //! - [`read_line`]: a line of the input, as a moment, an action and the bytes of a body.
 //!
 //! The definitions stand in `specs/`: `Cutting` and `InputLine` for the lines, `Served` for
@@ -16,7 +16,6 @@
 #![tactic(auto)]
 
 mod answer;
-mod batch;
 mod device;
 mod fault;
 mod input_line;
@@ -26,6 +25,7 @@ mod program;
 mod run;
 mod shown;
 mod statistics;
+mod steps;
 #[cfg(test)]
 mod tests;
 mod whole;

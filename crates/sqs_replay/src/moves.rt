@@ -1,11 +1,10 @@
 //! Dead letters move on after a line that names their queue.
 
-ghost use Rattle.std.specs.Prelude.{◌≡◌, ◌∷◌, false, IfErr, OnOk, Ok, Err};
+ghost use Rattle.std.specs.Prelude.{◌≡◌, false, IfErr, OnOk, Ok, Err};
 ghost use Rattle.message.specs.declared.fault.Fault.TheVariants.{OutOfMemory};
 ghost use Rattle.message.specs.Fault.{Meets, is_out_of_memory};
 ghost use Rattle.redrive.specs.World.{move_answer};
-ghost use Rattle.sqs_replay.specs.Answers.{IsOneOf};
-ghost use Rattle.sqs_replay.specs.Moves.{world_after_move, move_stages, goes_on, message_count_in, some_moves, all_moves};
+ghost use Rattle.sqs_replay.specs.Moves.{world_after_move, goes_on, message_count_in, some_moves, all_moves};
 ghost use Rattle.sqs_replay.specs.Served.{moves_after, Leaves};
 
 use journal::{Moment, Ticks};
@@ -23,7 +22,6 @@ fn move_first(
 ) -> Result<Moved, Fault>
     ensures answer { Meets result (move_answer house.old source at) }
     ensures state { Leaves result house.new (world_after_move house.old source at) }
-    ensures stages { IsOneOf house.new (house.old ∷ move_stages house.old source at) }
 {
     house.move_one(alloc, source, at, ticks)
 }
@@ -51,8 +49,7 @@ fn some_moves(
     most: u64,
     ticks: &mut Ticks,
 ) -> Result<(), Fault>
-    ensures state { OnOk result (house.new ≡ (some_moves most house.old source at).world) }
-    ensures stages { IsOneOf house.new (house.old ∷ (some_moves most house.old source at).stages) }
+    ensures state { OnOk result (house.new ≡ some_moves most house.old source at) }
     ensures fault { IfErr result (λ fault. fault ≡ OutOfMemory) }
 {
     for _done in 0..most {
@@ -82,8 +79,7 @@ pub(crate) fn move_dead_letters(
     queue: Option<QueueName>,
     ticks: &mut Ticks,
 ) -> Result<(), Fault>
-    ensures state { OnOk result (house.new ≡ (moves_after house.old at queue).world) }
-    ensures stages { IsOneOf house.new (house.old ∷ (moves_after house.old at queue).stages) }
+    ensures state { OnOk result (house.new ≡ moves_after house.old at queue) }
     ensures fault { IfErr result (λ fault. fault ≡ OutOfMemory) }
 {
     let Some(name) = queue else {

@@ -52,8 +52,8 @@ pub fn run_lines<S: Lines, I: Inlet, O: Outlet>(
     ensures err { OnErr result ((read : List ℕ) × AnswersPart S.text S.after server.old
         (I.left inlet.old) (I.left inlet.new) (O.taken outlet.old) (O.taken outlet.new) read) }
 
-    // What was written at a fault, and what the server is left as with it.
-    ensures stopped { OnErr result ((read : List ℕ) × Stops S.text S.after S.stages server.old server.new
+    // At a fault, the lines answered whole and a part of the next one's text at most.
+    ensures stopped { OnErr result ((read : List ℕ) × Stops S.text S.after server.old
         (I.left inlet.old) (I.left inlet.new) (O.taken outlet.old) (O.taken outlet.new) read) }
 
     // Where no more could be read, the whole lines read are answered, and nothing else.
@@ -94,7 +94,7 @@ fn read_lines<S: Lines, I: Inlet, O: Outlet>(
     requires { 0 < length buffer.old }
     ensures ok { OnOk result ((input : List ℕ) × AnswersAll S.text S.after server.old server.new
         (I.left inlet.old) (I.left inlet.new) (O.taken outlet.old) (O.taken outlet.new) input) }
-    ensures stopped { OnErr result ((read : List ℕ) × Stops S.text S.after S.stages server.old server.new
+    ensures stopped { OnErr result ((read : List ℕ) × Stops S.text S.after server.old
         (I.left inlet.old) (I.left inlet.new) (O.taken outlet.old) (O.taken outlet.new) read) }
     ensures read_stops { OnReadFault result ((read : List ℕ) × AnswersWhole S.text S.after server.old server.new
         (I.left inlet.old) (I.left inlet.new) (O.taken outlet.old) (O.taken outlet.new) read
@@ -131,7 +131,7 @@ fn take_bytes<S: Lines, O: Outlet>(
         HasRead S.text S.after start before (read ++ bytes.now) server.new kept.new.items (O.taken outlet.new)) }
     ensures stopped { OnErr result ((start : S) (before : Option (List ℕ)) (read : List ℕ) →
         HasRead S.text S.after start before read server.old kept.old.items (O.taken outlet.old) →
-        StopsAmong S.text S.after S.stages start server.new before (O.taken outlet.new) (whole_lines (read ++ bytes.now))) }
+        StopsAmong S.text S.after start before (O.taken outlet.new) (whole_lines (read ++ bytes.now))) }
     ensures no_read_fault { is_read_fault result ≡ false }
     ensures write_fault { OutletHasCause result (O.failures outlet.old) (O.failures outlet.new) }
     ensures outlet_memory { MemoryHasCause result (O.refusals outlet.old) (O.refusals outlet.new) }
@@ -156,7 +156,7 @@ fn take_byte<S: Lines, O: Outlet>(
         HasRead S.text S.after start before (read ++ byte ∷ []) server.new kept.new.items (O.taken outlet.new)) }
     ensures stopped { OnErr result ((start : S) (before : Option (List ℕ)) (read : List ℕ) →
         HasRead S.text S.after start before read server.old kept.old.items (O.taken outlet.old) →
-        StopsAmong S.text S.after S.stages start server.new before (O.taken outlet.new) (whole_lines (read ++ byte ∷ []))) }
+        StopsAmong S.text S.after start before (O.taken outlet.new) (whole_lines (read ++ byte ∷ []))) }
     ensures no_read_fault { is_read_fault result ≡ false }
     ensures write_fault { OutletHasCause result (O.failures outlet.old) (O.failures outlet.new) }
     ensures outlet_memory { MemoryHasCause result (O.refusals outlet.old) (O.refusals outlet.new) }
@@ -181,8 +181,8 @@ fn answer_piece<S: Lines, O: Outlet>(
     ensures text { OnOk result (Appends (O.taken outlet.old) (O.taken outlet.new)
         (texts S.text S.after server.old (lines_among (piece.now ∷ [])))) }
     ensures state { OnOk result (server.new ≡ state_after S.after server.old (lines_among (piece.now ∷ []))) }
-    ensures stopped { OnErr result (StopsBefore S.text S.after S.stages server.old server.new
-        (O.taken outlet.old) (O.taken outlet.new) [] (lines_among (piece.now ∷ []))) }
+    ensures stopped { OnErr result (StopsBefore S.text server.old (O.taken outlet.old) (O.taken outlet.new)
+        [] (lines_among (piece.now ∷ []))) }
     ensures no_read_fault { is_read_fault result ≡ false }
     ensures write_fault { OutletHasCause result (O.failures outlet.old) (O.failures outlet.new) }
     ensures outlet_memory { MemoryHasCause result (O.refusals outlet.old) (O.refusals outlet.new) }

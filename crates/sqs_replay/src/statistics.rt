@@ -1,19 +1,18 @@
 //! The statistics of queues, by their own calls.
 
-ghost use Rattle.std.specs.Prelude.{◌≡◌, ◌∷◌, map, IfOk, IfErr, Ok};
+ghost use Rattle.std.specs.Prelude.{◌≡◌, map, IfOk, IfErr, OnOk, Ok};
 ghost use Rattle.std.specs.Option.{ForSome};
 ghost use Rattle.message.specs.declared.fault.Fault.TheVariants.{OutOfMemory};
 ghost use Rattle.message.specs.Fault.{Meets};
 ghost use Rattle.queue_core.specs.declared.reply.Reply.TheVariants.{Looked};
 ghost use Rattle.queue_core.specs.Queue.{look_of};
 ghost use Rattle.redrive.specs.World.{queue_of_uid, world_at_moment, IsRegistry};
-ghost use Rattle.sqs_replay.specs.Answers.{IsOneOf};
 ghost use Rattle.sqs_replay.specs.Sheets.{sheets_of};
 ghost use Rattle.sqs_replay.specs.Served.{Leaves, sheet_in, sheet_served, named_sheet_served, asked_served};
 ghost use Rattle.sqs_replay.specs.declared.answer.Asked.TheVariants.{Statistics, Rows, Alarms};
 
-use crate::batch::serve_command;
 use crate::shown::Shown;
+use crate::steps::serve_command;
 use aws_json::Listed;
 use board::Sheet;
 use journal::{Moment, Ticks};
@@ -43,9 +42,8 @@ fn sheet_of_uid(
 ) -> Result<Sheet, Fault>
     ensures answer { Meets result (sheet_served house.old uid at).answer }
     ensures state { Leaves result house.new (sheet_served house.old uid at).world }
-    ensures stages { IsOneOf house.new (house.old ∷ (sheet_served house.old uid at).stages) }
 {
-    let reply = serve_command(alloc, house, at, uid, Command::Look, ticks)?;
+    let reply = serve_command(alloc, house, at, uid, &Command::Look, ticks)?;
     sheet_in(alloc, house, uid, &reply)
 }
 
@@ -59,7 +57,6 @@ fn named_sheet(
 ) -> Result<Sheet, Fault>
     ensures answer { Meets result (named_sheet_served house.old at name.now).answer }
     ensures state { Leaves result house.new (named_sheet_served house.old at name.now).world }
-    ensures stages { IsOneOf house.new (house.old ∷ (named_sheet_served house.old at name.now).stages) }
 {
     let Some(uid) = house.find(name) else {
         return Err(Fault::QueueDoesNotExist);
@@ -80,7 +77,7 @@ fn sheets_of_names(
     requires names { names.now ≡ map (λ s. s.name) (sheets_of house.old) }
     ensures sheets { IfOk result (λ sheets. sheets.items ≡ sheets_of house.old) }
     ensures fault { IfErr result (λ fault. fault ≡ OutOfMemory) }
-    ensures state { house.new ≡ house.old }
+    ensures state { OnOk result (house.new ≡ house.old) }
 {
     let mut sheets = Vec::new(alloc);
     for name in names {
@@ -98,7 +95,7 @@ fn all_sheets(
     ticks: &mut Ticks,
 ) -> Result<Listed<Sheet>, Fault>
     ensures answer { Meets result (Ok (sheets_of (world_at_moment house.old at))) }
-    ensures state { house.new ≡ world_at_moment house.old at }
+    ensures state { Leaves result house.new (world_at_moment house.old at) }
 {
     house.advance_all(at, ticks);
     let names = house.list(alloc, "")?;
@@ -116,7 +113,6 @@ pub(crate) fn show_statistics(
 ) -> Result<Shown, Fault>
     ensures answer { Meets result (asked_served house.old at (Statistics queue)).answer }
     ensures state { Leaves result house.new (asked_served house.old at (Statistics queue)).world }
-    ensures stages { IsOneOf house.new (house.old ∷ (asked_served house.old at (Statistics queue)).stages) }
 {
     match queue {
         Some(name) => Ok(Shown::Queue(named_sheet(alloc, house, at, &name, ticks)?)),
@@ -134,7 +130,6 @@ pub(crate) fn show_rows(
 ) -> Result<Shown, Fault>
     ensures answer { Meets result (asked_served house.old at (Rows queue.now)).answer }
     ensures state { Leaves result house.new (asked_served house.old at (Rows queue.now)).world }
-    ensures stages { IsOneOf house.new (house.old ∷ (asked_served house.old at (Rows queue.now)).stages) }
 {
     Ok(Shown::Rows(named_sheet(alloc, house, at, queue, ticks)?))
 }
@@ -149,7 +144,6 @@ pub(crate) fn show_alarms(
 ) -> Result<Shown, Fault>
     ensures answer { Meets result (asked_served house.old at (Alarms queue.now)).answer }
     ensures state { Leaves result house.new (asked_served house.old at (Alarms queue.now)).world }
-    ensures stages { IsOneOf house.new (house.old ∷ (asked_served house.old at (Alarms queue.now)).stages) }
 {
     Ok(Shown::Alarms(named_sheet(alloc, house, at, queue, ticks)?))
 }

@@ -1,7 +1,7 @@
 //! Runs over devices that give or take little at a time, or fail.
 
-ghost use Rattle.std.specs.Prelude.{ℕ, []};
-ghost use Rattle.std.proofs.Common.{refl, ap};
+ghost use Rattle.std.specs.Prelude.{ℕ};
+ghost use Rattle.std.proofs.Common.{ap};
 ghost use Rattle.sqs_replay.specs.Toy.{toy_text, toy_count, toy_text-beyond, toy_count-beyond};
 
 use super::same;
@@ -25,13 +25,9 @@ impl Lines for Toy {
 
     ghost after = { λ toy line. record toy { count = toy_count toy.count line } };
 
-    ghost stages = { λ toy line. [] };
-
     ghost same_text = { λ toy first second one two. toy_text-beyond toy.count first second one two };
 
     ghost same_after = { λ toy first second one two. ap (λ (n : ℕ). record toy { count = n }) (toy_count-beyond toy.count first second one two) };
-
-    ghost same_stages = { λ toy first second one two. refl };
 
     fn answer(
         &mut self,

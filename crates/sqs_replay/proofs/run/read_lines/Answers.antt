@@ -29,7 +29,7 @@ returns-in_err-count-clause-stopped g c =
       read,
       record {
         consumed = Consumes-kept _ _ _ read consumed c.in_err-count.ensures.bytes;
-        among = inl (stops-between g.S.Lines.text g.S.Lines.after g.S.Lines.stages c.args.server.now _ _ _ read _ progress);
+        among = inl (stops-between g.S.Lines.text g.S.Lines.after c.args.server.now _ _ _ read _ progress);
       },
     )
 
@@ -40,7 +40,7 @@ returns-then-count-eq0-clause-stopped g c =
     let has_room : 0 < length c.read.new.buffer = omega (arith, c.read.auto.buffer, c.loop-turn.auto.buffer, c.requires) in
     let all_read = Consumes-none _ _ _ read c.read.new.buffer c.in_ok-count.count consumed c.in_ok-count.ensures.bytes.0 none in
     on_err_weaker c.answer_piece.result
-    (λ stop. (read, stops-at_end g.S.Lines.text g.S.Lines.after g.S.Lines.stages g.met.S.Lines.same_text g.met.S.Lines.same_after g.met.S.Lines.same_stages c.args.server.now _ _ _ _ _ _ _ read c.as_slice.result.now all_read (c.in_ok-count.ensures.bytes.1 none has_room) (kept_as c.as_slice.result.now c.as_slice.ensures.value progress) stop))
+    (λ stop. (read, stops-at_end g.S.Lines.text g.S.Lines.after g.met.S.Lines.same_text c.args.server.now _ _ _ _ _ _ read c.as_slice.result.now all_read (c.in_ok-count.ensures.bytes.1 none has_room) (kept_as c.as_slice.result.now c.as_slice.ensures.value progress) stop))
     c.answer_piece.ensures.stopped
 
 pub returns-in_err-take_bytes-clause-stopped : goal.returns-in_err-take_bytes-clause-stopped
@@ -61,7 +61,7 @@ returns-clause-stopped g c =
       read,
       record {
         consumed = consumed;
-        among = inl (stops-between g.S.Lines.text g.S.Lines.after g.S.Lines.stages c.args.server.now _ _ _ read _ progress);
+        among = inl (stops-between g.S.Lines.text g.S.Lines.after c.args.server.now _ _ _ read _ progress);
       },
     )
 

@@ -25,13 +25,13 @@ returns-clause-front g c =
     either_way c.read_lines.result
     (on_ok_weaker c.read_lines.result (λ all. front_of_all g.S.Lines.text g.S.Lines.after c.args.server.now _ _ _ _ _ all.0 all.1) c.read_lines.ensures.ok)
     (on_err_weaker c.read_lines.result
-    (λ stop. front_of_part g.S.Lines.text g.S.Lines.after c.args.server.now _ _ _ _ stop.0 (answers-part g.S.Lines.text g.S.Lines.after g.S.Lines.stages c.args.server.now _ _ _ _ _ stop.0 stop.1)) c.read_lines.ensures.stopped)
+    (λ stop. front_of_part g.S.Lines.text g.S.Lines.after c.args.server.now _ _ _ _ stop.0 (answers-part g.S.Lines.text g.S.Lines.after c.args.server.now _ _ _ _ stop.0 stop.1)) c.read_lines.ensures.stopped)
 
 pub returns-in_err-buffer-clause-stopped : goal.returns-in_err-buffer-clause-stopped
 returns-in_err-buffer-clause-stopped g c =
-    on_err c.from_residual.result ([], stops-at_once g.S.Lines.text g.S.Lines.after g.S.Lines.stages c.args.server.now (g.I.Inlet.left c.args.inlet.now) (g.O.Outlet.taken c.args.outlet.now))
+    on_err c.from_residual.result ([], stops-at_once g.S.Lines.text g.S.Lines.after c.args.server.now (g.I.Inlet.left c.args.inlet.now) (g.O.Outlet.taken c.args.outlet.now))
 
 pub returns-clause-err : goal.returns-clause-err
 returns-clause-err g c =
     on_err_weaker c.read_lines.result
-    (λ stop. (stop.0, answers-part g.S.Lines.text g.S.Lines.after g.S.Lines.stages c.args.server.now _ _ _ _ _ stop.0 stop.1)) c.read_lines.ensures.stopped
+    (λ stop. (stop.0, answers-part g.S.Lines.text g.S.Lines.after c.args.server.now _ _ _ _ stop.0 stop.1)) c.read_lines.ensures.stopped

@@ -23,9 +23,9 @@ returns-else-len-lt-KEPT_LIMIT-clause-ok g c =
 pub returns-in_err-answer_piece-clause-stopped : goal.returns-in_err-answer_piece-clause-stopped
 returns-in_err-answer_piece-clause-stopped g c =
     on_err c.from_residual.result
-    (λ start before read h. stops-at_feed g.S.Lines.text g.S.Lines.after g.S.Lines.stages g.met.S.Lines.same_text g.met.S.Lines.same_after g.met.S.Lines.same_stages start _ _ before _ _ read c.as_slice.result.now c.args.byte c.if-byte-eq10.true (kept_as c.as_slice.result.now c.as_slice.ensures.value h) c.in_err-answer_piece.ensures.stopped)
+    (λ start before read h. stops-at_feed g.S.Lines.text g.S.Lines.after g.met.S.Lines.same_text start _ before _ _ read c.as_slice.result.now c.args.byte c.if-byte-eq10.true (kept_as c.as_slice.result.now c.as_slice.ensures.value h) c.in_err-answer_piece.ensures.stopped)
 
 pub returns-in_err-push-clause-stopped : goal.returns-in_err-push-clause-stopped
 returns-in_err-push-clause-stopped g c =
-    on_err c.from_residual-in_err-push.result (λ start before read h. stops-further g.S.Lines.text g.S.Lines.after g.S.Lines.stages start _ before _ read _
-    (stops-between g.S.Lines.text g.S.Lines.after g.S.Lines.stages start _ before _ read _ h))
+    on_err c.from_residual-in_err-push.result (λ start before read h. stops-further g.S.Lines.text g.S.Lines.after start before _ read _
+    (stops-between g.S.Lines.text g.S.Lines.after start _ before _ read _ h))

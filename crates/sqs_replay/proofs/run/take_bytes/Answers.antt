@@ -13,10 +13,9 @@ returns-in_err-take_byte-clause-stopped g c =
     let i = c.loop-byte.byte-index in
     let so_far = c.loop-byte.invariant.0 start before read h in
     let stopped = c.in_err-take_byte.ensures.stopped start before (read ++ take i bytes) so_far in
-    subst (λ (all : List ℕ). StopsAmong g.S.Lines.text g.S.Lines.after g.S.Lines.stages start c.take_byte.new.server before
-    (g.O.Outlet.taken c.take_byte.new.outlet) (whole_lines all))
+    subst (λ (all : List ℕ). StopsAmong g.S.Lines.text g.S.Lines.after start before (g.O.Outlet.taken c.take_byte.new.outlet) (whole_lines all))
     (read_rest read bytes i c.loop-byte-test.true)
-    (stops-further g.S.Lines.text g.S.Lines.after g.S.Lines.stages start _ before _ ((read ++ take i bytes) ++ get_or bytes i 0 ∷ []) (drop (i + 1) bytes) stopped))
+    (stops-further g.S.Lines.text g.S.Lines.after start before _ ((read ++ take i bytes) ++ get_or bytes i 0 ∷ []) (drop (i + 1) bytes) stopped))
 
 pub loop-byte-preserved : goal.loop-byte-preserved
 loop-byte-preserved g c = (

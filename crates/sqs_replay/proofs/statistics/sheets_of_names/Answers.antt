@@ -11,24 +11,12 @@ returns-in_err-sheet-clause-fault c =
     c.in_err-sheet.field-0.0 c.in_err-sheet.ensures.answer in
     search rules
 
-pub returns-in_err-sheet-clause-state : goal.returns-in_err-sheet-clause-state
-returns-in_err-sheet-clause-state c =
-    next-stays c.args.house.now c.args.at c.requires.at c.requires.registry c.args.names.now c.requires.names
-    c.loop-name.house c.loop-name.invariant.state c.loop-name.name-index c.loop-name-test.true _ c.name-item.result c.name-item.is
-    c.named_sheet.new.house c.named_sheet.ensures.stages
-
-pub returns-in_err-push-clause-state : goal.returns-in_err-push-clause-state
-returns-in_err-push-clause-state c =
-    next-stays c.args.house.now c.args.at c.requires.at c.requires.registry c.args.names.now c.requires.names
-    c.loop-name.house c.loop-name.invariant.state c.loop-name.name-index c.loop-name-test.true _ c.name-item.result c.name-item.is
-    c.named_sheet.new.house c.named_sheet.ensures.stages
-
 pub loop-name-preserved : goal.loop-name-preserved
 loop-name-preserved c = record {
   state =
       next-stays c.args.house.now c.args.at c.requires.at c.requires.registry c.args.names.now c.requires.names
       c.loop-name.house c.loop-name.invariant.state c.loop-name.name-index c.loop-name-test.true _ c.name-item.result c.name-item.is
-      c.named_sheet.new.house c.named_sheet.ensures.stages;
+      c.named_sheet.new.house c.in_ok-sheet.ensures.state;
   sheets =
       next-sheets c.args.house.now c.args.at c.requires.at c.requires.registry c.args.names.now c.requires.names
       c.loop-name.house c.loop-name.invariant.state c.loop-name.name-index c.loop-name-test.true _ c.name-item.result c.name-item.is

@@ -1,0 +1,9 @@
+use Rattle.sqs_replay.specs.Served.{most_commands, steps_served}
+use Rattle.sqs_replay.proofs.StepLemmas.{GoesOn}
+use Rattle.sqs_replay.proofs.steps.play.Given as goal
+
+abbrev pub invariant-loop-step : goal.invariant-loop-step
+invariant-loop-step l = GoesOn (steps_served l.fn.house l.uid l.at l.fn.first) l.house l.uid l.at l.step
+
+abbrev pub decreases-loop-step : goal.decreases-loop-step
+decreases-loop-step l = most_commands l.step
