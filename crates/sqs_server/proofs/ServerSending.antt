@@ -51,9 +51,9 @@ use Rattle.tokio.proofs.sync.semaphore.Semaphore.TheSendSync as semaphore
 use Rattle.tokio.specs.contracts.net.stream.TcpStream as stream
 use Rattle.sqs_server.proofs.arriving.Arriving.TheSendSync as arriving
 use Rattle.sqs_server.proofs.arriving.Asked.TheSendSync as asked
+use Rattle.sqs_server.proofs.attendance.Attendance.TheSendSync as attendance
 use Rattle.sqs_server.proofs.door.Guest.TheSendSync as guest
 use Rattle.sqs_server.proofs.notices.Notices.TheSendSync as notices
-use Rattle.sqs_server.proofs.plan.Step.TheSendSync as step
 use Rattle.sqs_server.proofs.queues.Made.TheSendSync as made
 use Rattle.sqs_server.proofs.queues.Order.TheSendSync as order
 use Rattle.sqs_server.proofs.register.Register.TheSendSync as register
@@ -173,7 +173,24 @@ pub showing_send : (T : RattleType) (w : wait.Ghosts T.Denot) → IsSend T → I
 showing_send T w s =
     let one = directory_send T w s in
     let both = directory_sync T w s in
-    search (register.the_send, register.the_sync, semaphore.the_send, semaphore.the_sync, notices.the_send, sendable, crosses) depth 40 fits 100000
+    recorded_send
+    (showing.the_field T w).row
+    _
+    _
+    (showing.the_type T w).to_one
+    (
+    struct_send
+    (parts.shape (showing.the_type T w)) (
+      s,
+      (
+        search (sendable, crosses) depth 40 fits 100000,
+        (
+          search (register.the_send, register.the_sync, sendable, crosses) depth 40 fits 100000,
+          (attendance.the_field_send, (notices.the_field_send, tt)),
+        ),
+      ),
+    )
+    )
 
 pub working_send : (T : RattleType) (w : wait.Ghosts T.Denot) → IsSend T → IsSend (working.the_row T w)
 working_send T w s =
@@ -191,7 +208,7 @@ working_send T w s =
         (
           front_field_send T w s,
           (
-            search (semaphore.the_send, semaphore.the_sync, sendable, crosses) depth 40 fits 100000,
+            attendance.the_field_send,
             (search (sendable, crosses) depth 40 fits 100000, (notices.the_field_send, tt)),
           ),
         ),

@@ -2,8 +2,6 @@ pub mod Program
 pub mod Head
 pub mod Sent
 pub mod Times
-pub mod Plan
-pub mod Task
 pub mod Turns
 pub mod Stages
 pub mod Responses

@@ -41,11 +41,11 @@ use Rattle.std.specs.Str.{bytes_eq}
 use Rattle.tokio.specs.declared.net.stream.TcpStream.{TcpStream}
 use Rattle.sqs_server.specs.declared.arriving.Arriving.{Arriving}
 use Rattle.sqs_server.specs.declared.head.Denial.TheVariants.{BodyTooLarge}
-use Rattle.sqs_server.specs.declared.plan.Performed.{Performed}
-use Rattle.sqs_server.specs.declared.plan.Step.{Step}
-use Rattle.sqs_server.specs.declared.plan.Step.TheVariants as steps
-use Rattle.sqs_server.specs.declared.plan.Then.{Then}
-use Rattle.sqs_server.specs.declared.plan.Then.TheVariants as thens
+use Rattle.request_plan.specs.declared.plan.Performed.{Performed}
+use Rattle.request_plan.specs.declared.plan.Step.{Step}
+use Rattle.request_plan.specs.declared.plan.Step.TheVariants as steps
+use Rattle.request_plan.specs.declared.plan.Then.{Then}
+use Rattle.request_plan.specs.declared.plan.Then.TheVariants as thens
 use Rattle.sqs_server.specs.declared.queues.Made.{Made}
 use Rattle.sqs_server.specs.declared.queues.Order.{Order}
 use Rattle.sqs_server.specs.declared.queues.Queue.{Queue}
@@ -61,12 +61,12 @@ use Rattle.sqs_server.specs.declared.stage.Stage.{Stage}
 use Rattle.sqs_server.specs.declared.stage.Stage.TheVariants as stages
 use Rattle.sqs_server.specs.declared.stage.Turn.{Turn}
 use Rattle.sqs_server.specs.declared.stage.Turn.TheVariants.{Goes, Waits}
-use Rattle.sqs_server.specs.declared.task.Task.{Task}
-use Rattle.sqs_server.specs.declared.task.Task.TheVariants as tasks
+use Rattle.request_plan.specs.declared.task.Task.{Task}
+use Rattle.request_plan.specs.declared.task.Task.TheVariants as tasks
 use Rattle.sqs_server.specs.Head.{action_of, asked_of}
-use Rattle.sqs_server.specs.Plan.{Follows, after}
+use Rattle.request_plan.specs.Plan.{Follows, after}
 use Rattle.sqs_server.specs.Sent.{busy, denied, refused, sent_for}
-use Rattle.sqs_server.specs.Task.{Begins}
+use Rattle.request_plan.specs.Task.{Begins}
 use Rattle.sqs_server.specs.Times.{wait_limit}
 
 -- ---- what a client is sent

@@ -1,10 +1,12 @@
 //! Who comes in: connections are accepted, served side by side, and counted when they have closed.
 
-ghost use Rattle.std.specs.Prelude.{◌≡◌, IfOk, IfSome, IsTrue};
+ghost use Rattle.std.specs.Prelude.{◌≡◌, None, IfOk, IfSome, IsTrue};
 ghost use Rattle.futures.specs.Poll.{OnPending};
+ghost use Rattle.futures.specs.declared.task.Poll.TheVariants.{Pending};
 ghost use Rattle.futures.specs.Task.{IsArmed, Keeps};
 ghost use Rattle.tokio.specs.Locks.{CanAcquire};
 
+use crate::attendance::{Attendance, Presence};
 use crate::front::Front;
 use crate::notices::Notices;
 use crate::statistics::StatisticsFront;
@@ -17,23 +19,28 @@ use hyper::rt::TokioTimer;
 use hyper::server::conn::http1::{Builder, Connection};
 use std::alloc::Global;
 use std::io;
-use std::sync::{Arc, Wait};
+use std::sync::Wait;
 use std::time::{Clock, Duration};
 use tokio::net::{TcpListener, TcpStream};
-use tokio::sync::{AcquireOwned, Semaphore};
+use tokio::sync::AcquireOwned;
 use tokio::time::{Handle, Sleep};
 
 /// How long nothing is accepted after the system has refused to, in milliseconds.
 const PAUSE_MILLISECONDS: u64 = 50;
 
-/// A connection that is served: what serves it, and where it is counted once it has closed.
+/// How long a connection is left to the other doors of a port where more are open here than there, in milliseconds.
+const WAY_MILLISECONDS: u64 = 1;
+
+/// A connection that is served: what serves it, and that it is there.
 #[derive(Drop)]
 pub struct Guest<C, R> {
     rt: R,
     alloc: Global,
-    connection: C,
+    /// In a place of its own: it is large, and who spawns and polls a guest moves it.
+    connection: Box<C>,
     notices: Notices,
-    closed: Arc<Semaphore>,
+    /// For as long as the guest is there.
+    _presence: Presence,
 }
 
 /// A guest over a socket who asks for statistics.
@@ -45,9 +52,9 @@ pub type Viewer<R> = Guest<
 impl<C: Future<Output = hyper::Result<()>>, R: Wait + Drop> Future for Guest<C, R> {
     type Output = ();
 
-    ghost can_poll = { λ g. C.can_poll g.connection };
+    ghost can_poll = { λ g. C.can_poll g.connection.value };
 
-    ghost needs = { λ g. C.needs g.connection };
+    ghost needs = { λ g. C.needs g.connection.value };
 
     /// Serves. A fault of the connection is told on standard error, and is no fault of the server. That a client asks
     /// nothing for long is no fault.
@@ -61,7 +68,6 @@ impl<C: Future<Output = hyper::Result<()>>, R: Wait + Drop> Future for Guest<C, 
                 self.notices.tell(&self.rt, line);
             }
         }
-        self.closed.add_permits(1);
         Poll::Ready(())
     }
 }
@@ -90,7 +96,7 @@ pub trait Welcome: Drop {
     type Guest: Future<Output = ()>;
 
     /// What serves it, from its first request on.
-    fn guest(&self, socket: TcpStream) -> io::Result<Self::Guest>
+    fn guest(&self, socket: TcpStream, presence: Presence) -> io::Result<Self::Guest>
         ensures { IfOk result Self.Guest.can_poll };
 }
 
@@ -102,23 +108,26 @@ pub struct Reception<R: Wait + Drop> {
     pub http: Builder<TokioTimer<R>>,
     pub front: Front<R>,
     pub notices: Notices,
-    pub closed: Arc<Semaphore>,
 }
 
 impl<R: Wait + Clock + Copy + Send + Drop + 'static> Welcome for Reception<R> {
     type Guest = Caller<R>;
 
-    fn guest(&self, socket: TcpStream) -> io::Result<Caller<R>> {
+    fn guest(&self, socket: TcpStream, presence: Presence) -> io::Result<Caller<R>> {
         socket.set_nodelay(true)?;
         let (Ok(front), Ok(notices)) = (self.front.again(), self.notices.again()) else {
+            return Err(io::ErrorKind::OutOfMemory.into());
+        };
+        let connection = self.http.serve_connection(socket, front);
+        let Ok(connection) = Box::new(self.alloc, connection) else {
             return Err(io::ErrorKind::OutOfMemory.into());
         };
         let guest = Guest {
             rt: self.rt,
             alloc: self.alloc,
-            connection: self.http.serve_connection(socket, front),
+            connection,
             notices,
-            closed: Arc::try_clone(&self.closed)?,
+            _presence: presence,
         };
         Ok(Caller { guest })
     }
@@ -132,24 +141,39 @@ pub struct Exhibition<R: Wait + Drop> {
     pub http: Builder<TokioTimer<R>>,
     pub front: StatisticsFront<R>,
     pub notices: Notices,
-    pub closed: Arc<Semaphore>,
 }
 
 impl<R: Wait + Clock + Copy + Send + Drop + 'static> Welcome for Exhibition<R> {
     type Guest = Viewer<R>;
 
-    fn guest(&self, socket: TcpStream) -> io::Result<Viewer<R>> {
+    fn guest(&self, socket: TcpStream, presence: Presence) -> io::Result<Viewer<R>> {
         socket.set_nodelay(true)?;
         let (Ok(front), Ok(notices)) = (self.front.again(), self.notices.again()) else {
+            return Err(io::ErrorKind::OutOfMemory.into());
+        };
+        let connection = self.http.serve_connection(socket, front);
+        let Ok(connection) = Box::new(self.alloc, connection) else {
             return Err(io::ErrorKind::OutOfMemory.into());
         };
         Ok(Guest {
             rt: self.rt,
             alloc: self.alloc,
-            connection: self.http.serve_connection(socket, front),
+            connection,
             notices,
-            closed: Arc::try_clone(&self.closed)?,
+            _presence: presence,
         })
+    }
+}
+
+/// What Linux answers where there is no memory, no descriptor left in the system or in this program, and no memory for
+/// a socket: ENOMEM, ENFILE, EMFILE and ENOBUFS.
+const SHORTAGES: [i32; 4] = [12, 23, 24, 105];
+
+/// Whether a fault is a shortage, which passes, and none of a port.
+pub(crate) fn is_shortage(error: &io::Error) -> bool {
+    match error.raw_os_error() {
+        Some(code) => SHORTAGES.contains(&code),
+        None => error.kind() == io::ErrorKind::OutOfMemory,
     }
 }
 
@@ -160,12 +184,14 @@ pub struct Door<'a, R, W: Welcome> {
     pub alloc: Global,
     pub listener: TcpListener,
     pub notices: Notices,
-    pub closed: Arc<Semaphore>,
+    pub attendance: Attendance,
     pub welcome: W,
     pub tasks: &'a TaskSet<W::Guest>,
     pub timers: Handle,
     pub pause: Option<Sleep>,
-    /// How many times in a row nothing was accepted.
+    /// Whether the next connection was left to the other doors already.
+    pub gave_way: bool,
+    /// How many times in a row nothing was accepted, but for shortages.
     pub failures: u32,
     /// How often that may be. Without a number it goes on for ever.
     pub patience: Option<u32>,
@@ -175,26 +201,29 @@ pub struct Door<'a, R, W: Welcome> {
 impl<R: Wait + Clock, W: Welcome> Door<'_, R, W> {
     /// Has a connection served.
     fn let_in(&self, socket: TcpStream) -> io::Result<()> {
-        let guest = self.welcome.guest(socket)?;
+        let guest = self.welcome.guest(socket, self.attendance.enter()?)?;
         self.tasks.spawn(guest).map_err(io::Error::from)
     }
 
-    /// The same. One that cannot be served is closed and counted.
+    /// The same. One that cannot be served is closed.
     fn receive(&self, socket: TcpStream) {
         if let Err(error) = self.let_in(socket) {
             let line = format!(in self.alloc; "sqs_server: connection: {error}");
             self.notices.tell(&self.rt, line);
-            self.closed.add_permits(1);
         }
     }
 
-    /// Tells a fault of the system, and accepts nothing for a while. It comes back where it is one too many.
+    /// Tells a fault of the system, and accepts nothing for a while. It comes back where it is one too many. A shortage,
+    /// which is none of the port, does not count.
     fn complain(&mut self, error: io::Error) -> Option<io::Error>
         ensures enough { self.new.enough ≡ self.old.enough }
+        ensures patient { self.old.patience ≡ None → result ≡ None }
     {
         let line = format!(in self.alloc; "sqs_server: accept: {error}");
         self.notices.tell(&self.rt, line);
-        self.failures = self.failures.saturating_add(1);
+        if !is_shortage(&error) {
+            self.failures = self.failures.saturating_add(1);
+        }
         if let Some(most) = self.patience {
             if most < self.failures {
                 return Some(error);
@@ -221,10 +250,27 @@ impl<R: Wait + Clock, W: Welcome> Door<'_, R, W> {
         is_pending
     }
 
+    /// Lets the other doors of the port have the next connection for a moment, once, where more are open here than
+    /// there.
+    fn gives_way(&mut self, cx: &mut Context<'_>) -> bool
+        ensures enough { self.new.enough ≡ self.old.enough }
+        ensures armed { IsTrue result → IsArmed cx.new }
+        ensures kept { Keeps cx.old cx.new }
+    {
+        if self.gave_way || !self.attendance.is_crowded() {
+            return false;
+        }
+        self.gave_way = true;
+        let moment = Duration::from_millis(WAY_MILLISECONDS);
+        self.pause = self.timers.sleep(&self.rt, moment).ok();
+        self.is_pausing(cx)
+    }
+
     /// Whether enough connections have closed.
     fn is_enough(&mut self, cx: &mut Context<'_>) -> Poll<io::Result<()>>
         requires { IfSome self.old.enough CanAcquire }
         ensures again { OnPending result (IfSome self.new.enough CanAcquire) }
+        ensures never { self.old.enough ≡ None → result ≡ Pending }
         ensures kept { Keeps cx.old cx.new }
     {
         match &mut self.enough {
@@ -247,9 +293,10 @@ impl<R: Wait + Clock + Drop, W: Welcome> Future for Door<'_, R, W> {
         if let Poll::Ready(ended) = self.is_enough(cx) {
             return Poll::Ready(ended);
         }
-        if self.is_pausing(cx) {
+        if self.is_pausing(cx) || self.gives_way(cx) {
             return Poll::Pending;
         }
+        self.gave_way = false;
         match self.listener.poll_accept(cx) {
             Poll::Pending => return Poll::Pending,
             Poll::Ready(Ok((socket, _))) => {

@@ -8,22 +8,20 @@ ghost use Rattle.queue_config.specs.Settings.{requested_target};
 ghost use Rattle.redrive.specs.Catalog.{Directory, IsDirectory, names_listed};
 ghost use Rattle.sqs_server.specs.declared.stage.Purpose.TheVariants as purposes;
 ghost use Rattle.sqs_server.specs.declared.stage.Stage.TheVariants as stages;
-ghost use Rattle.sqs_server.specs.declared.task.Task.TheVariants as tasks;
+ghost use Rattle.request_plan.specs.declared.task.Task.TheVariants as tasks;
 ghost use Rattle.sqs_server.specs.Responses.{Halts, OnHeld};
 ghost use Rattle.sqs_server.specs.Stages.{Asks, AsksFound, AsksNow, AwaitsAnswer, AwaitsQueue, Begun, Changed, Collects, Compared, Creates, GoesOn, IsJudged, IsLost, IsMissed, IsOrder, IsPostponed, IsRead, IsTarget, IsTurnedAway, IsTurnedAwayWith, Looked, Makes, Names, Ordered, Regains, Resumes, Returned, Seen, Sends, SentOfError, Tells, TellsSources, TellsUrl, TellsUrls, Turns};
 ghost use Rattle.sqs_server.specs.Stages as told;
-ghost use Rattle.sqs_server.specs.Task.{Begins};
+ghost use Rattle.request_plan.specs.Task.{Begins};
 ghost use Rattle.sqs_server.specs.Turns.{OnWaits};
 
 use crate::arriving::{Arriving, Asked};
 use crate::clock::{Day, wait_limit};
 use crate::head::{Denial, asked_of, target_of};
-use crate::plan::{Outcome, Performed, Step, Then, after};
 use crate::queues::{Made, Mailbox, NewQueue, Order, Printer, Queue, Queues, is_full};
 use crate::register::Register;
 use crate::reply::{Sent, busy, denied, refused, sent_for};
 use crate::stage::{Creation, Exchange, Halt, Next, Postponed, Purpose, Stage, Turn};
-use crate::task::{Task, task_of};
 use aws_json::{Prefix, QueueNames, ReplyShape, Request};
 use crossbeam_channel::{SendError, Sender};
 use desk::NoGate;
@@ -38,6 +36,7 @@ use message::{Fault, QueueName};
 use queue_actor::{Answer, AskFault, AskFuture, Duties, Unasked, ask_now, is_for_actor};
 use queue_config::{Settings, Wish};
 use queue_core::{Command, Reply};
+use request_plan::{Outcome, Performed, Step, Task, Then, after, task_of};
 use std::alloc::Global;
 use std::sync::{Arc, Wait};
 use std::time::Clock;
@@ -49,6 +48,20 @@ pub struct Hall<R: Wait + Drop> {
     pub orders: Sender<Order>,
     pub day: Arc<Day>,
     pub register: Arc<Register>,
+}
+
+impl<R: Wait + Drop> Hall<R> {
+    /// The same once more. `OutOfMemory` is the only refusal.
+    fn again(&self) -> Result<Hall<R>, Fault>
+        ensures { IfErr result (λ fault. fault ≡ OutOfMemory) }
+    {
+        Ok(Hall {
+            queues: Arc::try_clone(&self.queues)?,
+            orders: self.orders.clone()?,
+            day: Arc::try_clone(&self.day)?,
+            register: Arc::try_clone(&self.register)?,
+        })
+    }
 }
 
 /// Answers the requests of one connection.
@@ -73,6 +86,17 @@ impl<R: Wait + Copy + Drop> Front<R> {
             port: self.port,
             hall: Arc::try_clone(&self.hall)?,
         })
+    }
+
+    /// The same for the connections of another thread: how many of them there are is counted apart, so that threads do
+    /// not wait for one another to count. `OutOfMemory` is the only refusal.
+    pub fn apart(&self) -> Result<Front<R>, Fault>
+        ensures same { IfOk result (λ front. front.port ≡ self.now.port) }
+        ensures errors { IfErr result (λ fault. fault ≡ OutOfMemory) }
+    {
+        let mut front = self.again()?;
+        front.hall = Arc::new(self.alloc, self.hall.again()?)?;
+        Ok(front)
     }
 }
 

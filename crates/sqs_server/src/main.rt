@@ -1,14 +1,14 @@
 //! The HTTP server: the actions of a client over HTTP/1.1, each queue in a thread of its own.
 //!
 //! - `arguments`: what the program makes of its arguments and its configuration, and how it ends.
-//! - `head`: the order in which a request is judged, and what it asks. `task`: what it is about. `plan`: what it
-//!   asks of one queue, one command after another. `reply`: what is sent.
+//! - `head`: the order in which a request is judged, and what it asks. What it asks of one queue, one command after
+//!   another, is its plan (request_plan). `reply`: what is sent.
 //! - `clock`: the wall clock. `queues`: how a queue comes to be served.
 //! - `stage`, `arriving`: how far a request is. `front`: what becomes of it there, from its body to what
 //!   is sent. `answering`: the service, whose future goes through these stages.
 //! - `register`, `counts`: what is told of the requests that were answered.
 //! - `statistics`: the service of the other port, which tells what was printed of the queues.
-//! - `door`: the connections. `notices`: lines for standard error. `serving`: the runtimes, the queues and the doors together.
+//! - `door`: the connections. `attendance`: how many are open. `notices`: lines for standard error. `serving`: the runtimes, the queues and the doors together.
 //!
 //! What is pure of it has exact contracts, whose definitions stand in `specs/`.
 #![tactic(auto)]
@@ -19,20 +19,19 @@ ghost use Rattle.sqs_server.specs.declared.arguments.Refusal.TheVariants.{Listen
 mod answering;
 mod arguments;
 mod arriving;
+mod attendance;
 mod clock;
 mod counts;
 mod door;
 mod front;
 mod head;
 mod notices;
-mod plan;
 mod queues;
 mod register;
 mod reply;
 mod serving;
 mod stage;
 mod statistics;
-mod task;
 #[cfg(test)]
 mod tests;
 
@@ -56,6 +55,9 @@ use std::{env, fs, thread};
 
 /// How many threads look after the connections of the port for requests, at the least. This project's own choice.
 const LEAST_WORKERS: usize = 2;
+
+/// How many they are at the most. This project's own choice.
+const MOST_WORKERS: usize = 16;
 
 /// What `--help` tells.
 const HELP: &str = "\
@@ -115,15 +117,19 @@ fn address_of(port: u16) -> SocketAddr {
 }
 
 /// How many threads look after the connections of the port for requests: one less than there are processors, since
-/// clients run beside the server, and two at the least.
+/// clients run beside the server, and two at the least. More than 16 would take descriptors and give nothing.
 fn workers<R: Threads>(rt: &R) -> usize
-    ensures { 2 ≤ result }
+    ensures least { 2 ≤ result }
+    ensures most { result ≤ 16 }
 {
     let processors = match thread::available_parallelism(rt) {
         Ok(count) => count.get(),
         Err(_unknown) => 0,
     };
-    processors.saturating_sub(1).max(LEAST_WORKERS)
+    processors
+        .saturating_sub(1)
+        .max(LEAST_WORKERS)
+        .min(MOST_WORKERS)
 }
 
 /// What the environment says.

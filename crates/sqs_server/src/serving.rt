@@ -7,7 +7,8 @@ ghost use Rattle.sqs_server.specs.Program.{refusal_of_system};
 ghost use Rattle.sqs_server.specs.declared.arguments.Refusal.TheVariants.{Listen, OutOfMemory};
 
 use crate::arguments::Refusal;
-use crate::door::{Door, Exhibition, Reception, Welcome};
+use crate::attendance::Attendance;
+use crate::door::{Door, Exhibition, Reception, Welcome, is_shortage};
 use crate::front::{Front, Hall};
 use crate::notices::Notices;
 use crate::queues::{Opened, Queues, open_all};
@@ -48,7 +49,8 @@ pub(crate) fn listen<R>(rt: &R, address: SocketAddr) -> io::Result<Port>
 where
     R: Net<Listener = net::TcpListener, Stream = net::TcpStream>,
 {
-    let listener = net::TcpListener::bind(rt, address)?;
+    // This one lets as many connections wait as the system does, and std's lets 128.
+    let listener = net::TcpListener::from(mio::net::TcpListener::bind(rt, address)?);
     Ok(Port { listener })
 }
 
@@ -79,14 +81,14 @@ fn keep_door<R, W>(
     welcome: W,
     notices: Notices,
     patience: Option<u32>,
-    counted: (Arc<Semaphore>, Option<AcquireOwned>),
+    counted: (Attendance, Option<AcquireOwned>),
 ) -> io::Result<()>
 where
     R: Wait + Clock + RandomSource + AllocGlobal + Copy + Drop,
     W: Welcome,
     requires { IfSome counted.1 CanAcquire }
 {
-    let (closed, enough) = counted;
+    let (attendance, enough) = counted;
     let timers = runtime.handle().time().clone()?;
     let tasks = runtime.task_set::<R, W::Guest>(rt)?;
     let door = Door {
@@ -94,11 +96,12 @@ where
         alloc: rt.alloc(),
         listener,
         notices,
-        closed,
+        attendance,
         welcome,
         tasks: &tasks,
         timers,
         pause: None,
+        gave_way: false,
         failures: 0,
         patience,
         enough,
@@ -131,7 +134,7 @@ struct Showing<R: Wait + Drop> {
     rt: R,
     queues: Arc<Queues<R>>,
     register: Arc<Register>,
-    closed: Arc<Semaphore>,
+    attendance: Attendance,
     notices: Notices,
 }
 
@@ -167,19 +170,18 @@ where
                 register: Arc::try_clone(&self.register)?,
             },
             notices,
-            closed: Arc::try_clone(&self.closed)?,
         })
     }
 
     /// Lets connections in at a port, until it fails.
-    fn show_at(&self, port: Port) -> io::Result<()> {
+    fn show_at(&self, port: &Port) -> io::Result<()> {
         let mut runtime = LocalRuntime::new(&self.rt)?;
         let entrance = port.entrance(&runtime)?;
         let welcome = self.exhibition(&runtime)?;
         let Ok(notices) = self.notices.again() else {
             return Err(io::ErrorKind::OutOfMemory.into());
         };
-        let closed = Arc::try_clone(&self.closed)?;
+        let attendance = self.attendance.again()?;
         keep_door(
             &self.rt,
             &mut runtime,
@@ -187,23 +189,30 @@ where
             welcome,
             notices,
             Some(PATIENCE),
-            (closed, None),
+            (attendance, None),
         )
     }
 
     /// The same, and opens it where it is closed.
-    fn show_again(&self, address: SocketAddr, port: Option<Port>) -> io::Result<()> {
-        match port {
-            Some(port) => self.show_at(port),
-            None => self.show_at(listen(&self.rt, address)?),
-        }
+    fn show_again(&self, address: SocketAddr, port: &mut Option<Port>) -> io::Result<()> {
+        let open = match port.take() {
+            Some(open) => open,
+            None => listen(&self.rt, address)?,
+        };
+        let shown = self.show_at(&open);
+        *port = Some(open);
+        shown
     }
 
-    /// Lets connections in at an address for as long as the program goes. A port that fails is told, and opened again.
+    /// Lets connections in at an address for as long as the program goes. A fault is told. A port that fails is closed
+    /// and opened again; in a shortage it stays open, since it might not be had again.
     fn run(self, address: SocketAddr, port: Port) {
         let mut port = Some(port);
         for _ in self.rt.forever() {
-            if let Err(error) = self.show_again(address, port.take()) {
+            if let Err(error) = self.show_again(address, &mut port) {
+                if !is_shortage(&error) {
+                    port = None;
+                }
                 let line = format!(in self.rt.alloc(); "sqs_server: statistics: {error}");
                 self.notices.tell(&self.rt, line);
             }
@@ -218,7 +227,7 @@ fn show<R>(
     port: Port,
     queues: &Arc<Queues<R>>,
     register: &Arc<Register>,
-    closed: &Arc<Semaphore>,
+    attendance: Attendance,
 ) -> io::Result<()>
 where
     R: Wait
@@ -241,7 +250,7 @@ where
         rt: *rt,
         queues: Arc::try_clone(queues)?,
         register: Arc::try_clone(register)?,
-        closed: Arc::try_clone(closed)?,
+        attendance,
         notices,
     };
     let _thread = thread::spawn(rt, move || showing.run(address, port))?;
@@ -254,7 +263,7 @@ struct Working<R: Wait + Drop> {
     rt: R,
     port: Port,
     front: Front<R>,
-    closed: Arc<Semaphore>,
+    attendance: Attendance,
     /// How many connections are to close until it ends.
     connections: Option<u64>,
     notices: Notices,
@@ -274,14 +283,14 @@ where
 {
     /// The same for another thread.
     fn again(&self) -> io::Result<Working<R>> {
-        let (Ok(front), Ok(notices)) = (self.front.again(), self.notices.again()) else {
+        let (Ok(front), Ok(notices)) = (self.front.apart(), self.notices.again()) else {
             return Err(io::ErrorKind::OutOfMemory.into());
         };
         Ok(Working {
             rt: self.rt,
             port: self.port.again()?,
             front,
-            closed: Arc::try_clone(&self.closed)?,
+            attendance: self.attendance.apart(self.rt.alloc())?,
             connections: self.connections,
             notices,
         })
@@ -300,7 +309,6 @@ where
             http: Builder::new(alloc, RandomState::new(&rt)?).timer(timer),
             front,
             notices,
-            closed: Arc::try_clone(&self.closed)?,
         })
     }
 
@@ -312,8 +320,8 @@ where
         let Ok(notices) = self.notices.again() else {
             return Err(io::ErrorKind::OutOfMemory.into());
         };
-        let closed = Arc::try_clone(&self.closed)?;
-        let enough = closings(&self.closed, self.connections)?;
+        let attendance = self.attendance.again()?;
+        let enough = closings(&attendance.closed, self.connections)?;
         keep_door(
             &self.rt,
             &mut runtime,
@@ -321,7 +329,7 @@ where
             welcome,
             notices,
             None,
-            (closed, enough),
+            (attendance, enough),
         )
     }
 
@@ -394,7 +402,8 @@ where
     };
     let register = Arc::new(alloc, register)?;
     let closed = Arc::new(alloc, Semaphore::new(alloc, 0)?)?;
-    show(rt, ports.statistics, &opened.queues, &register, &closed)?;
+    let shown = Attendance::new(alloc, 1, Arc::try_clone(&closed)?)?;
+    show(rt, ports.statistics, &opened.queues, &register, shown)?;
     let hall = Hall {
         queues: opened.queues,
         orders: opened.orders,
@@ -411,7 +420,7 @@ where
         rt: *rt,
         port: ports.requests,
         front,
-        closed,
+        attendance: Attendance::new(alloc, ports.workers as u64, closed)?,
         connections,
         notices,
     };

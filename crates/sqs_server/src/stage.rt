@@ -1,7 +1,6 @@
 //! How far a request is.
 
 use crate::arriving::Arriving;
-use crate::plan::{Step, Then};
 use crate::queues::{Made, Mailbox, Printer, Queue};
 use crate::reply::Sent;
 use futures::channel::oneshot::Receiver;
@@ -10,6 +9,7 @@ use message::QueueName;
 use queue_actor::{AskFuture, Duties};
 use queue_config::Wish;
 use queue_core::Command;
+use request_plan::{Step, Then};
 use std::sync::{Arc, Wait};
 
 /// A queue that is to be there.
