@@ -2,15 +2,16 @@
 """Shows that a send ends a receive that waits, that dead letters move on, and that clients beside one another neither lose messages nor share one.
 
 Usage: polls.py [PORT], by default 9324, with the server started before, as clients/run.sh does. It makes queues of its own, under names that end by chance,
-and deletes them where their part is done. The first part that does not hold ends the program with status 1: its queues stay there to be looked at. The last
-part only measures. A delay begins when the answer to what was asked just before has been read, as that to the send, and ends when that to the receive has.
+and deletes them where their part is done. Each part says in a line what it saw. Where one does not hold, it says why and leaves its queues to be looked at,
+the others are done all the same, and the program ends with status 1. A delay begins when the answer to what was asked just before has been read, as that to
+the send, and ends when that to the receive has. The environment can name the parts that are wanted, as POLLS_ONLY=one_waits,letter_moves does, and with
+POLLS_SHARE=N each is done an Nth as often.
 """
-
 import collections
-import contextlib
 import http.client
 import itertools
 import json
+import os
 import random
 import resource
 import select
@@ -20,150 +21,49 @@ import time
 from concurrent.futures import ThreadPoolExecutor
 
 sys.dont_write_bytecode = True
-from rate_servers import unread
+from polls_client import READ, Client, Limit, check_empty, clients, fail, few, handle_of, is_taken, pause, settle, tell
+from polls_faults import faulty_work
 
-PORT = int(sys.argv[1]) if len(sys.argv) > 1 else 9324
-# All times are in seconds. A receive that waits is answered at most so long behind its send, and the middle one at most so long. Ten ticks a second end waits,
-# too: where no send did, the slowest could be just within its limit, and the middle would be far beyond its own.
-WOKEN, WOKEN_MIDDLE = 0.1, 0.03
-# A dead letter is received at most so long behind the receive by which it left its queue.
-MOVED = 0.3
+# All times are in seconds. How much later than its send a receive that waits is answered. Ten ticks a second end waits, too: where no send did, half of the
+# rounds would be beyond 0.05. A busy machine may hold up three rounds of the 500 of a kind.
+WOKEN = Limit(each=0.2, most=0.05, but=3, middle=0.03)
+# How much later than the last of many sends the last of as many receives is answered.
+CROWD_WOKEN = Limit(each=0.1)
+# How much later than the receive by which it left its queue a dead letter is received. By the ticks alone the middle one would be some 0.05.
+MOVED = Limit(each=0.3, middle=0.03)
 # Where a client left while it waited, another receives the message at most so long behind its send: one that went to the first comes back after 1.
-RETURNED = 2.5
-# The longest pause between a receive that waits and its send.
-PAUSE = 0.003
+RETURNED = Limit(each=2.5)
+# The same for a client whose leaving is not seen, and for how long a message that it took is in flight.
+UNSEEN_RETURNED, UNSEEN_TIMEOUT = Limit(each=2.5), 2
 # How often each part is done.
-ROUNDS, CROWD_ROUNDS, LETTERS, LEAVERS = 1_000, 20, 100, 100
+ROUNDS, CROWD_ROUNDS, LETTERS, LEAVERS, UNSEEN = few(1_000), few(20), few(100), few(100), few(10)
 CROWD = 50
 # The eight clients: all messages, with how many that it did not delete a client receives no more, and after how long without any the rest counts as lost.
-WORKERS, MESSAGES, HELD, QUIET = 8, 10_000, 20, 60
+WORKERS, MESSAGES, HELD, QUIET = 8, few(10_000), 20, 60
 # A client that sends does it more often than it receives: else all of them would soon wait for one another.
 STEPS = ("send",) * 8 + ("receive", "delete")
-# The last part: sends that are timed, and receives that wait meanwhile.
-SENDS, WAITING = 200, 1_000
-# How long the server may take to read what was sent to it.
-READ = 15
-
-
-def fail(text):
-    """Ends the program, or the thread that then has the program end."""
-    sys.exit(f"polls.py: {text}")
-
-
-class Client:
-    """A connection to the server that is kept open, and when its last answer had been read."""
-
-    def __init__(self):
-        self.connection, self.answered = http.client.HTTPConnection("127.0.0.1", PORT, timeout=60), None
-
-    def __enter__(self):
-        return self
-
-    def __exit__(self, *_):
-        self.connection.close()
-
-    def ask(self, action, **members):
-        """Sends a request, and waits for nothing."""
-        headers = {"X-Amz-Target": f"AmazonSQS.{action}", "Content-Type": "application/x-amz-json-1.0"}
-        self.action = action
-        self.connection.request("POST", "/", json.dumps(members).encode(), headers)
-
-    def answer(self):
-        """Waits for the answer to the request that was sent, and returns its members. One that is no success ends the program."""
-        reply = self.connection.getresponse()
-        text = reply.read().decode()
-        self.answered = time.monotonic()
-        if reply.status != 200:
-            fail(f"{self.action}: {reply.status} {text}")
-        return json.loads(text or "{}")
-
-    def call(self, action, **members):
-        """Asks for an action, and returns the members of its answer."""
-        self.ask(action, **members)
-        return self.answer()
-
-    def make(self, name, **attributes):
-        """Makes a queue whose name begins so, and returns its URL."""
-        return self.call("CreateQueue", QueueName=f"{name}-{random.randrange(16**8):08x}", Attributes=attributes)["QueueUrl"]
-
-    def send(self, url, body):
-        """Sends a message, and returns its id."""
-        return self.call("SendMessage", QueueUrl=url, MessageBody=body)["MessageId"]
-
-    def receive(self, url, **members):
-        """Returns the messages that a receive offers."""
-        return self.call("ReceiveMessage", QueueUrl=url, **members).get("Messages", [])
-
-    def delete(self, url, handles):
-        """Deletes one message by itself, and several in a batch."""
-        if len(handles) == 1:
-            self.call("DeleteMessage", QueueUrl=url, ReceiptHandle=handles[0])
-            return
-        failed = self.call("DeleteMessageBatch", QueueUrl=url, Entries=[{"Id": str(at), "ReceiptHandle": it} for at, it in enumerate(handles)])["Failed"]
-        if failed:
-            fail(f"DeleteMessageBatch: failed {failed}")
-
-    def drop(self, *urls):
-        """Deletes queues."""
-        for it in urls:
-            self.call("DeleteQueue", QueueUrl=it)
-
-
-def clients(count):
-    """Returns so many clients, and what closes them all."""
-    stack = contextlib.ExitStack()
-    return stack, [stack.enter_context(Client()) for _ in range(count)]
-
-
-def pause():
-    """Waits not at all, or some part of the longest pause."""
-    time.sleep(random.choice((0, random.uniform(0, PAUSE))))
-
-
-def handle_of(messages, identity, body, what):
-    """Returns the receipt handle of the one message that was to come. Any others end the program."""
-    found = [(it["MessageId"], it["Body"]) for it in messages]
-    if found != [(identity, body)]:
-        fail(f"{what}: received {found}, and not the message {identity} with the body {body!r} alone")
-    return messages[0]["ReceiptHandle"]
-
-
-def is_taken(client, url):
-    """Waits until the server has read all that was sent to it and the queue has come to it. Tells whether it has."""
-    end = time.monotonic() + READ
-    while unread(PORT):
-        if time.monotonic() > end:
-            return False
-        time.sleep(0.01)
-    time.sleep(0.05)
-    # this is answered behind all that was mailed to the queue before
-    client.call("GetQueueAttributes", QueueUrl=url)
-    return True
-
-
-def tell(what, delays, limit, middle=None):
-    """Prints the slowest delay and the middle one. One beyond its limit ends the program."""
-    slowest, half = max(delays), statistics.median(delays)
-    print(f"{what}: the slowest {1000 * slowest:.1f} ms, the middle {1000 * half:.1f} ms", flush=True)
-    if slowest > limit:
-        fail(f"{what}: the slowest took {1000 * slowest:.1f} ms, and {1000 * limit:.0f} ms are allowed")
-    if middle is not None and half > middle:
-        fail(f"{what}: the middle was {1000 * half:.1f} ms, and {1000 * middle:.0f} ms are allowed")
+# The last part: how often the kinds take turns, how many sends are timed in each turn, how many receives wait, and how many times as long the middle one of
+# all sends may take. Where other programs keep the processors busy, sends to the queue at which receives wait take twice as long for some seconds at times. So
+# it is too long where each of so many attempts says so.
+TURNS, SENDS, WAITING, FACTOR, ATTEMPTS = few(10), 20, 1_000, 2, 3
 
 
 def one_waits():
-    """A send ends a receive on another connection, which has just been sent, is parked at that moment, or was before."""
-    what, delays = f"a send ends a receive that waits, {ROUNDS} times", []
+    """A send ends a receive on another connection, which in every other round is parked before for sure. Else it has just been sent, is parked at that moment,
+    or was before."""
+    delays = {True: [], False: []}
     with Client() as sender, Client() as receiver:
         url = sender.make("polls-one")
         for number in range(ROUNDS):
+            is_parked = number % 2 == 0
             receiver.ask("ReceiveMessage", QueueUrl=url, WaitTimeSeconds=5)
-            pause()
+            settle(sender, url) if is_parked else pause()
             identity = sender.send(url, str(number))
             messages = receiver.answer().get("Messages", [])
-            delays.append(receiver.answered - sender.answered)
-            receiver.delete(url, [handle_of(messages, identity, str(number), f"{what}, round {number}")])
-        tell(what, delays, WOKEN, WOKEN_MIDDLE)
+            delays[is_parked].append(receiver.answered - sender.answered)
+            receiver.delete(url, [handle_of(messages, identity, str(number), f"a send ends a receive that waits, round {number}")])
+        tell(f"a send ends a receive that is parked, {len(delays[True])} times", delays[True], WOKEN)
+        tell(f"a send ends a receive that comes to be parked, {len(delays[False])} times", delays[False], WOKEN)
         sender.drop(url)
 
 
@@ -194,30 +94,57 @@ def crowd_waits():
             delays.append(max(it.answered for it in crowd) - last)
             for it, message in zip(crowd, messages, strict=True):
                 it.delete(url, [message["ReceiptHandle"]])
-        tell(what, delays, WOKEN)
+        tell(what, delays, CROWD_WOKEN)
         sender.drop(url)
 
 
-def letter_moves():
-    """A dead letter moves on behind the receive by which it leaves its queue, though that does not wait."""
-    what, delays = f"a dead letter moves behind a receive that does not wait, {LETTERS} times", []
+def with_letters(client):
+    """Makes a queue whose messages leave behind their first receive, and the one for its dead letters. Returns the URLs of both."""
+    dead = client.make("polls-dead")
+    policy = {"deadLetterTargetArn": f"arn:aws:sqs:elasticmq:000000000000:{dead.rsplit('/', 1)[1]}", "maxReceiveCount": 1}
+    return client.make("polls-jobs", RedrivePolicy=json.dumps(policy)), dead
+
+
+def leave(client, jobs, text, what):
+    """Sends a message, and has it leave by a receive that is answered at once, for which the queue's actor was idle. Returns its id."""
+    identity = client.send(jobs, text)
+    handle_of(client.receive(jobs, VisibilityTimeout=0), identity, text, f"{what}, at first")
+    settle(client, jobs)
+    again = client.receive(jobs)
+    if again:
+        fail(f"{what}: received {again}, where the message was to leave")
+    return identity
+
+
+def letters_move(name, is_parked):
+    """Has dead letters move to a client whose receive waits for them, or to one that asks again and again and does not wait."""
+    what, delays = f"a dead letter moves behind a receive that does not wait, to {name}, {LETTERS} times", []
     with Client() as client, Client() as reader:
-        dead = client.make("polls-dead")
-        policy = {"deadLetterTargetArn": f"arn:aws:sqs:elasticmq:000000000000:{dead.rsplit('/', 1)[1]}", "maxReceiveCount": 1}
-        jobs = client.make("polls-jobs", RedrivePolicy=json.dumps(policy))
+        jobs, dead = with_letters(client)
         for number in range(LETTERS):
-            identity = client.send(jobs, str(number))
-            handle_of(client.receive(jobs, VisibilityTimeout=0), identity, str(number), f"{what}, round {number}, at first")
-            again = client.receive(jobs)
-            if again:
-                fail(f"{what}, round {number}: received {again}, where the message was to leave")
-            messages = reader.receive(dead, WaitTimeSeconds=5)
+            text = str(number)
+            if is_parked:
+                reader.ask("ReceiveMessage", QueueUrl=dead, WaitTimeSeconds=5)
+            identity = leave(client, jobs, text, f"{what}, round {number}")
+            messages = reader.answer().get("Messages", []) if is_parked else asked_again(reader, dead, client.answered + 5)
             delays.append(reader.answered - client.answered)
-            reader.delete(dead, [handle_of(messages, identity, str(number), f"{what}, round {number}, as a dead letter")])
+            reader.delete(dead, [handle_of(messages, identity, text, f"{what}, round {number}, as a dead letter")])
         tell(what, delays, MOVED)
         client.drop(jobs, dead)
 
 
+def asked_again(client, url, end):
+    """Receives without a wait until a message comes or the time is over, and returns what came."""
+    while True:
+        messages = client.receive(url, WaitTimeSeconds=0)
+        if messages or client.answered > end:
+            return messages
+
+
+def letter_moves():
+    """A dead letter moves on behind the receive by which it leaves its queue, though that does not wait."""
+    letters_move("one that waits", True)
+    letters_move("one that asks again and again", False)
 class Ledger:
     """What clients have sent and received, all together."""
 
@@ -282,15 +209,6 @@ def leaves(url, what):
     return delays
 
 
-def check_empty(url, what):
-    """Ends the program where a queue has messages."""
-    names = ["ApproximateNumberOfMessages", "ApproximateNumberOfMessagesDelayed", "ApproximateNumberOfMessagesNotVisible"]
-    with Client() as client:
-        found = client.call("GetQueueAttributes", QueueUrl=url, AttributeNames=names)["Attributes"]
-    if found != dict.fromkeys(names, "0"):
-        fail(f"{what}: in the end the queue has {found}")
-
-
 def many_work():
     """Clients that send, receive and delete on one queue, each message in flight once at most; beside them clients leave another queue while they wait."""
     what = f"{WORKERS} clients on one queue, of which {WORKERS // 2} send {MESSAGES} messages"
@@ -317,64 +235,124 @@ def many_work():
         client.drop(url, left)
 
 
-def middle_of_sends(client, url):
-    """Returns how many milliseconds a send takes, the middle of all."""
+def unseen_leaves():
+    """A client leaves while it waits, and has sent a byte more, so that its leaving need not be seen: the next message comes to another client, at the latest
+    behind its timeout."""
+    what, delays = f"a client leaves behind one byte more, {UNSEEN} times, and another gets the message", []
+    with Client() as sender, Client() as receiver:
+        url = sender.make("polls-unseen", VisibilityTimeout=str(UNSEEN_TIMEOUT))
+        for number in range(UNSEEN):
+            with Client() as leaver:
+                leaver.ask("ReceiveMessage", QueueUrl=url, WaitTimeSeconds=5)
+                leaver.connection.sock.sendall(b"~")
+            settle(sender, url)
+            identity = sender.send(url, str(number))
+            messages = receiver.receive(url, WaitTimeSeconds=10)
+            delays.append(receiver.answered - sender.answered)
+            receiver.delete(url, [handle_of(messages, identity, str(number), f"{what}, round {number}")])
+        tell(what, delays, UNSEEN_RETURNED)
+        print(f"  {sum(it > UNSEEN_TIMEOUT - 0.1 for it in delays)} of these messages went to the one that had left, and came back", flush=True)
+        sender.drop(url)
+
+
+def times_of_sends(client, url):
+    """Returns how many milliseconds each of some sends takes."""
     taken = []
     for number in range(SENDS):
         start = time.monotonic()
         client.send(url, str(number))
         taken.append(1000 * (client.answered - start))
-    return statistics.median(taken)
+    return taken
 
 
 def files_allowed(wanted):
-    """Lets this program open so many files where the system allows it, and returns how many it may open."""
+    """Lets this program open so many files, and tells whether the system allows it."""
     soft, hard = resource.getrlimit(resource.RLIMIT_NOFILE)
     if soft != resource.RLIM_INFINITY and soft < wanted:
         soft = wanted if hard == resource.RLIM_INFINITY else min(wanted, hard)
         resource.setrlimit(resource.RLIMIT_NOFILE, (soft, hard))
-    return wanted if soft == resource.RLIM_INFINITY else soft
+    return soft == resource.RLIM_INFINITY or soft >= wanted
 
 
-def messages_come(waiting):
-    """Returns how many of the clients that wait have an answer with a message, once none has come for a second."""
-    ready, by_number, count = select.poll(), {it.connection.sock.fileno(): it for it in waiting}, 0
+def answers_come(waiting, quiet):
+    """Returns how many messages came to each of the clients that wait and have an answer, once none has come for a time."""
+    ready, by_number, found = select.poll(), {it.connection.sock.fileno(): it for it in waiting}, []
     for number in by_number:
         ready.register(number, select.POLLIN)
-    while found := ready.poll(1000):
-        for number, _ in found:
+    while events := ready.poll(1000 * quiet):
+        for number, _ in events:
             ready.unregister(number)
-            count += len(by_number[number].answer().get("Messages", []))
-    return count
+            found.append(len(by_number[number].answer().get("Messages", [])))
+    return found
+
+
+def beside_many(client, waited, other, what):
+    """Times sends to a queue where none waits, then to the same while many receives wait at another, and then to that, where each send ends one wait."""
+    stack, waiting = clients(WAITING)
+    alone = times_of_sends(client, other)
+    with stack:
+        for it in waiting:
+            it.ask("ReceiveMessage", QueueUrl=waited, WaitTimeSeconds=20)
+        if not is_taken(client, waited):
+            fail(f"{what}: not measured: the server did not read them within {READ} s: it is slow, or may not open so many files")
+        beside = times_of_sends(client, other)
+        early = answers_come(waiting, 0)
+        same = times_of_sends(client, waited)
+        found = answers_come(waiting, 1)
+    if early:
+        fail(f"{what}: not measured: {len(early)} of the receives were answered before a message was sent to them")
+    if found != [1] * SENDS:
+        fail(f"{what}: {len(found)} receives were answered, with {sum(found)} messages, where {SENDS} were to be with one each")
+    # those that have left are gone before the next round
+    is_taken(client, waited)
+    return alone, beside, same
+
+
+def longest_beside(client, waited, other, what):
+    """Prints how long sends take, and returns how many times as long they take where many receives wait, at one queue or the other. The kinds take turns: so
+    what slows the machine for a while slows all of them."""
+    turns = [beside_many(client, waited, other, what) for _ in range(TURNS)]
+    alone, beside, same = (statistics.median(itertools.chain(*it)) for it in zip(*turns))
+    line = f"{what}: the middle {beside:.2f} ms where they wait at another queue, {same:.2f} ms at the same, and {alone:.2f} ms where none waits"
+    print(f"{line}: {beside / alone:.2f} and {same / alone:.2f} times as long", flush=True)
+    return max(beside, same) / alone
 
 
 def sends_beside_many():
-    """Measures sends to a queue where nobody waits, and where many do. Each of the sends ends one wait."""
-    count = min(WAITING, files_allowed(WAITING + 100) - 100)
-    what = f"{SENDS} sends to a queue where {count} receives wait"
-    stack, waiting = clients(count)
-    with Client() as client, stack:
-        url = client.make("polls-beside")
-        alone = middle_of_sends(client, url)
-        client.call("PurgeQueue", QueueUrl=url)
-        for it in waiting:
-            it.ask("ReceiveMessage", QueueUrl=url, WaitTimeSeconds=20)
-        if is_taken(client, url):
-            beside = middle_of_sends(client, url)
-            print(f"{what}: the middle {beside:.2f} ms, and {alone:.2f} ms where none waits: {beside / alone:.2f} times as long", flush=True)
-            print(f"  {messages_come(waiting)} of the receives got a message", flush=True)
-        else:
-            print(f"{what}: not measured, since the server did not read them within {READ} s: it is slow, or may not open so many files", flush=True)
+    """A send is answered as fast where many receives wait, at another queue or at the same, as where none does."""
+    what = f"{SENDS * TURNS} sends beside {WAITING} receives that wait"
+    if not files_allowed(WAITING + 100):
+        fail(f"{what}: not measured: this program may not open so many files")
     with Client() as client:
-        client.drop(url)
+        waited, other = client.make("polls-waited"), client.make("polls-other")
+        if all(longest_beside(client, waited, other, what) > FACTOR for _ in range(ATTEMPTS)):
+            fail(f"{what}: {FACTOR} times as long as where none waits is allowed, in one of {ATTEMPTS} attempts")
+        client.drop(waited, other)
+
+
+PARTS = (one_waits, crowd_waits, letter_moves, many_work, faulty_work, unseen_leaves, sends_beside_many)
+
+
+def holds(part):
+    """Does a part, and tells whether it holds. Of one that does not it says why."""
+    try:
+        part()
+        return True
+    except SystemExit as error:
+        print(error.code, file=sys.stderr, flush=True)
+    except (OSError, http.client.HTTPException) as error:
+        print(f"polls.py: {part.__name__}: the server did not answer: {error!r}", file=sys.stderr, flush=True)
+    return False
 
 
 def main():
-    try:
-        for part in (one_waits, crowd_waits, letter_moves, many_work, sends_beside_many):
-            part()
-    except (OSError, http.client.HTTPException) as error:
-        fail(f"the server did not answer: {error!r}")
+    names = os.environ.get("POLLS_ONLY", ",".join(it.__name__ for it in PARTS)).split(",")
+    unknown = set(names) - {it.__name__ for it in PARTS}
+    if unknown:
+        fail(f"no parts of these names: {', '.join(sorted(unknown))}")
+    failed = [it.__name__ for it in PARTS if it.__name__ in names and not holds(it)]
+    if failed:
+        fail(f"these parts do not hold: {', '.join(failed)}")
     print("the polls are done")
 
 

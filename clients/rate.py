@@ -13,7 +13,8 @@ is moto's server where it is installed, which gets sends of 1 letter alone, once
   --polls N          how many polls are parked, or wait for what is sent (1000)
   --only WORDS       only requests whose name in the table has these words, and no moto
   --to FOLDER        where rate.md and rate.svg go: docs/bench for the proved server and all requests, else out/bench
-  --rest             no requests: what part of a processor a server takes that has 1,000 quiet queues, in S seconds (60), and its memory
+  --rest             no requests: what part of a processor a server takes that has 1,000 quiet queues, in S seconds (20), and its memory: 5 % or 64 MB are
+                     too much, and end with status 1. The same is told, without a limit, where each of the queues has a policy for dead letters
 
 It needs Debian's packages wrk and nginx, and faketime for queues of 180 rows. Rows are of minutes of the wall clock. So one more server begins
 with a clock that is three hours behind, makes its queues, and then gets the true time: 180 minutes are over at once, without a send in them.
@@ -58,6 +59,8 @@ from rate_table import picture, short, table
 
 # From what part of its threads' time on wrk may be what is slow.
 BUSY = 0.9
+# A server with 1,000 quiet queues takes less of a processor, and fewer millions of bytes.
+REST_PART, REST_MEMORY = 0.05, 64
 
 
 class Kind(NamedTuple):
@@ -249,22 +252,35 @@ def version(words):
     return (re.search(r"\d+(\.\d+)+", ran.stdout + ran.stderr) or ["of an unknown version"])[0]
 
 
-def rest(program, room, seconds):
-    """Prints what part of a processor a server with 1,000 quiet queues takes, and its resident memory."""
-    def taken():
-        with open(f"/proc/{server.process.pid}/stat", encoding="utf-8") as it:
-            words = it.read().rpartition(")")[2].split()
-        # user and system time, fields 14 and 15 of proc(5); the first here is the third there
-        return (int(words[11]) + int(words[12])) / os.sysconf("SC_CLK_TCK")
+def taken_by(process):
+    """Returns how many seconds of a processor a process has taken."""
+    with open(f"/proc/{process.pid}/stat", encoding="utf-8") as it:
+        words = it.read().rpartition(")")[2].split()
+    # user and system time, fields 14 and 15 of proc(5); the first here is the third there
+    return (int(words[11]) + int(words[12])) / os.sysconf("SC_CLK_TCK")
 
-    with Server(program, room, "server", queues=1000) as server:
+
+def at_rest(server, seconds):
+    """Returns what part of a processor a server takes that is not asked, and its resident memory in millions of bytes."""
+    with server:
         time.sleep(2)
-        begin, start = taken(), time.monotonic()
+        begin, start = taken_by(server.process), time.monotonic()
         time.sleep(seconds)
-        part = (taken() - begin) / (time.monotonic() - start)
+        part = (taken_by(server.process) - begin) / (time.monotonic() - start)
         with open(f"/proc/{server.process.pid}/status", encoding="utf-8") as it:
-            resident = int(re.search(r"VmRSS:\s+(\d+) kB", it.read())[1])
-    print(f"1,000 quiet queues, {seconds} s: {100 * part:.1f} % of a processor, {resident / 1000:.0f} MB resident")
+            return part, int(re.search(r"VmRSS:\s+(\d+) kB", it.read())[1]) * 1024 / 1e6
+
+
+def rest(program, room, seconds):
+    """Prints what a server takes that has 1,000 quiet queues, and what one whose queues have a policy. Returns 1 where the first takes too much, and else 0."""
+    part, memory = at_rest(Server(program, room, "server", queues=1000), seconds)
+    print(f"1,000 quiet queues, {seconds} s: {100 * part:.1f} % of a processor, {memory:.0f} MB resident", flush=True)
+    other, more = at_rest(Server(program, room, "letters", queues=1000, has_letters=True), seconds)
+    print(f"1,000 quiet queues with a policy, {seconds} s: {100 * other:.1f} % of a processor, {more:.0f} MB resident", flush=True)
+    if part < REST_PART and memory < REST_MEMORY:
+        return 0
+    print(f"rate: 1,000 quiet queues have to take less than {100 * REST_PART:.0f} % of a processor and {REST_MEMORY} MB", file=sys.stderr)
+    return 1
 
 
 def timed(program, room, options, is_proved):
@@ -306,7 +322,7 @@ def options_of(words):
     reader.add_argument("--to")
     reader.add_argument("program", nargs="?")
     options = reader.parse_args(words)
-    options.seconds = options.seconds or (60 if options.rest else 2)
+    options.seconds = options.seconds or (20 if options.rest else 2)
     is_allowed = 1 <= options.seconds <= (3600 if options.rest else 15) and options.runs >= 1
     is_allowed = is_allowed and all(1 <= it <= 1000 for it in [*options.connections, options.polls])
     if options.help or not is_allowed or not any(kinds_of(line, options) for line in KINDS):
@@ -332,7 +348,9 @@ def main(words):
     resource.setrlimit(resource.RLIMIT_NOFILE, (hard if hard != resource.RLIM_INFINITY and hard < 8192 else 8192, hard))
     with tempfile.TemporaryDirectory(prefix="rate-") as room:
         try:
-            rest(program, room, options.seconds) if options.rest else timed(program, room, options, bool(proved))
+            if options.rest:
+                return rest(program, room, options.seconds)
+            timed(program, room, options, bool(proved))
         except (Void, OSError) as why:
             sys.exit(f"rate: void: {why}")
     return 0

@@ -111,10 +111,12 @@ class Started:
 
 
 class Server(Started):
-    """This project's server. With `is_early` its clock is three hours behind, as faketime has it, until `put_on`."""
+    """This project's server. With `has_letters` each of its queues has a policy, by which its dead letters go to the next. With `is_early` its clock is three
+    hours behind, as faketime has it, until `put_on`."""
 
-    def __init__(self, program, room, name, queues=0, is_early=False):
-        tables = "".join(f'[[queue]]\nname = "queue-{it}"\n' for it in range(queues))
+    def __init__(self, program, room, name, queues=0, has_letters=False, is_early=False):
+        policy = [f'dead_letter_queue = "queue-{(it + 1) % queues}"\nmax_receive_count = 5\n' if has_letters else "" for it in range(queues)]
+        tables = "".join(f'[[queue]]\nname = "queue-{it}"\n{policy[it]}' for it in range(queues))
         config = write(f"{room}/{name}.toml", f"[limits]\nmax_lines = 16777216\n{tables}")
         way = {**os.environ, "JUTKARIQ_PORT": "0", "JUTKARIQ_STATISTICS_PORT": "0"}
         self.clock = None

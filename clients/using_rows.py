@@ -21,6 +21,8 @@ from jutkariq import Server  # noqa: E402
 
 # How long what is to come soon may take, in seconds.
 PATIENCE = 30
+# How many messages take so long to purge that 1,000 requests come meanwhile.
+MANY = 300_000
 QUEUES = '[[queue]]\nname = "dead"\n[[queue]]\nname = "jobs"\n'
 DEAD_LETTERS = 'visibility_timeout = 0\ndead_letter_queue = "dead"\nmax_receive_count = 1\n'
 # That the C library takes no memory in advance; and that the sanitizer, which a program compiled without a proof may have, refuses where there is none, and
@@ -341,6 +343,27 @@ class Rows:
             self.check("the new queue takes a message", "MessageId" in sqs.send_message(QueueUrl="jobs", MessageBody="b"))
         return said
 
+    def busy(self):
+        """While a large queue is purged, more requests for it come than may wait."""
+        few, most = resource.getrlimit(resource.RLIMIT_NOFILE)
+        resource.setrlimit(resource.RLIMIT_NOFILE, (max(few, min(4_096, most)), most))
+        with self.server() as server, contextlib.ExitStack() as opened:
+            batch = json.dumps({"QueueUrl": "jobs", "Entries": [{"Id": str(it), "MessageBody": "a"} for it in range(10)]})
+            filling = self.connection(server, opened)
+            for _ in range(MANY // 10):
+                answer_to(filling, "SendMessageBatch", batch)
+            waiting = [self.connection(server, opened) for _ in range(1_100)]
+            filling.sendall(request_for("PurgeQueue", '{"QueueUrl":"jobs"}'))
+            for it in waiting:
+                it.sendall(request_for("PurgeQueue", '{"QueueUrl":"jobs"}'))
+            said = {it.recv(10_000).decode() for it in waiting}
+            self.check("the others are served", any(" 200 " in it for it in said))
+        return "".join(said)
+
+    def connection(self, server, opened):
+        """Opens a connection that is closed at the end."""
+        return opened.enter_context(socket.create_connection(("127.0.0.1", port_of(server.endpoint)), timeout=PATIENCE))
+
     def no_memory(self):
         """The system gives no more memory than the server has, and then ever more: some request finds enough to come, and too little to be done."""
         before = {name: os.environ.get(name) for name in REFUSING}
@@ -417,6 +440,7 @@ ROWS = {
     "a message that is gone": Rows.gone,
     "OverLimit": Rows.in_flight,
     "JournalFull": Rows.journal_full,
+    "ServiceUnavailable": Rows.busy,
     "OutOfMemory": Rows.no_memory,
     "INSUFFICIENT_DATA": Rows.state_of_an_alarm,
     "No answer from the server": Rows.page_without_server,
@@ -432,6 +456,17 @@ def curl(*words):
     """Returns what curl prints, and what it says where it fails."""
     ran = subprocess.run(["curl", "-sS", "--max-time", str(PATIENCE), *words], capture_output=True, text=True)
     return ran.stdout + ran.stderr
+
+
+def request_for(action, body):
+    """Returns a request as it goes over a connection."""
+    return f"POST / HTTP/1.1\r\nHost: localhost\r\nX-Amz-Target: AmazonSQS.{action}\r\nContent-Length: {len(body)}\r\n\r\n{body}".encode()
+
+
+def answer_to(connection, action, body):
+    """Asks over a connection, and returns the beginning of the answer."""
+    connection.sendall(request_for(action, body))
+    return connection.recv(10_000)
 
 
 def asked_over(connection):
