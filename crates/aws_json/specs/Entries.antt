@@ -129,7 +129,7 @@ entry_size e = command_size e.command
 abbrev pub checked_entries : List BatchEntry → Result (List BatchEntry) Fault
 checked_entries es =
     if have_equal_ids es then Err BatchEntryIdsNotDistinct
-    else if nat_lt 262144 (sum_by entry_size es) then Err BatchRequestTooLong
+    else if nat_lt 1048576 (sum_by entry_size es) then Err BatchRequestTooLong
     else Ok es
 
 abbrev pub item_count : Items → ℕ

@@ -24,7 +24,7 @@ use std::alloc::Global;
 pub(crate) const MOST_ENTRIES: usize = 10;
 
 /// How many bytes a batch sends at most (Amazon SQS API Reference, `SendMessageBatch`).
-pub(crate) const LONGEST_BATCH: u64 = 262_144;
+pub(crate) const LONGEST_BATCH: u64 = 1_048_576;
 
 /// The name of an entry in its batch.
 const ID: (&str, Kind) = ("Id", Kind::Text);
@@ -310,7 +310,7 @@ pub(crate) fn entry_size(entry: &BatchEntry) -> u64
 
 /// Whether the entries together send more than a batch may.
 fn is_too_long(entries: &[BatchEntry]) -> bool
-    ensures { result ≡ nat_lt 262144 (sum_by entry_size entries.now) }
+    ensures { result ≡ nat_lt 1048576 (sum_by entry_size entries.now) }
 {
     let mut left = LONGEST_BATCH;
     for entry in entries {

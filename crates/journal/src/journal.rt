@@ -12,11 +12,12 @@ use crate::marks::Marks;
 use crate::ticks::Ticks;
 use message::Fault;
 use std::alloc::Global;
+use std::fmt;
 use std::marker::Model;
 
 /// The lines of a queue, oldest first, and how many there may be. Contracts see also for how many lines
 /// more there is memory for sure: that many [`Journal::reserve`] has promised and no push has taken.
-#[derive(Debug, Drop)]
+#[derive(Drop)]
 pub struct Journal {
     lines: Vec<Line>,
     limit: usize,
@@ -33,6 +34,16 @@ impl Model for Journal {
     ghost view = { λ j. record { lines = j.lines.items; limit = j.limit; spare = j.room - length j.lines.items } };
 
     ghost invariant = { λ j. (length j.lines.items ≤ j.room) × (j.room ≤ vec_capacity j.lines) };
+}
+
+impl fmt::Debug for Journal {
+    /// How many lines there are, and how many there may be: what a line is costs an operation.
+    fn fmt<W: fmt::Write>(&self, f: &mut fmt::Formatter<W>) -> fmt::Result {
+        f.debug_struct("Journal")
+            .field("len", &self.lines.len())
+            .field("limit", &self.limit)
+            .finish_non_exhaustive()
+    }
 }
 
 impl Journal {

@@ -1,4 +1,5 @@
 pub mod NameLemmas
 pub mod IdLemmas
 pub mod AttributeLemmas
-pub mod OrderLemmas
+pub mod SortedLemmas
+pub mod ContentLemmas

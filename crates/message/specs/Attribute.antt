@@ -1,9 +1,7 @@
 -- An attribute of a message, and what it may be (Amazon SQS API Reference, MessageAttributeValue and "Message metadata").
-use Rattle.std.specs.Prelude.{ℕ, ◌+◌, ◌==◌, nat_eq, nat_le, nat_lt, Bool, true, false, not, ◌&&◌, ◌||◌, if◌then◌else◌, List, [], ◌∷◌, ◌++◌, length, take, fold, codes, string_bytes, Option, Some, None}
-use Rattle.std.specs.Cmp.Lexicographic.{slice_cmp}
+use Rattle.std.specs.Prelude.{ℕ, ◌+◌, ◌==◌, nat_eq, nat_le, nat_lt, Bool, true, false, not, ◌&&◌, ◌||◌, if◌then◌else◌, List, [], ◌∷◌, ◌++◌, length, take, codes, string_bytes, Option, Some, None}
 use Rattle.std.specs.List.{list_all, starts_with, ends_with}
 use Rattle.std.specs.Option.{option_or}
-use Rattle.std.specs.Ordering.{nat_cmp, is_lt}
 use Rattle.std.specs.Str.{bytes_eq, str_eq_ignore_ascii_case}
 use Rattle.message.specs.declared.attribute.AttributeValue.{AttributeValue}
 use Rattle.message.specs.declared.attribute.AttributeValue.TheVariants.{Text, Binary}
@@ -11,6 +9,7 @@ use Rattle.message.specs.declared.fault.Fault.{Fault}
 use Rattle.message.specs.declared.fault.Fault.TheVariants.{InvalidParameterValue, InvalidMessageContents}
 use Rattle.message.specs.Name.{is_name_character}
 use Rattle.message.specs.Characters.{is_message_text}
+use Rattle.message.specs.Order.{sorted, text_before}
 
 -- the bytes of the name, of the type text and of the value, and whether the value was given as raw bytes
 pub record AttributeText : Type 0 where
@@ -110,22 +109,11 @@ have_equal_names (a ∷ rest) = has_name a.name rest || have_equal_names rest
 
 -- the order of the bytes of the names
 abbrev pub comes_before : AttributeText → AttributeText → Bool
-comes_before a b = is_lt (slice_cmp nat_cmp a.name b.name)
-
--- an attribute at its place among others that are in order
-abbrev pub put_by_name : List AttributeText → AttributeText → List AttributeText
-put_by_name [] a = a ∷ []
-put_by_name (x ∷ xs) a = if comes_before a x then a ∷ x ∷ xs else x ∷ put_by_name xs a
+comes_before a b = text_before a.name b.name
 
 -- ascending by name
 abbrev pub by_name : List AttributeText → List AttributeText
-by_name attributes = fold put_by_name [] attributes
-
--- each name before the next
-abbrev pub is_ascending : List AttributeText → Bool
-is_ascending [] = true
-is_ascending (a ∷ []) = true
-is_ascending (a ∷ b ∷ rest) = comes_before a b && is_ascending (b ∷ rest)
+by_name attributes = sorted comes_before attributes
 
 -- what is wrong with the attributes of a message, given in any order: more than ten or two of one name first, then each by name
 abbrev pub attributes_fault : List AttributeText → Option Fault

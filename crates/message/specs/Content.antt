@@ -4,7 +4,8 @@ use Rattle.std.specs.List.{list_all}
 use Rattle.std.specs.Option.{option_or}
 use Rattle.message.specs.declared.fault.Fault.{Fault}
 use Rattle.message.specs.declared.fault.Fault.TheVariants.{InvalidParameterValue, InvalidMessageContents}
-use Rattle.message.specs.Attribute.{AttributeText, attribute_size, attribute_fault, attributes_fault, by_name, is_ascending}
+use Rattle.message.specs.Attribute.{AttributeText, attribute_size, attribute_fault, attributes_fault, by_name, comes_before}
+use Rattle.message.specs.Order.{is_ascending}
 use Rattle.message.specs.Characters.{is_message_text}
 
 -- the UTF-8 bytes of the body, and the attributes
@@ -33,5 +34,5 @@ content_of body attributes =
 -- a content that these rules take: its attributes stand ascending by name
 abbrev pub is_content : ContentText → Bool
 is_content c =
-    is_none (body_fault c.body) && nat_le (length c.attributes) 10 && is_ascending c.attributes
+    is_none (body_fault c.body) && nat_le (length c.attributes) 10 && is_ascending comes_before c.attributes
     && list_all (λ a. is_none (attribute_fault a)) c.attributes

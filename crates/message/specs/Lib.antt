@@ -2,6 +2,7 @@ pub mod Fault
 pub mod Name
 pub mod StoredName
 pub mod Characters
+pub mod Order
 pub mod Attribute
 pub mod Content
 pub mod StoredContent

@@ -4,7 +4,7 @@ ghost use Rattle.std.specs.Prelude.{◌≡◌, ◌<◌, ◌^◌, Ok, codes};
 ghost use Rattle.std.specs.List.{list_all};
 ghost use Rattle.std.specs.Option.{SomeIff};
 ghost use Rattle.message.specs.Fault.{Meets};
-ghost use Rattle.message.specs.Attribute.{attribute_fault, attribute_size, begins_in_any_case, comes_before, has_two_stops, is_attribute_name, is_attribute_name_character, is_of_type, is_reserved, is_type_text, is_value_given};
+ghost use Rattle.message.specs.Attribute.{attribute_fault, attribute_size, begins_in_any_case, has_two_stops, is_attribute_name, is_attribute_name_character, is_of_type, is_reserved, is_type_text, is_value_given};
 
 use crate::characters::is_message_text;
 use crate::fault::Fault;
@@ -85,13 +85,6 @@ impl Attribute {
         };
         let texts = (self.name.len() as u64).checked_add(self.kind.len() as u64)?;
         texts.checked_add(value as u64)
-    }
-
-    /// Whether this attribute's name is before the other's in the order of their bytes.
-    pub(crate) fn comes_before(&self, other: &Attribute) -> bool
-        ensures { result ≡ comes_before self.now other.now }
-    {
-        self.name.as_bytes().cmp(other.name.as_bytes()).is_lt()
     }
 }
 

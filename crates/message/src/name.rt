@@ -12,7 +12,7 @@ pub const NAME_LIMIT: usize = 80;
 
 /// The name of a queue: 1 to 80 ASCII letters, digits, hyphens and underscores, as the Amazon SQS
 /// API Reference has it for standard queues. Two names are equal where their texts are; case counts.
-#[derive(Clone, Copy, Debug, PartialEq, Eq)]
+#[derive(Clone, Copy, Debug, PartialEq, Eq, Hash)]
 pub struct QueueName {
     bytes: [u8; 80],
     len: usize,

@@ -1,6 +1,7 @@
 //! What stands in a queue at a moment.
 
-/// How many messages are in each state, and the age of the oldest live one in whole seconds.
+/// How many messages are in each state, and the age in whole seconds of the oldest live one that was received
+/// fewer than three times.
 #[derive(Clone, Copy, Debug, PartialEq, Eq)]
 pub struct Gauges {
     pub visible: u64,

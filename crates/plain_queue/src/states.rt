@@ -5,7 +5,7 @@ ghost use Rattle.std.specs.Prelude.{◌≡◌, ◌-◌, ◌/◌, ◌≤◌, leng
 ghost use Rattle.std.specs.List.{find};
 ghost use Rattle.queue_core.specs.Messages.{messages, closes_period, runs_out_in, is_expired, contains_number, offers_number, receive_count, loses, status_after, returns, due_after, course_after, course_of, due_time, is_present, is_returned};
 ghost use Rattle.queue_core.specs.declared.facts.Status.TheVariants.{Present, Waiting};
-ghost use Rattle.queue_core.specs.States.{is_live, state_of, is_in_state, count_in_state, oldest_age, gauges_of};
+ghost use Rattle.queue_core.specs.States.{is_live, has_age, state_of, is_in_state, count_in_state, oldest_age, gauges_of};
 
 use crate::entries::{Entries, line_at};
 use crate::numbering::Messages;
@@ -276,14 +276,21 @@ fn seconds_between(from: Moment, to: Moment) -> u64
     to.milliseconds().saturating_sub(from.milliseconds()) / 1000
 }
 
-/// The first live message.
-fn oldest_message(lines: &Entries<'_>, clock: Moment) -> Option<Message>
-    ensures { result ≡ find (λ m. is_live lines.now clock m) (messages lines.now) }
+/// Whether a message's age is looked at: it is live, and was received fewer than three times.
+fn has_age(lines: &Entries<'_>, clock: Moment, message: &Message) -> bool
+    ensures { result ≡ has_age lines.now clock message.now }
 {
-    Messages::of(lines).find(|message| is_live(lines, clock, message))
+    is_live(lines, clock, message) && receive_count(lines, message.number) < 3
 }
 
-/// Whole seconds since the first live message came, 0 where none is live.
+/// The first message whose age is looked at.
+fn oldest_message(lines: &Entries<'_>, clock: Moment) -> Option<Message>
+    ensures { result ≡ find (λ m. has_age lines.now clock m) (messages lines.now) }
+{
+    Messages::of(lines).find(|message| has_age(lines, clock, message))
+}
+
+/// Whole seconds since the first message came whose age is looked at, 0 where there is none.
 fn oldest_age(lines: &Entries<'_>, clock: Moment) -> u64
     ensures { result ≡ oldest_age lines.now clock }
 {

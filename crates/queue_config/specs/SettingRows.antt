@@ -1,5 +1,4 @@
--- The settings of a queue that are numbers, one row each (Amazon SQS API Reference, SetQueueAttributes). The keys are this project's own,
--- and so is the size of the largest message.
+-- The settings of a queue that are numbers, one row each (Amazon SQS API Reference, SetQueueAttributes). The keys are this project's own.
 use Rattle.std.specs.Prelude.{ℕ, ◌≤◌, List, [], ◌∷◌, codes, Option}
 use Rattle.std.specs.List.{find}
 use Rattle.std.specs.Str.{bytes_eq}
@@ -20,7 +19,7 @@ row_of DelaySeconds = record { name = codes "DelaySeconds"; key = codes "delay_s
 row_of VisibilityTimeout = record { name = codes "VisibilityTimeout"; key = codes "visibility_timeout"; least = 0; most = 43200; default = 30 }
 row_of MessageRetentionPeriod = record { name = codes "MessageRetentionPeriod"; key = codes "retention_seconds"; least = 60; most = 1209600; default = 345600 }
 row_of ReceiveMessageWaitTimeSeconds = record { name = codes "ReceiveMessageWaitTimeSeconds"; key = codes "wait_seconds"; least = 0; most = 20; default = 0 }
-row_of MaximumMessageSize = record { name = codes "MaximumMessageSize"; key = codes "maximum_message_size"; least = 1024; most = 262144; default = 262144 }
+row_of MaximumMessageSize = record { name = codes "MaximumMessageSize"; key = codes "maximum_message_size"; least = 1024; most = 1048576; default = 1048576 }
 
 abbrev pub all_settings : List Setting
 all_settings = DelaySeconds ∷ VisibilityTimeout ∷ MessageRetentionPeriod ∷ ReceiveMessageWaitTimeSeconds ∷ MaximumMessageSize ∷ []

@@ -25,7 +25,7 @@ pub enum Metric {
     ApproximateNumberOfMessagesDelayed,
     /// Messages in flight, at the minute's end.
     ApproximateNumberOfMessagesNotVisible,
-    /// The age of the oldest message in seconds, at the minute's end.
+    /// The age in seconds of the oldest message that was received fewer than three times, at the minute's end.
     ApproximateAgeOfOldestMessage,
     /// Requests that the queue itself refused.
     RefusedCalls,

@@ -27,8 +27,8 @@ pub const ALL_SETTINGS: [Setting; 5] = [
     Setting::MaximumMessageSize,
 ];
 
-/// What is fixed of a setting. Ranges and defaults are those of Amazon SQS; the keys, and 262,144
-/// bytes as the largest message, are this project's own choice.
+/// What is fixed of a setting. Ranges and defaults are those of Amazon SQS; the keys are this project's own
+/// choice.
 #[derive(Debug, Drop)]
 pub struct SettingRow {
     /// The name of the attribute.
@@ -88,8 +88,8 @@ pub fn row_of(setting: Setting) -> SettingRow
             name: "MaximumMessageSize",
             key: "maximum_message_size",
             least: 1024,
-            most: 262_144,
-            default: 262_144,
+            most: 1_048_576,
+            default: 1_048_576,
         },
     }
 }

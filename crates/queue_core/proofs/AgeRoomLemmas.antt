@@ -1,4 +1,4 @@
--- How many messages have left, and that the list of those that are there never has more than there were messages.
+-- How many messages have left, and that the list of ages never has more than there were messages.
 use Rattle.std.proofs.Common.{◌≡◌, ℕ, ◌+◌, ◌<◌, ◌^◌, Bool, true, false, ◌&&◌, List, [], ◌∷◌, length, count_by, inl, inr, refl, sym, ap, ◌∙◌, arith}
 use Rattle.std.specs.FinMap as finite
 use Rattle.std.proofs.lemmas.Bool.{false≢true, cases_lt}
@@ -9,7 +9,7 @@ use Rattle.queue_core.specs.declared.ages.Ages.{Ages}
 use Rattle.queue_core.specs.Ages.{IsLonger}
 use Rattle.queue_core.specs.Changes.{IsReserved}
 use Rattle.queue_core.specs.Messages.{contains_number}
-use Rattle.queue_core.specs.Slots.{is_here, is_left, count_slots, one_if}
+use Rattle.queue_core.specs.Slots.{has_age, is_failing, is_left, count_slots, one_if}
 use Rattle.queue_core.specs.Records.{slots_in, born_in, IsIndexed}
 use Rattle.queue_core.proofs.SlotCountLemmas.{count_agree, count_members, count_upto}
 use Rattle.queue_core.proofs.AgeLemmas.{few_listed}
@@ -37,15 +37,22 @@ module _ (x : MessageIndex) (is : IsIndexed x) where
       count_agree (λ n. is_left (slots_in x n)) (λ n. contains_number n x.leaving.items && true) (born_in x) (λ n. and_true (contains_number n x.leaving.items) ∙ is.leaving n) in
       sym same ∙ members ∙ count_all x.leaving.items
 
-  -- the list has fewer slots than it may, with one for each that has left and one more
-  pub few_ages : (y : Indices) → IsReserved x.indices y → (left : ℕ) → left ≡ length x.leaving.items → born_in x < 2 ^ 31 → finite.len y.ages.list.slots + (left + 1) < 2 ^ 32
-  few_ages y reserved left same few =
+  -- of all that there were
+  pub few_without : born_in x < 2 ^ 30 → length x.leaving.items + x.indices.failing < 2 ^ 31
+  few_without few =
+      let left = count_upto (λ n. is_left (slots_in x n)) (born_in x) in
+      let failing = count_upto (λ n. is_failing (slots_in x n)) (born_in x) in
+      omega (arith, few, left_counted, is.indices.indices.failing)
+
+  -- the list has fewer slots than it may, with one for each that it lacks and one more
+  pub few_ages : (y : Indices) → IsReserved x.indices y → (lacking : ℕ) → lacking ≡ length x.leaving.items + x.indices.failing → born_in x < 2 ^ 30
+      → finite.len y.ages.list.slots + (lacking + 1) < 2 ^ 32
+  few_ages y reserved lacking same few =
       let there =
-      few_listed (λ n. is_here (slots_in x n)) (born_in x) (count_slots is_left (slots_in x) (born_in x)) x.indices.ages is.indices.indices.ages
-      (λ n past. ap is_here (is.indices.indices.few n past)) in
+      few_listed (λ n. has_age (slots_in x n)) (born_in x) (count_slots is_left (slots_in x) (born_in x) + x.indices.failing) x.indices.ages is.indices.indices.ages
+      (λ n past. ap has_age (is.indices.indices.few n past)) in
       let slots : finite.len y.ages.list.slots ≡ finite.len x.indices.ages.list.slots = ap (λ m. finite.len m) reserved.ages.slots in
-      let most = count_upto (λ n. is_left (slots_in x n)) (born_in x) in
-      omega (arith, few, same, left_counted)
+      omega (arith, few, same, few_without few)
 
 -- ---- room made twice
 
@@ -65,6 +72,7 @@ reserved_ages x y ages first second = record {
   visible = first.visible;
   delayed = first.delayed;
   in_flight = first.in_flight;
+  failing = first.failing;
   due_spare = first.due_spare;
   sent_spare = first.sent_spare;
   visible_spare = first.visible_spare;

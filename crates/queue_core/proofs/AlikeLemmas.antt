@@ -1,6 +1,6 @@
 -- Two journals of the same messages, each of which stands alike in both: the counts, the age and the order of receives are the same.
 use Rattle.std.proofs.Common.{◌≡◌, ℕ, ◌-◌, Bool, true, false, cond, ◌&&◌, leb, eqb, not, List, [], ◌∷◌, map, Option, Some, None, refl, sym, ap, ◌∙◌}
-use Rattle.std.specs.Prelude.{◌/◌, count_by, filter}
+use Rattle.std.specs.Prelude.{◌/◌, nat_lt, count_by, filter}
 use Rattle.std.specs.Option.{option_map_or}
 use Rattle.std.specs.List.{find, AllByRecursion}
 use Rattle.std.proofs.lemmas.List.Sums.{sum_by-cons}
@@ -11,7 +11,8 @@ use Rattle.queue_core.specs.declared.facts.Course.{Course}
 use Rattle.queue_core.specs.declared.facts.MessageState.{MessageState}
 use Rattle.queue_core.specs.declared.facts.MessageState.TheVariants.{Visible, Delayed, InFlight}
 use Rattle.queue_core.specs.Messages.{messages, is_expired, receive_count, course_of, is_present_status, is_present, due_time, is_returned}
-use Rattle.queue_core.specs.States.{is_live, same_state, is_in_state, count_in_state, oldest_age, gauges_of, candidate_of, in_order, receive_order}
+use Rattle.queue_core.specs.States.{is_live, has_age, same_state, is_in_state, count_in_state, oldest_age, gauges_of, candidate_of, comes_before, receive_order}
+use Rattle.message.specs.Order.{sorted}
 
 -- ---- tests that agree on the elements of a list
 
@@ -68,6 +69,9 @@ module _ {C D : Type 0} (one : List (Entry C)) (other : List (Entry D)) (clock :
   live-alike : (m : Message) → IsAlike m → is_live one clock m ≡ is_live other clock m
   live-alike m h = ap (λ (c : Course). is_present_status c.status && not (is_expired one clock m)) h.course ∙ ap (λ (b : Bool). is_present other m && not b) h.expired
 
+  ages-alike : (m : Message) → IsAlike m → has_age one clock m ≡ has_age other clock m
+  ages-alike m h = ap (λ (b : Bool). b && nat_lt (receive_count one m.number) 3) (live-alike m h) ∙ ap (λ (n : ℕ). is_live other clock m && nat_lt n 3) h.receives
+
   state-alike : (state : MessageState) (m : Message) → IsAlike m → is_in_state state one clock m ≡ is_in_state state other clock m
   state-alike state m h =
       in_state-same state clock (is_live one clock m) (is_live other clock m) (due_time one m) (due_time other m) (receive_count one m.number) (receive_count other m.number)
@@ -82,6 +86,9 @@ module _ {C D : Type 0} (one : List (Entry C)) (other : List (Entry D)) (clock :
     pub agree-live : Agree (λ m. is_live one clock m) (λ m. is_live other clock m) (messages other)
     agree-live = agree-by IsAlike (λ m. is_live one clock m) (λ m. is_live other clock m) live-alike (messages other) alike
 
+    agree-age : Agree (λ m. has_age one clock m) (λ m. has_age other clock m) (messages other)
+    agree-age = agree-by IsAlike (λ m. has_age one clock m) (λ m. has_age other clock m) ages-alike (messages other) alike
+
     pub agree-state : (state : MessageState) → Agree (λ m. is_in_state state one clock m) (λ m. is_in_state state other clock m) (messages other)
     agree-state state = agree-by IsAlike (λ m. is_in_state state one clock m) (λ m. is_in_state state other clock m) (state-alike state) (messages other) alike
 
@@ -92,9 +99,9 @@ module _ {C D : Type 0} (one : List (Entry C)) (other : List (Entry D)) (clock :
 
     age-alike : oldest_age one clock ≡ oldest_age other clock
     age-alike =
-        ap (λ (ms : List Message). option_map_or (λ m. (clock - m.enqueue_time) / 1000) (find (λ m. is_live one clock m) ms) 0) same
+        ap (λ (ms : List Message). option_map_or (λ m. (clock - m.enqueue_time) / 1000) (find (λ m. has_age one clock m) ms) 0) same
         ∙ ap (λ (found : Option Message). option_map_or (λ m. (clock - m.enqueue_time) / 1000) found 0)
-        (find-agree (λ m. is_live one clock m) (λ m. is_live other clock m) (messages other) agree-live)
+        (find-agree (λ m. has_age one clock m) (λ m. has_age other clock m) (messages other) agree-age)
 
     pub gauges-alike : gauges_of one clock ≡ gauges_of other clock
     gauges-alike =
@@ -108,7 +115,7 @@ module _ {C D : Type 0} (one : List (Entry C)) (other : List (Entry D)) (clock :
 
     pub order-alike : receive_order one clock ≡ receive_order other clock
     order-alike =
-        ap (λ (ms : List Message). in_order (map (candidate_of one) (filter (λ m. is_in_state Visible one clock m) ms))) same
-        ∙ ap in_order
+        ap (λ (ms : List Message). sorted comes_before (map (candidate_of one) (filter (λ m. is_in_state Visible one clock m) ms))) same
+        ∙ ap (sorted comes_before)
         (candidates-agree (λ m. is_in_state Visible one clock m) (λ m. is_in_state Visible other clock m) (candidate_of one) (candidate_of other) (messages other) (agree-state Visible)
         (agree-by IsAlike (candidate_of one) (candidate_of other) candidate-alike (messages other) alike))

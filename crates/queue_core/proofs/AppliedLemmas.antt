@@ -4,18 +4,16 @@ use Rattle.std.proofs.lemmas.List.{get_or_append_left, get_or-append_right, get_
 use Rattle.std.proofs.lemmas.Bool.{eqb-true, eq-eqb, ne_eqb, cases_eq, true≢false, both_ways, and_parts, false_from_ne_true}
 use Rattle.std.proofs.lemmas.List.Kept.{AllPairs-filter}
 use Rattle.message.specs.Content.{ContentText}
-use Rattle.message.specs.declared.fault.Fault.{Fault}
 use Rattle.queue_config.specs.Settings.{QueueSettings}
 use Rattle.journal.specs.declared.entry.Event.{Event}
-use Rattle.journal.specs.declared.entry.Event.TheVariants.{Opened, Sent, Arrived, Received, Changed, Deleted, DeletedAgain, Purged, Set, Settled, Orphaned, Refused, Closed}
-use Rattle.journal.specs.declared.entry.Origin.{Origin}
-use Rattle.queue_core.specs.Messages.{Birth, effect_of, contains_number, offers_number}
+use Rattle.journal.specs.declared.entry.Event.TheVariants.{Received, Changed, Deleted, DeletedAgain, Purged, Set, Settled, Orphaned, Closed}
+use Rattle.queue_core.specs.Messages.{Birth, Effect, no_effect, effect_of, contains_number, offers_number, loses, closes, closes_period}
 use Rattle.queue_core.specs.declared.slot.Stay.{Stay}
 use Rattle.queue_core.specs.declared.slot.Stay.TheVariants.{Hidden, Shown, Left}
 use Rattle.queue_core.specs.declared.record.Record.{Record}
 use Rattle.queue_core.specs.declared.index.MessageIndex.{MessageIndex}
 use Rattle.queue_core.specs.Slots.{is_here, is_left, is_left_stay, one_if}
-use Rattle.queue_core.specs.Records.{records_in, slots_in, born_in, with_stay, hidden_until, received_at, back_at, is_left_record, offered_after, rescheduled_after, here_after, left_after, record_after, record_after_stay, born_record, records_after, HasIndices, IsIndexed}
+use Rattle.queue_core.specs.Records.{records_in, slots_in, born_in, with_stay, hidden_until, received_at, back_at, is_left_record, offered_after, rescheduled_after, here_after, left_after, record_after, record_after_stay, born_record, records_after, Records, HasIndices, IsIndexed}
 use Rattle.queue_core.specs.Applying.{CanApply, HaveReceived, HaveCounted, HasChanged, among, where_here, where_left, where_left_stay, ended_by, returned_from}
 use Rattle.queue_core.proofs.NumberLemmas.{AreOnce, or-false, contains-append, contains-filter, filter_same, filter_alike, filter_none, once-append}
 use Rattle.queue_core.proofs.ChangeLemmas.{and_then-some, and_then-same, left_stay-none, changed-then, changed-same, outside}
@@ -54,6 +52,13 @@ no-record (Some r) h = absurd cc
 
 born-none : (at : ℕ) (event : Event ContentText) → (effect_of event).birth ≡ None → born_record at event ≡ None
 born-none at event none = rw none
+
+pub born-of-none : (at : ℕ) (event : Event ContentText) → born_record at event ≡ None → (effect_of event).birth ≡ None
+born-of-none at event none =
+    elim (effect_of event).birth as (λ (o : Option (Birth ContentText)). (effect_of event).birth ≡ o → o ≡ None) [
+      | None ↦ λ e. refl
+      | Some birth ↦ λ e. let some = ap (λ (o : Option (Birth ContentText)). is_some o) e in let no : is_some (born_record at event) ≡ false = ap is_some none in absurd (true≢false (sym (rw e refl) ∙ no))
+    ] refl
 
 -- where none begins
 unborn : (s : QueueSettings) (at : ℕ) (event : Event ContentText) (x : MessageIndex) → HasIndices x → (effect_of event).birth ≡ None
@@ -311,30 +316,12 @@ module _ (s : QueueSettings) (at : ℕ) (x y : MessageIndex) (is : IsIndexed x) 
       (leaving ∙ sym (filter_none (λ n. is_left (slots_in y n)) x.leaving.items
       (λ n h. ap (λ (o : Option Record). is_left (option_map (λ r. r.slot) o)) (changed.records n) ∙ none-left (records_in x n))))
 
--- ---- events that change no message
+-- ---- an event that changes no message
 
-module _ (s : QueueSettings) (at : ℕ) (event : Event ContentText) (x : MessageIndex) (is : IsIndexed x) (none : (effect_of event).birth ≡ None)
-    (offers : (n : ℕ) → offers_number n event ≡ false) (departures : (effect_of event).departures ≡ []) where
-  pub idle-applied : ((n : ℕ) (r : Record) → Some r ≡ record_after s at event n r) → IsApplied s at event x x
-  idle-applied after =
-      applied-kept s at event (λ n r. Some r) x x is none offers departures (record { indices = is.indices; records = λ n. sym (and_then-some (records_in x n)) }) (λ n r e. after n r) refl refl
-      (λ n r l. l)
-
-module _ (s : QueueSettings) (at : ℕ) (x : MessageIndex) (is : IsIndexed x) where
-  pub opened-applied : (uid : ℕ) (settings : QueueSettings) → IsApplied s at (Opened uid settings) x x
-  opened-applied uid settings =
-      idle-applied s at (Opened uid settings) x is refl (λ n. refl) refl
-      (λ n r. sym (by-stay s at (Opened uid settings) n r (Some r) (λ h. refl) (λ target ran_out e. left-kept r target ran_out e)))
-
-  pub deleted_again-applied : IsApplied s at DeletedAgain x x
-  deleted_again-applied =
-      idle-applied s at DeletedAgain x is refl (λ n. refl) refl
-      (λ n r. sym (by-stay s at DeletedAgain n r (Some r) (λ h. refl) (λ target ran_out e. left-kept r target ran_out e)))
-
-  pub refused-applied : (fault : Fault) → IsApplied s at (Refused fault) x x
-  refused-applied fault =
-      idle-applied s at (Refused fault) x is refl (λ n. refl) refl
-      (λ n r. sym (by-stay s at (Refused fault) n r (Some r) (λ h. refl) (λ target ran_out e. left-kept r target ran_out e)))
+pub deleted_again-applied : (s : QueueSettings) (at : ℕ) (x : MessageIndex) → IsIndexed x → IsApplied s at DeletedAgain x x
+deleted_again-applied s at x is =
+    applied-kept s at DeletedAgain (λ n r. Some r) x x is refl (λ n. refl) refl (record { indices = is.indices; records = λ n. sym (and_then-some (records_in x n)) })
+    (λ n r e. sym (by-stay s at DeletedAgain n r (Some r) (λ h. refl) (λ target ran_out e. left-kept r target ran_out e))) refl refl (λ n r l. l)
 
 -- ---- events that begin a message
 
@@ -354,16 +341,24 @@ begun-receives event old new some offers is =
       begun = λ k h. ap (λ (xs : List ℕ). slice_index xs k) is ∙ get_or-append_right old (0 ∷ []) (length old) k 0 refl h ∙ zero-alone (k - length old);
     }
 
-module _ (s : QueueSettings) (at : ℕ) (event : Event ContentText) (kept : Record) (x y : MessageIndex) (is : IsIndexed x) (some : is_some (effect_of event).birth ≡ true)
-    (born : born_record at event ≡ Some kept) (hidden : is_left_record kept ≡ false) (offers : (n : ℕ) → offers_number n event ≡ false) (departures : (effect_of event).departures ≡ [])
-    (after : (n : ℕ) (r : Record) → Some r ≡ record_after s at event n r) where
-  pub begun-applied : HasIndices y → ((n : ℕ) → records_in y n ≡ cond (nat_eq n (born_in x)) (Some kept) (records_in x n)) → y.receives.items ≡ x.receives.items ++ 0 ∷ []
+born-some : (at : ℕ) (event : Event ContentText) (kept : Record) → born_record at event ≡ Some kept → (is_some (effect_of event).birth ≡ true) × (is_left_record kept ≡ false)
+born-some at event kept born =
+    elim (effect_of event).birth as (λ (o : Option (Birth ContentText)). (effect_of event).birth ≡ o → (is_some o ≡ true) × (is_left_record kept ≡ false)) [
+      | None ↦ λ e. let none = sym (born-none at event e) ∙ born in absurd cc
+      | Some birth ↦ λ e. (refl, sym (ap (λ (o : Option Record). is_left (option_map (λ r. r.slot) o)) born) ∙ rw e refl)
+    ] refl
+
+module _ (s : QueueSettings) (at : ℕ) (event : Event ContentText) (birth : Option (Birth ContentText)) (settings : Option QueueSettings) (opens : Bool) (kept : Record) (x y : MessageIndex) (is : IsIndexed x)
+    (told : effect_of event ≡ record no_effect { birth = birth; settings = settings; opens = opens }) (born : born_record at event ≡ Some kept) where
+  pub birth-applied : HasIndices y → ((n : ℕ) → records_in y n ≡ cond (nat_eq n (born_in x)) (Some kept) (records_in x n)) → y.receives.items ≡ x.receives.items ++ 0 ∷ []
       → y.leaving.items ≡ x.leaving.items → IsApplied s at event x y
-  begun-applied indices records receives leaving =
+  birth-applied indices records receives leaving =
+      let after : (n : ℕ) (r : Record) → Some r ≡ record_after s at event n r =
+      λ n r. sym (by-stay s at event n r (Some r) (λ h. rw told refl) (λ target ran_out e. rw (told, loses, closes, closes_period) (left-kept r target ran_out e))) in
       let left : (n : ℕ) → is_left (slots_in y n) ≡ is_left (slots_in x n) =
       λ n. ap (λ (o : Option Record). is_left (option_map (λ r. r.slot) o)) (records n)
       ∙ elim (nat_eq n (born_in x)) as (λ (b : Bool). nat_eq n (born_in x) ≡ b → is_left (option_map (λ r. r.slot) (cond b (Some kept) (records_in x n))) ≡ is_left (slots_in x n)) [
-        | true ↦ λ e. let same : n ≡ born_in x = eqb-true n (born_in x) e in hidden ∙ sym (ap is_left (is.indices.indices.few n (omega arith)))
+        | true ↦ λ e. let same : n ≡ born_in x = eqb-true n (born_in x) e in (born-some at event kept born).1 ∙ sym (ap is_left (is.indices.indices.few n (omega arith)))
         | false ↦ λ e. refl
       ] refl in
       record {
@@ -375,24 +370,10 @@ module _ (s : QueueSettings) (at : ℕ) (event : Event ContentText) (kept : Reco
         records = λ n. records n
             ∙ ap (λ (o : Option Record). cond (nat_eq n (born_in x)) o (records_in x n)) (sym born)
             ∙ ap (λ (o : Option Record). cond (nat_eq n (born_in x)) (born_record at event) o) (sym (and_then-some (records_in x n)) ∙ and_then-same (λ r. Some r) (λ r. record_after s at event n r) (records_in x n) (λ r e. after n r));
-        receives = begun-receives event x.receives.items y.receives.items some offers receives;
+        receives = begun-receives event x.receives.items y.receives.items (born-some at event kept born).0 (λ n. ap (λ (e : Effect ContentText). e.offers n) told) receives;
         leaving = leaving ∙ sym (filter_same (λ n. is_left (slots_in y n)) x.leaving.items (λ n h. left n ∙ sym (is.leaving n) ∙ h))
-            ∙ sym (append-nil (filter (λ n. is_left (slots_in y n)) x.leaving.items)) ∙ ap (λ (xs : List ℕ). filter (λ n. is_left (slots_in y n)) x.leaving.items ++ xs) (sym departures);
+            ∙ sym (append-nil (filter (λ n. is_left (slots_in y n)) x.leaving.items)) ∙ ap (λ (xs : List ℕ). filter (λ n. is_left (slots_in y n)) x.leaving.items ++ xs) (sym (ap (λ (e : Effect ContentText). e.departures) told));
       }
-
-module _ (s : QueueSettings) (at : ℕ) (kept : Record) (x y : MessageIndex) (is : IsIndexed x) (indices : HasIndices y) (records : (n : ℕ) → records_in y n ≡ cond (nat_eq n (born_in x)) (Some kept) (records_in x n))
-    (receives : y.receives.items ≡ x.receives.items ++ 0 ∷ []) (leaving : y.leaving.items ≡ x.leaving.items) where
-  pub sent-applied : (delay : ℕ) (content : ContentText) → born_record at (Sent delay content) ≡ Some kept → IsApplied s at (Sent delay content) x y
-  sent-applied delay content born =
-      begun-applied s at (Sent delay content) kept x y is refl born (sym (ap (λ (o : Option Record). is_left (option_map (λ r. r.slot) o)) born)) (λ n. refl) refl
-      (λ n r. sym (by-stay s at (Sent delay content) n r (Some r) (λ h. refl) (λ target ran_out e. left-kept r target ran_out e)))
-      indices records receives leaving
-
-  pub arrived-applied : (origin : Origin) (content : ContentText) → born_record at (Arrived origin content) ≡ Some kept → IsApplied s at (Arrived origin content) x y
-  arrived-applied origin content born =
-      begun-applied s at (Arrived origin content) kept x y is refl born (sym (ap (λ (o : Option Record). is_left (option_map (λ r. r.slot) o)) born)) (λ n. refl) refl
-      (λ n r. sym (by-stay s at (Arrived origin content) n r (Some r) (λ h. refl) (λ target ran_out e. left-kept r target ran_out e)))
-      indices records receives leaving
 
 -- ---- messages that are received
 
@@ -458,3 +439,29 @@ module _ (s : QueueSettings) (at timeout target : ℕ) (offered leaving : List �
         ap (λ (o : Option Record). is_left (option_map (λ r. r.slot) o)) (changed.records n)
             ∙ departed n (records_in x n) (about.departing n h) h (false_from_ne_true (contains_number n offered) (λ e. both_ways (contains_number n leaving) (about.apart n e) h)),
       ))
+
+-- ---- an effect
+
+-- an event whose effect is another's, but for settings and opening
+module _ (s : QueueSettings) (at : ℕ) (event other : Event ContentText) (settings : Option QueueSettings) (opens : Bool) (all : effect_of event ≡ record (effect_of other) { settings = settings; opens = opens }) where
+  stay-alike : (n : ℕ) (stay : Stay) (r : Record) → record_after_stay s at other n stay r ≡ record_after_stay s at event n stay r
+  stay-alike n Hidden r = rw all refl
+  stay-alike n Shown r = rw all refl
+  stay-alike n (Left target ran_out) r = rw (all, loses, closes, closes_period) refl
+
+  born-alike : born_record at other ≡ born_record at event
+  born-alike = rw all refl
+
+  records-alike : (count n : ℕ) (records : Records) → records_after s at other count records n ≡ records_after s at event count records n
+  records-alike count n records =
+      ap (λ (o : Option Record). cond (nat_eq n count) o (option_and_then (λ r. record_after s at other n r) (records n))) born-alike
+      ∙ ap (λ (o : Option Record). cond (nat_eq n count) (born_record at event) o)
+      (and_then-same (λ r. record_after s at other n r) (λ r. record_after s at event n r) (records n) (λ r e. stay-alike n r.slot.stay r))
+
+  pub alike-applied : (x y : MessageIndex) → IsApplied s at other x y → IsApplied s at event x y
+  alike-applied x y done = record {
+    indexed = done.indexed;
+    records = λ n. done.records n ∙ records-alike (born_in x) n (records_in x);
+    receives = record { len = rw all done.receives.len; counts = λ n h. rw (all, offers_number) (done.receives.counts n h); begun = done.receives.begun };
+    leaving = rw all done.leaving;
+  }

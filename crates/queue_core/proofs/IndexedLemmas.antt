@@ -1,9 +1,9 @@
 -- What a queue's journal says is what its indices say.
 use Rattle.std.proofs.Common.{◌≡◌, ℕ, ◌+◌, ◌*◌, ◌≤◌, ◌<◌, Bool, true, false, not, cond, ◌&&◌, ◌||◌, ◌==◌, List, [], ◌∷◌, map, length, get_or, Option, Some, None, inl, inr, refl, sym, ap, subst, ◌∙◌, arith}
-use Rattle.std.specs.Prelude.{option_map, count_by, nat_le, slice_get}
+use Rattle.std.specs.Prelude.{option_map, count_by, nat_le, nat_lt, min, slice_get}
 use Rattle.std.specs.Option.{option_map_or}
 use Rattle.std.specs.List.{Contains, list_any}
-use Rattle.std.proofs.lemmas.Bool.{false≢true, le-leb, lt-ltb, eqb-true, eq-eqb, and_parts, and_from, or_left, or_right}
+use Rattle.std.proofs.lemmas.Bool.{false≢true, le-leb, lt-ltb, le-ltb, cases_lt, eqb-true, eq-eqb, and_parts, and_from, or_left, or_right}
 use Rattle.std.proofs.lemmas.Bool.Decides.{same_from_decides}
 use Rattle.std.proofs.lemmas.List.{length-map}
 use Rattle.std.proofs.lemmas.List.Elements.{All-contains}
@@ -18,7 +18,7 @@ use Rattle.queue_core.specs.declared.facts.Candidate.{Candidate}
 use Rattle.queue_core.specs.declared.facts.MessageState.{MessageState}
 use Rattle.queue_core.specs.declared.facts.MessageState.TheVariants.{Visible, Delayed, InFlight}
 use Rattle.queue_core.specs.Messages.{message_count, messages, settings_of, is_expired, is_present_status, is_returned, receive_count, course_of, due_time, awaits_status, awaits_transfer, is_waiting_status, waits_for}
-use Rattle.queue_core.specs.States.{is_live, same_state, is_in_state, is_numbered, message_numbered, count_in_state, candidate_of, receive_order}
+use Rattle.queue_core.specs.States.{is_live, has_age, same_state, is_in_state, is_numbered, message_numbered, count_in_state, candidate_of, receive_order}
 use Rattle.queue_core.specs.Turns.{ComesBefore, IsVisibleCandidate}
 use Rattle.queue_core.proofs.OfferLemmas.{receive_order-in_order, visible_in_order, order_visible, length-receive_order}
 use Rattle.visible_index.specs.Pairs.{same_pair, has_pair}
@@ -27,7 +27,7 @@ use Rattle.queue_core.specs.declared.slot.Stay.TheVariants.{Hidden, Shown, Left}
 use Rattle.queue_core.specs.declared.slot.Slot.{Slot}
 use Rattle.queue_core.specs.declared.record.Record.{Record}
 use Rattle.queue_core.specs.declared.indices.Indices.{Indices}
-use Rattle.queue_core.specs.Slots.{is_hidden_stay, is_shown_stay, is_left_stay, is_left_stay_for, is_left_for, is_here, is_shown, is_left, is_delayed, is_in_flight, shows, count_slots, AreIndexed}
+use Rattle.queue_core.specs.Slots.{is_hidden_stay, is_shown_stay, is_left_stay, is_left_stay_for, is_left_for, is_here, is_shown, is_left, is_delayed, is_in_flight, has_age as slot_has_age, shows, count_slots, AreIndexed}
 use Rattle.queue_core.specs.Records.{Records, stay_at, with_stay, has_run_out, settled_record, IsSettled}
 use Rattle.queue_core.specs.Recorded.{ran_out_before, runs_out_by, IsStanding, IsRecordOf, AreRecorded}
 use Rattle.queue_core.proofs.FactLemmas.{Line, expired-split, numbered-number, numbered-place}
@@ -106,6 +106,12 @@ waits_by target Hidden due c ran_out h = ap (is_waiting_status target) h.0
 waits_by target Shown due c ran_out h = ap (is_waiting_status target) h.0
 waits_by target (Left own left_ran_out) due c ran_out h = ap (is_waiting_status target) h.0
 
+lt-min : (count : ℕ) → nat_lt (min count 3) 3 ≡ nat_lt count 3
+lt-min count = elim (cases_lt count 3) [
+  | inl few ↦ lt-ltb (min count 3) 3 (omega (arith, few)) ∙ sym (lt-ltb count 3 few)
+  | inr most ↦ le-ltb (min count 3) 3 (omega (arith, most)) ∙ sym (le-ltb count 3 most)
+]
+
 -- what is not live is in no state, and what does not wait waits for no queue
 in_no_state : (state : MessageState) (live late fresh : Bool) → live ≡ false → state_by state live late fresh ≡ false
 in_no_state state live late fresh h = rw h refl
@@ -174,6 +180,11 @@ module _ (lines : List Line) (clock : ℕ) (m : Message) (r : Record) (place : m
 module _ (lines : List Line) (clock : ℕ) (m : Message) (r : Record) (has : HasRecord lines clock m r) where
   here_by : is_live lines clock m ≡ is_here (Some r.slot)
   here_by = live_by r.slot.stay (is_live lines clock m) (is_late lines clock m) has.seen
+
+  age_by : has_age lines clock m ≡ slot_has_age (Some r.slot)
+  age_by =
+      ap (λ (b : Bool). b && nat_lt (receive_count lines m.number) 3) here_by
+      ∙ ap (λ (b : Bool). not (is_left_stay r.slot.stay) && b) (sym (lt-min (receive_count lines m.number)) ∙ ap (λ n. nat_lt n 3) (sym has.of.tries))
 
   shown_by : is_in_state Visible lines clock m ≡ is_shown (Some r.slot)
   shown_by = visible_by r.slot.stay (is_live lines clock m) (is_late lines clock m) (is_unused lines m) has.seen
@@ -302,6 +313,10 @@ module _ (lines : List Line) (clock : ℕ) (records : Records) (is : AreRecorded
 
   pub here_is : (n : ℕ) → is_numbered (λ m. is_live lines clock m) lines n ≡ is_here (slots_of records n)
   here_is n = numbered (λ m. is_live lines clock m) is_here refl (λ m h k. h) (λ m r has. here_by lines clock m r has) n
+
+  pub age_is : (n : ℕ) → is_numbered (λ m. has_age lines clock m) lines n ≡ slot_has_age (slots_of records n)
+  age_is n =
+      numbered (λ m. has_age lines clock m) slot_has_age refl (λ m h k. ap (λ (b : Bool). b && nat_lt (receive_count lines m.number) 3) h) (λ m r has. age_by lines clock m r has) n
 
   pub shown_is : (n : ℕ) → is_numbered (λ m. is_in_state Visible lines clock m) lines n ≡ is_shown (slots_of records n)
   shown_is n = numbered (λ m. is_in_state Visible lines clock m) is_shown refl (λ m h k. in_none lines clock Visible m h) (λ m r has. shown_by lines clock m r has) n

@@ -192,18 +192,18 @@ module _ (x y : MessageIndex) (has : HasIndices x) (entries : y.records.entries 
     sent = λ n r is. has.sent n r (sym (same_records n) ∙ is);
   }
 
-  pub ready_reserved : (room left : ℕ) → index_map_len x.records < room → HasRoom room room room y.indices → count_slots is_left (slots_in x) (born_in x) ≡ left
-      → HasPlaces (left + 1) (born_in x + 1) y.indices.ages → 1 ≤ spare y.records → length y.receives.items < vec_capacity y.receives → IsReady y
-  ready_reserved room left more has_room counted places records born =
+  pub ready_reserved : (room lacking : ℕ) → index_map_len x.records < room → HasRoom room room room y.indices → lacking ≡ count_slots is_left (slots_in x) (born_in x) + x.indices.failing
+      → HasPlaces (lacking + 1) (born_in x + 1) y.indices.ages → 1 ≤ spare y.records → length y.receives.items < vec_capacity y.receives → IsReady y
+  ready_reserved room lacking more has_room counted places records born =
       let few = kept_count y (born_in y) in
       let same : index_map_len y.records ≡ index_map_len x.records = ap length entries in
       let less : count_slots is_some (slots_in y) (born_in y) < room = omega arith in
       let slots : slots_in x ≡ slots_in y = λ i. λ n. sym (ap slot_in (same_records n)) i in
       let length_is : born_in y ≡ born_in x = ap length receives in
-      let left_is : count_slots is_left (slots_in y) (born_in y) ≡ left =
-      ap (λ (count : ℕ). count_slots is_left (slots_in y) count) length_is ∙ ap (λ (s : ℕ → Option Slot). count_slots is_left s (born_in x)) (sym slots) ∙ counted in
+      let left_is : count_slots is_left (slots_in y) (born_in y) ≡ count_slots is_left (slots_in x) (born_in x) =
+      ap (λ (count : ℕ). count_slots is_left (slots_in y) count) length_is ∙ ap (λ (s : ℕ → Option Slot). count_slots is_left s (born_in x)) (sym slots) in
       record {
-        indices = room_for_one (slots_in y) (born_in y) y.indices room room room has_reserved.indices has_room less less less (omega (arith, left_is, places.room));
+        indices = room_for_one (slots_in y) (born_in y) y.indices room room room has_reserved.indices has_room less less less (omega (arith, left_is, counted, reserved.failing, places.room));
         records = records;
         receives = born;
         place = omega (arith, length_is, places.within);

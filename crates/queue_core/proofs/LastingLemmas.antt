@@ -5,7 +5,7 @@ use Rattle.std.specs.Option.{option_map_or}
 use Rattle.std.specs.List.{All, Contains}
 use Rattle.std.proofs.lemmas.List.{drop_all}
 use Rattle.std.proofs.lemmas.List.Elements.{All-contains, All-weaker}
-use Rattle.std.proofs.lemmas.Bool.{leb-true, cases_lt, eq-eqb, or_left, or_right, false≢true}
+use Rattle.std.proofs.lemmas.Bool.{leb-true, cases_lt, eq-eqb, false≢true}
 use Rattle.message.specs.declared.fault.Fault.{Fault}
 use Rattle.message.specs.declared.fault.Fault.TheVariants.{InvalidParameterValue}
 use Rattle.message.specs.Fault.{is_out_of_memory}
@@ -31,7 +31,8 @@ use Rattle.queue_core.specs.Run.{AreExact, after_all}
 use Rattle.queue_core.specs.Turns.{IsVisibleCandidate}
 use Rattle.queue_core.specs.Lasting.{content_numbered}
 use Rattle.queue_core.proofs.AlikeLemmas.{in_state}
-use Rattle.queue_core.proofs.OfferLemmas.{Among, Among-from_at, offered_visible}
+use Rattle.queue_core.proofs.OfferLemmas.{Contains-map, offered_visible}
+use Rattle.queue_core.proofs.PendingLemmas.{contains-number}
 use Rattle.queue_core.proofs.CauseLemmas.{IsAbout, about-outcome}
 use Rattle.queue_core.proofs.PushLemmas.{Line, first_course, course-push, unexpired-past, content-push, numbered-push, numbered-kept, newborn}
 use Rattle.queue_core.proofs.RecordLemmas.{expired-later, expired-push}
@@ -165,11 +166,6 @@ pub offered_due : (q : QueueHistory) (maximum : ℕ) → All (λ c. due_time q.l
 offered_due q maximum =
     All-weaker (λ c. IsVisibleCandidate q.lines q.clock c) (λ c. due_time q.lines c.message ≤ q.clock) (candidate-due q) (offered_candidates q maximum) (offered_visible q maximum)
 
-contains-number : (c : Candidate) (cs : List Candidate) → Among c cs → contains_number c.message.number (numbers_of cs) ≡ true
-contains-number c [] h = absurd h
-contains-number c (x ∷ cs) (inl is) = or_left (eqb x.message.number c.message.number) (contains_number c.message.number (numbers_of cs)) (ap (λ (y : Candidate). eqb y.message.number c.message.number) is ∙ eq-eqb c.message.number c.message.number refl)
-contains-number c (x ∷ cs) (inr h) = or_right (eqb x.message.number c.message.number) (contains_number c.message.number (numbers_of cs)) (contains-number c cs h)
-
 candidate-placed : (q : QueueHistory) (c : Candidate) → IsVisibleCandidate q.lines q.clock c → c.message.place < length q.lines
 candidate-placed q c h =
     All-contains (λ m. m.place < length q.lines) (messages q.lines) c.message (all-placed q.lines) h.message
@@ -185,6 +181,6 @@ pub offered_again : (q : QueueHistory) (maximum timeout : ℕ) (c : Candidate) �
 offered_again q maximum timeout c h =
     let visible : IsVisibleCandidate q.lines q.clock c = All-contains (λ x. IsVisibleCandidate q.lines q.clock x) (offered_candidates q maximum) c (offered_visible q maximum) h in
     let within = candidate-placed q c visible in
-    let contained : contains_number c.message.number (numbers_of (offered_candidates q maximum)) ≡ true = contains-number c (offered_candidates q maximum) (Among-from_at c (offered_candidates q maximum) h.0 h.1 h.2) in
+    let contained : contains_number c.message.number (numbers_of (offered_candidates q maximum)) ≡ true = contains-number c.message.number (numbers_of (offered_candidates q maximum)) (Contains-map (λ (x : Candidate). x.message.number) (offered_candidates q maximum) c h) in
     ap (λ (x : Course). x.due) (course-push q.lines (record { at = q.clock; event = received_event q maximum (Some timeout) }) c.message within)
     ∙ rw (returns-received (course_of q.lines c.message).status q maximum timeout, contained) refl

@@ -4,7 +4,7 @@ use Rattle.std.specs.Prelude.{◌⊎◌, nat_eq, filter}
 use Rattle.std.specs.Option.{option_map_or}
 use Rattle.std.specs.List.{list_any, All, AllPairs, Contains}
 use Rattle.std.proofs.lemmas.List.{append-nil}
-use Rattle.std.proofs.lemmas.List.Elements.{All-head, All-tail, All-append, All-weaker, All-map, All-filter, All-contains, All-contains_itself, filter-append, filter_agree, filter_passes, Contains-append_left, Contains-append_right, Contains-append_cases, Contains-push, Contains-push_cases}
+use Rattle.std.proofs.lemmas.List.Elements.{All-head, All-tail, All-append, All-weaker, All-map, All-contains, All-contains_itself, filter-append, filter_agree, Contains-append_left, Contains-append_right, Contains-append_cases, Contains-push}
 use Rattle.std.proofs.lemmas.List.Folds.{list_any-from_Any}
 use Rattle.std.proofs.lemmas.List.Kept.{AllPairs-cons, AllPairs-filter}
 use Rattle.std.proofs.lemmas.Bool.{false≢true, true≢false, not-true, not_from_false, eqb-true, eq-eqb, ne_eqb, or_cases, and_parts}
@@ -25,6 +25,8 @@ use Rattle.queue_core.specs.States.{is_live, waiting_state, same_state, is_in_st
 use Rattle.queue_core.specs.Queue.{QueueHistory}
 use Rattle.queue_core.specs.Legal.{IsLegal, IsOpening}
 use Rattle.queue_core.proofs.PushLemmas.{ended-push, IsNew, numbered-cases, numbered-kept, course-kept, newborn}
+use Rattle.queue_core.proofs.OfferLemmas.{Contains-filter, Contains-from_filter}
+use Rattle.queue_core.proofs.PairLemmas.{AllPairs-map}
 use Rattle.queue_core.proofs.CauseLemmas.{AllPairs-nil, AllPairs-head, AllPairs-tail, IsAbout, about-caused}
 use Rattle.queue_core.proofs.AlongLemmas.{holds_along}
 
@@ -67,33 +69,8 @@ pending_transfers-push (x ∷ xs) e =
 
 -- ---- elements of lists
 
-pub Contains-from_filter : {X : Type 0} (p : X → Bool) (xs : List X) (x : X) → Contains (filter p xs) x → Contains xs x × (p x ≡ true)
-Contains-from_filter p xs x h = (
-  All-contains (Contains xs) (filter p xs) x (All-filter p (Contains xs) xs (All-contains_itself xs)) h,
-  All-contains (λ y. p y ≡ true) (filter p xs) x (filter_passes p xs) h,
-)
-
-filter-here : {X : Type 0} (b : Bool) (x : X) (xs : List X) → b ≡ true → Contains (cond b (x ∷ xs) xs) x
-filter-here true x xs h = Contains-append_left (x ∷ []) xs x (Contains-push [] x)
-filter-here false x xs h = absurd (false≢true h)
-
-filter-later : {X : Type 0} (b : Bool) (y x : X) (xs : List X) → Contains xs x → Contains (cond b (y ∷ xs) xs) x
-filter-later true y x xs h = Contains-append_right (y ∷ []) xs x h
-filter-later false y x xs h = h
-
 pub Contains-nil : {X : Type 0} (x : X) → Contains [] x → ⊥
 Contains-nil x h = let lt : h.0 < 0 = h.1 in omega arith
-
-same_from_one : {X : Type 0} (y x : X) → Contains (y ∷ []) x → y ≡ x
-same_from_one y x h = elim (Contains-push_cases [] y x h) [ inl none ↦ absurd (Contains-nil x none) | inr is ↦ is ]
-
-Contains-filter : {X : Type 0} (p : X → Bool) (xs : List X) (x : X) → p x ≡ true → Contains xs x → Contains (filter p xs) x
-Contains-filter p [] x h k = absurd (Contains-nil x k)
-Contains-filter p (y ∷ ys) x h k =
-    elim (Contains-append_cases (y ∷ []) ys x k) [
-      | inl is ↦ (let same = same_from_one y x is in subst (λ (z : _). Contains (cond (p y) (y ∷ filter p ys) (filter p ys)) z) same (filter-here (p y) y (filter p ys) (ap p same ∙ h)))
-      | inr later ↦ filter-later (p y) y x (filter p ys) (Contains-filter p ys x h later)
-    ]
 
 AllPairs-append : {X : Type 0} (R : X → X → Type 0) (xs ys : List X) → AllPairs R xs → AllPairs R ys → All (λ x. All (R x) ys) xs → AllPairs R (xs ++ ys)
 AllPairs-append R [] ys h k across = k
@@ -101,17 +78,12 @@ AllPairs-append R (x ∷ xs) ys h k across =
     AllPairs-cons R x (xs ++ ys) (All-append (R x) xs ys (AllPairs-head R x xs h) (All-head (λ y. All (R y) ys) x xs across))
     (AllPairs-append R xs ys (AllPairs-tail R x xs h) k (All-tail (λ y. All (R y) ys) x xs across))
 
-AllPairs-map : {X Y : Type 0} (R : Y → Y → Type 0) (f : X → Y) (xs : List X) → AllPairs (λ a b. R (f a) (f b)) xs → AllPairs R (map f xs)
-AllPairs-map R f [] h = AllPairs-nil R
-AllPairs-map R f (x ∷ xs) h =
-    AllPairs-cons R (f x) (map f xs) (All-map (R (f x)) f xs (AllPairs-head (λ a b. R (f a) (f b)) x xs h)) (AllPairs-map R f xs (AllPairs-tail (λ a b. R (f a) (f b)) x xs h))
-
 -- ---- the transfers that an event begins
 
 abbrev transfer : ℕ → ℕ → Transfer
 transfer target number = record { number = number; target = target }
 
-contains-number : (n : ℕ) (ns : List ℕ) → Contains ns n → contains_number n ns ≡ true
+pub contains-number : (n : ℕ) (ns : List ℕ) → Contains ns n → contains_number n ns ≡ true
 contains-number n ns h = list_any-from_Any (λ k. eqb k n) ns (h.0, n, h.1, h.2, eq-eqb n n refl)
 
 Contains-transfer : (target n : ℕ) (ns : List ℕ) → contains_number n ns ≡ true → Contains (map (transfer target) ns) (transfer target n)
@@ -279,7 +251,7 @@ module _ (q : QueueHistory) (e : Entry ContentText) (is : IsAbout q e.event) (be
   once_after : AllPairs HaveOtherNumbers (still_open q.lines e ++ departures e.event)
   once_after =
       AllPairs-append HaveOtherNumbers (still_open q.lines e) (departures e.event) (AllPairs-filter HaveOtherNumbers (λ t. not (ends_transfer t e.event)) (pending_transfers q.lines) before.once)
-      (AllPairs-map HaveOtherNumbers (transfer (effect_of e.event).target) (effect_of e.event).departures is.departing_once)
+      (AllPairs-map (transfer (effect_of e.event).target) HaveOtherNumbers (effect_of e.event).departures is.departing_once)
       (All-weaker (Contains (still_open q.lines e)) (λ t. All (HaveOtherNumbers t) (departures e.event))
       (λ t h. All-weaker (Contains (departures e.event)) (HaveOtherNumbers t) (λ d k. apart_begun t d h k) (departures e.event) (All-contains_itself (departures e.event)))
       (still_open q.lines e) (All-contains_itself (still_open q.lines e)))

@@ -16,7 +16,7 @@ use Rattle.queue_core.specs.declared.facts.Status.{Status}
 use Rattle.queue_core.specs.declared.facts.Status.TheVariants.{Present, Waiting}
 use Rattle.queue_core.specs.declared.facts.MessageState.TheVariants.{Visible, Delayed, InFlight}
 use Rattle.queue_core.specs.Messages.{contains_number, message_count, messages, course_of, receive_count, last_receive_time, awaits_status, pending_transfers, content_of}
-use Rattle.queue_core.specs.States.{is_live, is_in_state, is_numbered, message_numbered, count_in_state, oldest_age, gauges_of}
+use Rattle.queue_core.specs.States.{is_live, has_age, is_in_state, is_numbered, message_numbered, count_in_state, oldest_age, gauges_of}
 use Rattle.queue_core.specs.Queue.{QueueHistory, passes_twelve_hours, is_pending, waiting_count, origin_of, parcel_of, transferred_parcel, first_transfer, first_parcel_of}
 use Rattle.queue_core.specs.Legal.{IsLegal}
 use Rattle.queue_core.specs.declared.parcel.Parcel.{Parcel}
@@ -25,7 +25,7 @@ use Rattle.queue_core.specs.declared.slot.Stay.TheVariants.{Hidden, Shown, Left}
 use Rattle.queue_core.specs.declared.slot.Slot.{Slot}
 use Rattle.queue_core.specs.declared.record.Record.{Record}
 use Rattle.queue_core.specs.declared.index.MessageIndex.{MessageIndex}
-use Rattle.queue_core.specs.Slots.{is_left_stay, is_left_stay_for, is_here, is_left, is_left_for, is_in_flight, AreIndexed}
+use Rattle.queue_core.specs.Slots.{is_left_stay, is_left_stay_for, is_here, has_age as slot_has_age, is_left, is_left_for, is_in_flight, AreIndexed}
 use Rattle.queue_core.specs.Records.{records_in, slots_in, born_in}
 use Rattle.queue_core.specs.Recorded.{ran_out_before, IsStanding, IsRecordOf}
 use Rattle.queue_core.specs.Indexed.{IsIndexOf}
@@ -66,15 +66,15 @@ age_found clock k test all age below here is =
     let found = found_at test all k below here in
     is found.0 found.1 ∙ ap (λ (o : Option Message). option_map_or (λ m. (clock - m.enqueue_time) / 1000) o 0) (sym found.2)
 
--- the age is that of the message of the first live number, and 0 where no number is live
-pub oldest_age-found : (lines : List Line) (clock k age : ℕ) → ((j : ℕ) → j < k → is_numbered (λ m. is_live lines clock m) lines j ≡ false) → is_numbered (λ m. is_live lines clock m) lines k ≡ true
+-- the age is that of the message of the first number whose age is looked at, and 0 where there is none
+pub oldest_age-found : (lines : List Line) (clock k age : ℕ) → ((j : ℕ) → j < k → is_numbered (λ m. has_age lines clock m) lines j ≡ false) → is_numbered (λ m. has_age lines clock m) lines k ≡ true
     → ((m : Message) → message_numbered lines k ≡ Some m → age ≡ (clock - m.enqueue_time) / 1000) → age ≡ oldest_age lines clock
-oldest_age-found lines clock k age below here is = age_found clock k (λ m. is_live lines clock m) (messages lines) age below here is
+oldest_age-found lines clock k age below here is = age_found clock k (λ m. has_age lines clock m) (messages lines) age below here is
 
-pub oldest_age-none : (lines : List Line) (clock k : ℕ) → message_count lines ≤ k → ((j : ℕ) → j < k → is_numbered (λ m. is_live lines clock m) lines j ≡ false) → 0 ≡ oldest_age lines clock
+pub oldest_age-none : (lines : List Line) (clock k : ℕ) → message_count lines ≤ k → ((j : ℕ) → j < k → is_numbered (λ m. has_age lines clock m) lines j ≡ false) → 0 ≡ oldest_age lines clock
 oldest_age-none lines clock k past below =
     ap (λ (o : Option Message). option_map_or (λ m. (clock - m.enqueue_time) / 1000) o 0)
-    (sym (found_nowhere (λ m. is_live lines clock m) (messages lines) (λ j h. below j (omega arith))))
+    (sym (found_nowhere (λ m. has_age lines clock m) (messages lines) (λ j h. below j (omega arith))))
 
 -- ---- where a message that waits stands
 
@@ -169,19 +169,19 @@ module _ (q : QueueHistory) (x : MessageIndex) (is : IsIndexOf q.lines q.clock x
       ∙ ap (λ (n : ℕ). nat_lt (last_receive_time q.lines number + 43200000) (n + 1000 * seconds)) now
       ∙ ap (λ (n : ℕ). nat_lt (last_receive_time q.lines number + 43200000) (q.clock + 1000 * n)) given
 
-  -- the first that is there is the oldest
-  live_at : (number : ℕ) (b : Bool) → is_here (slots_in x number) ≡ b → is_numbered (λ m. is_live q.lines q.clock m) q.lines number ≡ b
-  live_at number b h = sym (here_at number (slots_in x number) refl) ∙ h
+  -- the first whose age is looked at is the oldest
+  age_at : (number : ℕ) (b : Bool) → slot_has_age (slots_in x number) ≡ b → is_numbered (λ m. has_age q.lines q.clock m) q.lines number ≡ b
+  age_at number b h = indexed.age_is q.lines q.clock (records_in x) is.recorded.records is.settled number ∙ h
 
-  kept_here : (o : Option Record) → is_here (slot_in o) ≡ true → (r : Record) × (o ≡ Some r)
+  kept_here : (o : Option Record) → slot_has_age (slot_in o) ≡ true → (r : Record) × (o ≡ Some r)
   kept_here None h = absurd (false≢true h)
   kept_here (Some r) h = (r, refl)
 
-  pub oldest_by : (number age : ℕ) → is_here (slots_in x number) ≡ true → ((k : ℕ) → k < number → is_here (slots_in x k) ≡ false)
+  pub oldest_by : (number age : ℕ) → slot_has_age (slots_in x number) ≡ true → ((k : ℕ) → k < number → slot_has_age (slots_in x k) ≡ false)
       → ((r : Record) → records_in x number ≡ Some r → age ≡ (q.clock - r.enqueue_time) / 1000) → age ≡ oldest_age q.lines q.clock
   oldest_by number age here first is_age =
       let kept = kept_here (records_in x number) here in
-      oldest_age-found q.lines q.clock number age (λ k h. live_at k false (first k h)) (live_at number true here)
+      oldest_age-found q.lines q.clock number age (λ k h. age_at k false (first k h)) (age_at number true here)
       (λ m e. is_age kept.0 kept.1 ∙ ap (λ (n : ℕ). (q.clock - n) / 1000) (enqueued_at number kept.0 (sym kept.1) m e))
 
   -- ---- counts
@@ -189,9 +189,9 @@ module _ (q : QueueHistory) (x : MessageIndex) (is : IsIndexOf q.lines q.clock x
   born_is : born_in x ≡ message_count q.lines
   born_is = ap length is.recorded.receives ∙ length-map-range_with_len (λ n. receive_count q.lines n) 0 (message_count q.lines)
 
-  pub oldest_none : ((k : ℕ) → k < born_in x → is_here (slots_in x k) ≡ false) → 0 ≡ oldest_age q.lines q.clock
+  pub oldest_none : ((k : ℕ) → k < born_in x → slot_has_age (slots_in x k) ≡ false) → 0 ≡ oldest_age q.lines q.clock
   oldest_none none =
-      oldest_age-none q.lines q.clock (message_count q.lines) (omega arith) (λ k h. live_at k false (none k (omega (arith, h, born_is))))
+      oldest_age-none q.lines q.clock (message_count q.lines) (omega arith) (λ k h. age_at k false (none k (omega (arith, h, born_is))))
 
   indices_are : AreIndexed (slots_in x) (message_count q.lines) x.indices
   indices_are = subst (λ (n : ℕ). AreIndexed (slots_in x) n x.indices) born_is is.indexed.indices.indices

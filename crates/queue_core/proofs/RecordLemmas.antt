@@ -1,10 +1,10 @@
 -- The records of messages stay those of the journal, whatever event comes and however much time passes.
 use Rattle.std.proofs.Common.{◌≡◌, ℕ, ◌+◌, ◌*◌, ◌≤◌, ◌<◌, Bool, true, false, not, cond, ◌&&◌, ◌||◌, List, [], ◌∷◌, ◌++◌, length, Option, Some, None, inl, inr, refl, sym, ap, subst, ◌∙◌, eqb, arith}
-use Rattle.std.specs.Prelude.{◌⊎◌, nat_eq, nat_le, option_map, option_and_then}
+use Rattle.std.specs.Prelude.{◌⊎◌, nat_eq, nat_le, nat_lt, min, option_map, option_and_then}
 use Rattle.std.specs.Option.{option_map_or}
 use Rattle.std.proofs.Math.Bool.{and-false}
 use Rattle.std.proofs.Math.Nat.{add-zero}
-use Rattle.std.proofs.lemmas.Bool.{false≢true, and_parts, or_right, leb-true, le-leb, eqb-true, ne_eqb, false_from_ne_true}
+use Rattle.std.proofs.lemmas.Bool.{false≢true, and_parts, or_right, leb-true, le-leb, lt-ltb, le-ltb, cases_lt, eqb-true, ne_eqb, false_from_ne_true}
 use Rattle.std.proofs.lemmas.List.{length-append}
 use Rattle.std.proofs.lemmas.Option.{none-some, same_Some}
 use Rattle.message.specs.Content.{ContentText}
@@ -25,7 +25,7 @@ use Rattle.queue_core.specs.declared.slot.Stay.{Stay}
 use Rattle.queue_core.specs.declared.slot.Stay.TheVariants.{Hidden, Shown, Left}
 use Rattle.queue_core.specs.declared.record.Record.{Record}
 use Rattle.queue_core.specs.Slots.{is_left_stay}
-use Rattle.queue_core.specs.Records.{with_stay, has_run_out, stay_at, is_left_record, settled_record, record_after, Records, IsSettled, born_record, records_after, records_settled}
+use Rattle.queue_core.specs.Records.{with_stay, has_run_out, tried, stay_at, is_left_record, settled_record, record_after, Records, IsSettled, born_record, records_after, records_settled}
 use Rattle.queue_core.specs.Recorded.{ran_out_before, runs_out_by, IsStanding, IsRecordOf, AreRecorded}
 use Rattle.queue_core.proofs.FactLemmas.{Line, settings_from-push, course-push, ran_out-push, expired-split, receives-push, first-push, last-push, content-push, numbered-push, numbered-number, numbered-place, numbered-past, newborn, unborn, about}
 use Rattle.queue_core.proofs.ToldLemmas.{Told, IsTold, told-with, told_after, there_unless, gone_if, told-next, told-gone, untold}
@@ -86,6 +86,7 @@ told_of lines m = record {
   first_receive = first_receive_time lines m.number;
   last_receive = last_receive_time lines m.number;
   fresh = eqb (receive_count lines m.number) 0 && not (is_returned lines m);
+  tries = min (receive_count lines m.number) 3;
   course = course_of lines m;
   ran_out = ran_out_before lines m;
 }
@@ -99,6 +100,7 @@ told_from lines m r is = record {
   first_receive = is.first_receive;
   last_receive = is.last_receive;
   fresh = is.fresh;
+  tries = is.tries;
   standing = is.standing;
 }
 
@@ -111,6 +113,7 @@ record_from lines m r is = record {
   first_receive = is.first_receive;
   last_receive = is.last_receive;
   fresh = is.fresh;
+  tries = is.tries;
   standing = is.standing;
 }
 
@@ -137,7 +140,7 @@ module _ (lines : List Line) (clock : ℕ) (m : Message) (r : Record) (is : IsRe
   IsRecordOf-settled : IsRecordOf lines m (settled_stay clock r)
   IsRecordOf-settled =
       record_from lines m (settled_stay clock r)
-      (told-with m (told_of lines m) r (told_from lines m r is) (told_of lines m) (settled_stay clock r) refl is.first_receive is.last_receive is.fresh
+      (told-with m (told_of lines m) r (told_from lines m r is) (told_of lines m) (settled_stay clock r) refl is.first_receive is.last_receive is.fresh is.tries
       (standing_at clock r.slot.stay r.slot.due (course_of lines m) (ran_out_before lines m) is.standing))
 
   -- a record that is let go is of a message that is there and has expired
@@ -228,6 +231,13 @@ fresh-more count returned true back =
     rw (received, and-false (eqb count 0 && not returned)) refl
 fresh-more count returned false back = rw add-zero (fresh-back (eqb count 0) returned back)
 
+tried-more : (count : ℕ) (offered : Bool) → min (count + cond offered 1 0) 3 ≡ cond offered (tried (min count 3)) (min count 3)
+tried-more count true = elim (cases_lt (min count 3) 3) [
+  | inl few ↦ let test : nat_lt (min count 3) 3 ≡ true = lt-ltb (min count 3) 3 few in rw test (omega (arith, few))
+  | inr most ↦ let test : nat_lt (min count 3) 3 ≡ false = le-ltb (min count 3) 3 most in rw test (omega (arith, most))
+]
+tried-more count false = ap (λ n. min n 3) (add-zero count)
+
 retention-kept : (s : QueueSettings) (event : Event ContentText) → opens event ≡ false → closes_period event ≡ false → (settings_after s event).retention_seconds ≡ s.retention_seconds
 retention-kept s (Opened uid settings) h k = absurd cc
 retention-kept s (Set settings) h k = absurd cc
@@ -248,7 +258,9 @@ module _ (lines : List Line) (at : ℕ) (event : Event ContentText) (m : Message
       ap (λ (c : Course). eqb (receive_count (lines ++ line ∷ []) m.number) 0 && not c.returned) course
       ∙ (ap (λ n. eqb n 0 && not (returns (course_of lines m).status event || is_returned lines m)) (receives-push lines line m.number)
       ∙ fresh-more (receive_count lines m.number) (is_returned lines m) (offers_number m.number event) (returns (course_of lines m).status event)) in
-      λ i. record { content = text i; first_receive = first i; last_receive = last i; fresh = fresh i; course = course i; ran_out = ran_out i }
+      let tries : (told_of (lines ++ line ∷ []) m).tries ≡ (told_after (settings_of lines) at event m (told_of lines m)).tries =
+      ap (λ n. min n 3) (receives-push lines line m.number) ∙ tried-more (receive_count lines m.number) (offers_number m.number event) in
+      λ i. record { content = text i; first_receive = first i; last_receive = last i; fresh = fresh i; tries = tries i; course = course i; ran_out = ran_out i }
 
   placed_more : m.place < length (lines ++ line ∷ [])
   placed_more = omega (arith, length-append lines (line ∷ []))
@@ -344,7 +356,7 @@ module _ (q : QueueHistory) (event : Event ContentText) (caused : IsCausedIn q e
     origin = birth.origin;
     first_receive = None;
     last_receive = 0;
-    slot = record { stay = Hidden; due = q.clock + 1000 * birth.delay; sent = option_map_or (λ origin. origin.sent) birth.origin q.clock; is_fresh = true };
+    slot = record { stay = Hidden; due = q.clock + 1000 * birth.delay; sent = option_map_or (λ origin. origin.sent) birth.origin q.clock; is_fresh = true; tries = 0 };
   }
 
   abbrev born_message : ℕ → Birth ContentText → Message
@@ -374,6 +386,7 @@ module _ (q : QueueHistory) (event : Event ContentText) (caused : IsCausedIn q e
           first_receive = sym (first-push q.lines entry n ∙ rw (un.first, unoffered_yet) refl);
           last_receive = sym (last-push q.lines entry n ∙ rw (unoffered_yet, un.last) refl);
           fresh = sym (ap (λ k. eqb k 0 && not (is_returned more (born_message n birth))) receives ∙ ap (λ (c : Course). not c.returned) new.course);
+          tries = sym (ap (λ k. min k 3) receives);
           standing = (ap (λ (c : Course). c.status) new.course, ap (λ (c : Course). c.due) new.course, new.ran_out);
         }
 

@@ -1,10 +1,10 @@
 -- What a slot says: for how much it counts, and in which of the indices it has a moment.
-use Rattle.std.proofs.Common.{◌≡◌, ℕ, ◌+◌, ◌-◌, ◌≤◌, Bool, true, false, not, cond, ◌&&◌, ◌==◌, Option, Some, None, is_some, refl, ap, arith}
+use Rattle.std.proofs.Common.{◌≡◌, ℕ, ◌+◌, ◌-◌, ◌≤◌, Bool, true, false, not, cond, ◌&&◌, ◌==◌, nat_lt, Option, Some, None, is_some, refl, ap, arith}
 use mir.Val.{bool_byte}
 use Rattle.queue_core.specs.declared.slot.Stay.{Stay}
 use Rattle.queue_core.specs.declared.slot.Stay.TheVariants.{Hidden, Shown, Left}
 use Rattle.queue_core.specs.declared.slot.Slot.{Slot}
-use Rattle.queue_core.specs.Slots.{is_hidden_stay, is_shown_stay, is_left_stay, is_hidden, is_shown, is_left, is_here, is_delayed, is_in_flight, due_in, sent_in, shows, one_if}
+use Rattle.queue_core.specs.Slots.{is_hidden_stay, is_shown_stay, is_left_stay, is_hidden, is_shown, is_left, is_here, is_delayed, is_in_flight, has_age, is_failing, due_in, sent_in, shows, one_if}
 use Rattle.queue_core.specs.Changes.{shown_in, is_at}
 
 -- a slot is hidden, shown or left, and a hidden one delayed or in flight
@@ -12,6 +12,7 @@ pub record IsCounted (o : Option Slot) : Type 0 where
   pub hidden : one_if (is_delayed o) + one_if (is_in_flight o) ≡ one_if (is_hidden o)
   pub one : one_if (is_hidden o) + one_if (is_shown o) + one_if (is_left o) ≡ one_if (is_some o)
   pub here : one_if (is_here o) + one_if (is_left o) ≡ one_if (is_some o)
+  pub age : one_if (has_age o) + one_if (is_failing o) + one_if (is_left o) ≡ one_if (is_some o)
   pub most : one_if (is_some o) ≤ 1
 
 hidden_parts : (stay : Stay) (fresh : Bool) → one_if (is_hidden_stay stay && fresh) + one_if (is_hidden_stay stay && not fresh) ≡ one_if (is_hidden_stay stay)
@@ -30,9 +31,16 @@ here_parts Hidden = refl
 here_parts Shown = refl
 here_parts (Left target ran_out) = refl
 
+age_parts : (stay : Stay) (tried : Bool) → one_if (not (is_left_stay stay) && tried) + one_if (not (is_left_stay stay) && not tried) + one_if (is_left_stay stay) ≡ 1
+age_parts Hidden true = refl
+age_parts Hidden false = refl
+age_parts Shown true = refl
+age_parts Shown false = refl
+age_parts (Left target ran_out) tried = refl
+
 pub counted : (o : Option Slot) → IsCounted o
-counted None = record { hidden = refl; one = refl; here = refl; most = omega arith }
-counted (Some s) = record { hidden = hidden_parts s.stay s.is_fresh; one = stay_parts s.stay; here = here_parts s.stay; most = omega arith }
+counted None = record { hidden = refl; one = refl; here = refl; age = refl; most = omega arith }
+counted (Some s) = record { hidden = hidden_parts s.stay s.is_fresh; one = stay_parts s.stay; here = here_parts s.stay; age = age_parts s.stay (nat_lt s.tries 3); most = omega arith }
 
 -- a number has a moment in an index where its slot is of that kind
 

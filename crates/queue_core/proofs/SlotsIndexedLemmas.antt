@@ -8,7 +8,7 @@ use Rattle.std.proofs.lemmas.Bool.{cases_lt}
 use Rattle.visible_index.specs.Pairs.{has_pair}
 use Rattle.queue_core.specs.declared.slot.Slot.{Slot}
 use Rattle.queue_core.specs.declared.indices.Indices.{Indices}
-use Rattle.queue_core.specs.Slots.{is_hidden, is_shown, is_left, is_here, is_delayed, is_in_flight, due_in, sent_in, shows, one_if, CanReplace, IsReplaced, count_slots, AreIndexed, HasRoomForOne}
+use Rattle.queue_core.specs.Slots.{is_hidden, is_shown, is_left, is_here, is_delayed, is_in_flight, has_age, is_failing, due_in, sent_in, shows, one_if, CanReplace, IsReplaced, count_slots, AreIndexed, HasRoomForOne}
 use Rattle.queue_core.specs.Changes.{IsReserved, HasRoom}
 use Rattle.queue_core.specs.Ages.{AreAges}
 use Rattle.queue_core.proofs.AgeLemmas.{can_list, listed, ages_longer, ages_more}
@@ -53,7 +53,7 @@ record HasSlack (slots : ℕ → Option Slot) (count : ℕ) (x : Indices) (o : O
   due : count_slots is_shown slots count + count_slots is_left slots count + 1 ≤ x.due.spare + one_if (is_some o)
   visible : x.delayed + x.in_flight + count_slots is_left slots count + 1 ≤ x.visible.spare + one_if (is_some o)
   sent : count_slots is_left slots count + 1 ≤ x.sent.spare + one_if (is_some o)
-  ages : count_slots is_left slots count + 1 ≤ x.ages.list.spare + one_if (is_some o)
+  ages : count_slots is_left slots count + x.failing + 1 ≤ x.ages.list.spare + one_if (is_some o)
 
 slack : (slots : ℕ → Option Slot) (count : ℕ) (x : Indices) (o : Option Slot) → AreIndexed slots count x → (o ≡ None → HasRoomForOne slots count x) → HasSlack slots count x o
 slack slots count x None is room =
@@ -67,9 +67,10 @@ record HasCounted (slots : ℕ → Option Slot) (count : ℕ) (o : Option Slot) 
   left : one_if (is_left o) ≤ count_slots is_left slots count
   delayed : one_if (is_delayed o) ≤ count_slots is_delayed slots count
   in_flight : one_if (is_in_flight o) ≤ count_slots is_in_flight slots count
+  failing : one_if (is_failing o) ≤ count_slots is_failing slots count
 
 has_counted : (slots : ℕ → Option Slot) (count : ℕ) (x : Indices) (number : ℕ) (o : Option Slot) → AreIndexed slots count x → slots number ≡ o → HasCounted slots count o
-has_counted slots count x number None is at = record { shown = omega arith; left = omega arith; delayed = omega arith; in_flight = omega arith }
+has_counted slots count x number None is at = record { shown = omega arith; left = omega arith; delayed = omega arith; in_flight = omega arith; failing = omega arith }
 has_counted slots count x number (Some s) is at =
     let h = number_below slots count x number s is at in
     record {
@@ -77,6 +78,7 @@ has_counted slots count x number (Some s) is at =
       left = slot_counts is_left slots count number (Some s) h at;
       delayed = slot_counts is_delayed slots count number (Some s) h at;
       in_flight = slot_counts is_in_flight slots count number (Some s) h at;
+      failing = slot_counts is_failing slots count number (Some s) h at;
     }
 
 pub can_replace : (slots : ℕ → Option Slot) (count : ℕ) (x : Indices) (number : ℕ) (before after : Option Slot) → AreIndexed slots count x → slots number ≡ before
@@ -96,9 +98,11 @@ can_replace slots count x number before after is at room place few =
       delayed = omega (arith, had.delayed, is.delayed);
       in_flight = omega (arith, had.in_flight, is.in_flight);
       few = omega (arith, few, is.delayed, is.in_flight, count_upto (λ n. is_delayed (slots n)) count, count_upto (λ n. is_in_flight (slots n)) count);
+      failing = omega (arith, had.failing, is.failing);
+      few_failing = omega (arith, few, is.failing, count_upto (λ n. is_failing (slots n)) count);
       ages =
-          can_list (λ n. is_here (slots n)) count (count_slots is_left slots count) number (is_here before) x.ages is.ages (ap is_here at) place
-          (λ e. let none = ap one_if e in omega (arith, none, parts.here, spare.ages, had.left));
+          can_list (λ n. has_age (slots n)) count (count_slots is_left slots count + x.failing) number (has_age before) x.ages is.ages (ap has_age at) place
+          (λ e. let none = ap one_if e in omega (arith, none, parts.age, spare.ages, had.left, had.failing, is.failing));
     }
 
 -- ---- a number has got another slot
@@ -125,6 +129,12 @@ enough_sent : (left left' spare spare' : ℕ) (before after : Option Slot) → l
     → spare' + one_if (is_here after) ≡ spare + one_if (is_here before) → left + 1 ≤ spare + one_if (is_some before) → left' ≤ spare'
 enough_sent left left' spare spare' before after l r h = let b = counted before in let a = counted after in omega (arith, l, r, h, b.here, a.here, a.most)
 
+enough_ages : (left failing left' failing' spare spare' : ℕ) (before after : Option Slot) → left' + one_if (is_left before) ≡ left + one_if (is_left after)
+    → failing' + one_if (is_failing before) ≡ failing + one_if (is_failing after) → spare' + one_if (has_age after) ≡ spare + one_if (has_age before)
+    → left + failing + 1 ≤ spare + one_if (is_some before) → left' + failing' ≤ spare'
+enough_ages left failing left' failing' spare spare' before after l f r h =
+    let b = counted before in let a = counted after in omega (arith, l, f, r, h, b.age, a.age, a.most)
+
 pub indexed_replaced : (slots slots' : ℕ → Option Slot) (count : ℕ) (x y : Indices) (number : ℕ) (before after : Option Slot) → AreIndexed slots count x → slots number ≡ before
     → number < count → (before ≡ None → HasRoomForOne slots count x) → IsReplaced number before after x y → ((n : ℕ) → slots' n ≡ cond (nat_eq n number) after (slots n))
     → AreIndexed slots' count y
@@ -135,6 +145,7 @@ indexed_replaced slots slots' count x y number before after is at h room r each 
     let left = count_given is_left slots slots' count number before after h at to in
     let delayed = count_given is_delayed slots slots' count number before after h at to in
     let in_flight = count_given is_in_flight slots slots' count number before after h at to in
+    let failing = count_given is_failing slots slots' count number before after h at to in
     record {
       due = λ n. pointwise due_in (nat_eq n number) after (slots n) (slots' n) (finite.get y.due.moments n) (finite.get x.due.moments n) (r.due n) (is.due n) (each n);
       sent = λ n. pointwise sent_in (nat_eq n number) after (slots n) (slots' n) (finite.get y.sent.moments n) (finite.get x.sent.moments n) (r.sent n) (is.sent n) (each n);
@@ -146,11 +157,12 @@ indexed_replaced slots slots' count x y number before after is at h room r each 
       due_room = enough_due _ _ _ _ x.due.spare y.due.spare before after shown left r.due_spare spare.due;
       visible_room = enough_visible x.delayed x.in_flight _ y.delayed y.in_flight _ x.visible.spare y.visible.spare before after r.delayed r.in_flight left r.visible_spare spare.visible;
       sent_room = enough_sent _ _ x.sent.spare y.sent.spare before after left r.sent_spare spare.sent;
+      failing = omega (arith, r.failing, is.failing, failing);
       ages =
-          listed (λ n. is_here (slots n)) (λ n. is_here (slots' n)) count (count_slots is_left slots count) (count_slots is_left slots' count) number (is_here before) (is_here after) x.ages y.ages is.ages r.ages
-          (ap is_here (given_here number after slots slots' to))
-          (λ n other. ap is_here (given_other number after slots slots' to n other))
-          (enough_sent _ _ x.ages.list.spare y.ages.list.spare before after left r.ages.spare spare.ages);
+          listed (λ n. has_age (slots n)) (λ n. has_age (slots' n)) count (count_slots is_left slots count + x.failing) (count_slots is_left slots' count + y.failing) number (has_age before) (has_age after) x.ages y.ages is.ages r.ages
+          (ap has_age (given_here number after slots slots' to))
+          (λ n other. ap has_age (given_other number after slots slots' to n other))
+          (enough_ages _ x.failing _ y.failing x.ages.list.spare y.ages.list.spare before after left r.failing r.ages.spare spare.ages);
     }
 
 -- ---- one number more, which has no slot yet
@@ -175,7 +187,8 @@ indexed_more slots count x is place =
       due_room = omega (arith, is.due_room, shown, left);
       visible_room = omega (arith, is.visible_room, left);
       sent_room = omega (arith, is.sent_room, left);
-      ages = ages_more (λ n. is_here (slots n)) count (count_slots is_left slots count) (count_slots is_left slots (count + 1)) x.ages is.ages place left;
+      failing = is.failing ∙ sym (count_none is_failing slots count refl at);
+      ages = ages_more (λ n. has_age (slots n)) count (count_slots is_left slots count + x.failing) (count_slots is_left slots (count + 1) + x.failing) x.ages is.ages place (omega (arith, left));
     }
 
 pub room_more : (slots : ℕ → Option Slot) (count : ℕ) (x : Indices) → AreIndexed slots count x → HasRoomForOne slots count x → HasRoomForOne slots (count + 1) x
@@ -204,12 +217,15 @@ indexed_reserved slots count x y is r = record {
   due_room = omega (arith, is.due_room, r.due_spare);
   visible_room = omega (arith, is.visible_room, r.visible_spare, r.delayed, r.in_flight);
   sent_room = omega (arith, is.sent_room, r.sent_spare);
-  ages = ages_longer (λ n. is_here (slots n)) count (count_slots is_left slots count) x.ages y.ages is.ages r.ages;
+  failing = r.failing ∙ is.failing;
+  ages =
+      subst (λ (failing : ℕ). AreAges (λ n. has_age (slots n)) count (count_slots is_left slots count + failing) y.ages) (sym r.failing)
+      (ages_longer (λ n. has_age (slots n)) count (count_slots is_left slots count + x.failing) x.ages y.ages is.ages r.ages);
 }
 
 pub room_enough : (slots : ℕ → Option Slot) (count : ℕ) (x : Indices) (due sent visible : ℕ) → HasRoom due sent visible x
     → count_slots is_shown slots count + count_slots is_left slots count < due → count_slots is_left slots count < sent
-    → x.delayed + x.in_flight + count_slots is_left slots count < visible → count_slots is_left slots count < x.ages.list.spare → HasRoomForOne slots count x
+    → x.delayed + x.in_flight + count_slots is_left slots count < visible → count_slots is_left slots count + x.failing < x.ages.list.spare → HasRoomForOne slots count x
 room_enough slots count x due sent visible has d s v a =
     record { due = omega (arith, has.due, d); visible = omega (arith, has.visible, v); sent = omega (arith, has.sent, s); ages = omega (arith, a) }
 
@@ -223,7 +239,7 @@ count_slot_parts slots count =
     count_parts (λ n. is_delayed (slots n)) (λ n. is_in_flight (slots n)) (λ n. is_shown (slots n)) (λ n. is_left (slots n)) (λ n. is_some (slots n)) (range_with_len 0 count) (λ n. test_parts (slots n))
 
 pub room_for_one : (slots : ℕ → Option Slot) (count : ℕ) (x : Indices) (due sent visible : ℕ) → AreIndexed slots count x → HasRoom due sent visible x
-    → count_slots is_some slots count < due → count_slots is_some slots count < sent → count_slots is_some slots count < visible → count_slots is_left slots count < x.ages.list.spare
+    → count_slots is_some slots count < due → count_slots is_some slots count < sent → count_slots is_some slots count < visible → count_slots is_left slots count + x.failing < x.ages.list.spare
     → HasRoomForOne slots count x
 room_for_one slots count x due sent visible is has d s v a =
     let all = count_slot_parts slots count in
@@ -232,8 +248,8 @@ room_for_one slots count x due sent visible is has d s v a =
 -- ---- no slots
 
 pub indexed_none : (x : Indices) → x.due ≡ record { moments = finite.empty; spare = 0 } → x.sent ≡ record { moments = finite.empty; spare = 0 } → x.visible ≡ record { pairs = []; spare = 0 }
-    → x.delayed ≡ 0 → x.in_flight ≡ 0 → AreAges (λ n. false) 0 0 x.ages → AreIndexed (λ n. None) 0 x
-indexed_none x due sent visible delayed in_flight ages = record {
+    → x.delayed ≡ 0 → x.in_flight ≡ 0 → x.failing ≡ 0 → AreAges (λ n. false) 0 0 x.ages → AreIndexed (λ n. None) 0 x
+indexed_none x due sent visible delayed in_flight failing ages = record {
   due = λ n. ap (λ d. finite.get d.moments n) due ∙ get-empty nat_cmp n;
   sent = λ n. ap (λ d. finite.get d.moments n) sent ∙ get-empty nat_cmp n;
   shown = λ moment n. ap (λ v. has_pair (moment, n) v.pairs) visible;
@@ -244,5 +260,8 @@ indexed_none x due sent visible delayed in_flight ages = record {
   due_room = omega arith;
   visible_room = omega arith;
   sent_room = omega arith;
-  ages = ages;
+  failing = failing;
+  ages =
+      let none : count_slots is_left (λ n. None) 0 + x.failing ≡ 0 = omega (arith, failing) in
+      subst (λ (lacking : ℕ). AreAges (λ n. has_age None) 0 lacking x.ages) (sym none) ages;
 }

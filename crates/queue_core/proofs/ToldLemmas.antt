@@ -17,7 +17,7 @@ use Rattle.queue_core.specs.declared.slot.Stay.{Stay}
 use Rattle.queue_core.specs.declared.slot.Stay.TheVariants.{Hidden, Shown, Left}
 use Rattle.queue_core.specs.declared.record.Record.{Record}
 use Rattle.queue_core.specs.Slots.{is_left_stay}
-use Rattle.queue_core.specs.Records.{with_stay, with_parts, hidden_until, received_at, back_at, has_run_out, offered_after, rescheduled_after, here_after, left_after, record_after_stay, record_after}
+use Rattle.queue_core.specs.Records.{with_stay, with_parts, hidden_until, tried, received_at, back_at, has_run_out, offered_after, rescheduled_after, here_after, left_after, record_after_stay, record_after}
 use Rattle.queue_core.specs.Recorded.{runs_out_by, IsStanding}
 use Rattle.queue_core.proofs.FactLemmas.{first_of_both}
 
@@ -27,6 +27,7 @@ pub record Told : Type 0 where
   pub first_receive : Option ℕ
   pub last_receive : ℕ
   pub fresh : Bool
+  pub tries : ℕ
   pub course : Course
   pub ran_out : Bool
 
@@ -39,6 +40,7 @@ pub record IsTold (m : Message) (t : Told) (r : Record) : Type 0 where
   pub first_receive : r.first_receive ≡ t.first_receive
   pub last_receive : r.last_receive ≡ t.last_receive
   pub fresh : r.slot.is_fresh ≡ t.fresh
+  pub tries : r.slot.tries ≡ t.tries
   pub standing : IsStanding r.slot.stay r.slot.due t.course t.ran_out
 
 -- a message that stands so, and has expired or not, is not live and does not wait for its dead-letter queue
@@ -69,8 +71,8 @@ gone_if false x h = absurd (none-some x (sym h))
 module _ (m : Message) (t : Told) (r : Record) (is : IsTold m t r) where
   -- the record of the same message with other receives and in another place
   pub told-with : (u : Told) (x : Record) → u.content ≡ t.content → x.first_receive ≡ u.first_receive → x.last_receive ≡ u.last_receive → x.slot.is_fresh ≡ u.fresh
-      → IsStanding x.slot.stay x.slot.due u.course u.ran_out → IsTold m u (with_parts x.first_receive x.last_receive x.slot r)
-  told-with u x content first_receive last_receive fresh standing = record {
+      → x.slot.tries ≡ u.tries → IsStanding x.slot.stay x.slot.due u.course u.ran_out → IsTold m u (with_parts x.first_receive x.last_receive x.slot r)
+  told-with u x content first_receive last_receive fresh tries standing = record {
     content = content ∙ is.content;
     enqueue_time = is.enqueue_time;
     first_send_time = is.first_send_time;
@@ -78,22 +80,24 @@ module _ (m : Message) (t : Told) (r : Record) (is : IsTold m t r) where
     first_receive = first_receive;
     last_receive = last_receive;
     fresh = fresh;
+    tries = tries;
     standing = standing;
   }
 
   offered-told : (at : ℕ) (b : Bool)
-      → IsTold m (record t { first_receive = first_of_both t.first_receive (cond b (Some at) None); last_receive = cond b at t.last_receive; fresh = t.fresh && not b }) (cond b (received_at at r) r)
-  offered-told at true = told-with _ (received_at at r) refl (ap (λ (o : Option ℕ). Some (unwrap_or o at)) is.first_receive ∙ first-some at t.first_receive) refl (sym (and-false t.fresh)) is.standing
-  offered-told at false = told-with _ r refl (is.first_receive ∙ sym (first-none t.first_receive)) is.last_receive (is.fresh ∙ sym (and-true t.fresh)) is.standing
+      → IsTold m (record t { first_receive = first_of_both t.first_receive (cond b (Some at) None); last_receive = cond b at t.last_receive; fresh = t.fresh && not b; tries = cond b (tried t.tries) t.tries })
+      (cond b (received_at at r) r)
+  offered-told at true = told-with _ (received_at at r) refl (ap (λ (o : Option ℕ). Some (unwrap_or o at)) is.first_receive ∙ first-some at t.first_receive) refl (sym (and-false t.fresh)) (ap tried is.tries) is.standing
+  offered-told at false = told-with _ r refl (is.first_receive ∙ sym (first-none t.first_receive)) is.last_receive (is.fresh ∙ sym (and-true t.fresh)) is.tries is.standing
 
   module _ (present : t.course.status ≡ Present) (kept : t.ran_out ≡ false) where
     rescheduled-told : (due : ℕ) (b : Bool) → IsTold m (record t { course = record t.course { due = cond b due t.course.due } }) (cond b (hidden_until due r) r)
-    rescheduled-told due true = told-with _ (hidden_until due r) refl is.first_receive is.last_receive is.fresh (present, refl, kept)
+    rescheduled-told due true = told-with _ (hidden_until due r) refl is.first_receive is.last_receive is.fresh is.tries (present, refl, kept)
     rescheduled-told due false = is
 
     departed-told : (target : ℕ) (b : Bool)
         → IsTold m (record t { course = record t.course { status = cond b (Waiting target) Present } }) (cond b (with_stay (Left target false) r) r)
-    departed-told target true = told-with _ (with_stay (Left target false) r) refl is.first_receive is.last_receive is.fresh (refl, kept)
+    departed-told target true = told-with _ (with_stay (Left target false) r) refl is.first_receive is.last_receive is.fresh is.tries (refl, kept)
     departed-told target false = subst (λ (s : Status). IsTold m (record t { course = record t.course { status = s } }) r) present is
 
 -- ---- one event, by the settings in force until then, at its time
@@ -105,6 +109,7 @@ told_after s at event m t = record {
   first_receive = first_of_both t.first_receive (cond (offers_number m.number event) (Some at) None);
   last_receive = cond (offers_number m.number event) at t.last_receive;
   fresh = (t.fresh && not (offers_number m.number event)) && not (returns t.course.status event);
+  tries = cond (offers_number m.number event) (tried t.tries) t.tries;
   course = course_after m.number t.course (record { at = at; event = event });
   ran_out = t.ran_out || (closes_period event && runs_out_by s at m);
 }
@@ -120,6 +125,7 @@ module _ (s : QueueSettings) (at : ℕ) (event : Event ContentText) (m : Message
     first_receive = first_of_both t.first_receive (cond (offers_number m.number event) (Some at) None);
     last_receive = cond (offers_number m.number event) at t.last_receive;
     fresh = t.fresh && not (offers_number m.number event);
+    tries = cond (offers_number m.number event) (tried t.tries) t.tries;
     course = record t.course {
       status = cond (contains_number m.number (effect_of event).departures) (Waiting (effect_of event).target) Present;
       due = due_after m.number t.course.due at event;
@@ -140,6 +146,7 @@ module _ (s : QueueSettings) (at : ℕ) (event : Event ContentText) (m : Message
         first_receive = here_told.first_receive;
         last_receive = here_told.last_receive;
         fresh = fresh i;
+        tries = here_told.tries;
         course = record { status = status i; due = due i; returned = back i };
         ran_out = ran i;
       }
@@ -182,16 +189,19 @@ module _ (s : QueueSettings) (at : ℕ) (event : Event ContentText) (m : Message
       left-last : r.last_receive ≡ cond (offers_number m.number event) at t.last_receive
       left-last = is.last_receive ∙ rw unoffered refl
 
+      left-tries : r.slot.tries ≡ cond (offers_number m.number event) (tried t.tries) t.tries
+      left-tries = is.tries ∙ rw unoffered refl
+
       back-told : t.ran_out ≡ false → loses target event ≡ true → IsTold m (told_after s at event m t) (back_at at r)
       back-told kept lost =
           told-with m t r is (told_after s at event m t) (back_at at r) refl left-first left-last (rw (waiting, lost) (sym (and-false (t.fresh && not (offers_number m.number event)))))
-          (rw (waiting, lost) refl, rw (waiting, lost) refl, rw (kept, lost-open target event lost) refl)
+          left-tries (rw (waiting, lost) refl, rw (waiting, lost) refl, rw (kept, lost-open target event lost) refl)
 
       stays-told : (ran_out : Bool) → t.ran_out ≡ ran_out → loses target event ≡ false → (effect_of event).confirms m.number ≡ false → closes event ≡ false
           → IsTold m (told_after s at event m t) (left_record r target ran_out)
       stays-told ran_out ran unlost unconfirmed unclosed =
           told-with m t r is (told_after s at event m t) (left_record r target ran_out) refl left-first left-last
-          (is.fresh ∙ rw (waiting, unlost, unoffered) (sym (and-true (t.fresh && true) ∙ and-true t.fresh))) (rw (waiting, unlost, unconfirmed, unclosed) refl, rw (ran, ran-same) refl)
+          (is.fresh ∙ rw (waiting, unlost, unoffered) (sym (and-true (t.fresh && true) ∙ and-true t.fresh))) left-tries (rw (waiting, unlost, unconfirmed, unclosed) refl, rw (ran, ran-same) refl)
 
       left-next : (ran_out : Bool) (after : Record) → t.ran_out ≡ ran_out → left_after s at event m.number target ran_out r ≡ Some after → IsTold m (told_after s at event m t) after
       left-next ran_out after ran h = by_tests (loses target event) ran_out ((effect_of event).confirms m.number) (closes event) refl ran refl refl h

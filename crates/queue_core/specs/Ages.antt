@@ -1,4 +1,4 @@
--- The list of the messages that are there, and the place of each in it: pointwise by number. The definitions are this project's own.
+-- The list of the messages whose age is looked at, and the place of each in it: pointwise by number. The definitions are this project's own.
 use Rattle.std.specs.Prelude.{◌≡◌, ◌≢◌, ℕ, ◌+◌, ◌<◌, ◌≤◌, Bool, true, false, if◌then◌else◌, length, slice_index, Option, Some, None}
 use Rattle.std.specs.FinMap as finite
 use Rattle.queue_core.specs.declared.ages.Ages.{Ages}

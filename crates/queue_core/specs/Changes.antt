@@ -21,6 +21,7 @@ pub record IsReserved (x y : Indices) : Type 0 where
   pub visible : y.visible.pairs ≡ x.visible.pairs
   pub delayed : y.delayed ≡ x.delayed
   pub in_flight : y.in_flight ≡ x.in_flight
+  pub failing : y.failing ≡ x.failing
   pub due_spare : x.due.spare ≤ y.due.spare
   pub sent_spare : x.sent.spare ≤ y.sent.spare
   pub visible_spare : x.visible.spare ≤ y.visible.spare

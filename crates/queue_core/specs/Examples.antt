@@ -202,6 +202,17 @@ parcel_of_a = record { origin = origin_of_a; target = 9; content = letter_a }
 abbrev pub arrived_at_five_seconds : List (Entry ContentText)
 arrived_at_five_seconds = opened_with (with_retention 60) ++ entry 5000 (Arrived origin_of_a letter_a) ∷ []
 
+-- a message that keeps failing
+
+abbrev pub received_twice : List (Entry ContentText)
+received_twice = opened_with (with_timeout 1) ++ entry 1000 (Sent 0 letter_a) ∷ entry 1000 (Received 1 (0 ∷ []) [] 0) ∷ entry 2000 (Received 1 (0 ∷ []) [] 0) ∷ []
+
+abbrev pub received_three_times : List (Entry ContentText)
+received_three_times = received_twice ++ entry 3000 (Received 1 (0 ∷ []) [] 0) ∷ []
+
+abbrev pub sent_behind_what_fails : List (Entry ContentText)
+sent_behind_what_fails = received_three_times ++ entry 5000 (Sent 0 letter_b) ∷ []
+
 -- limits
 
 abbrev pub three_sent : List (Entry ContentText)

@@ -21,4 +21,5 @@ pub mod Turns
 pub mod Lasting
 pub mod Cost
 pub mod Spending
+pub mod Effects
 pub mod Examples

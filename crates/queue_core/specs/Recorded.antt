@@ -1,5 +1,5 @@
 -- The records of a queue's messages against its journal.
-use Rattle.std.specs.Prelude.{◌≡◌, ℕ, suc, ◌+◌, ◌*◌, ◌==◌, ◌&&◌, not, nat_le, Bool, false, if◌then◌else◌, List, [], ◌∷◌, map, Some, None}
+use Rattle.std.specs.Prelude.{◌≡◌, ℕ, suc, ◌+◌, ◌*◌, ◌==◌, ◌&&◌, not, nat_le, min, Bool, false, if◌then◌else◌, List, [], ◌∷◌, map, Some, None}
 use Rattle.std.specs.List.{list_any, range_with_len}
 use Rattle.message.specs.Content.{ContentText}
 use Rattle.queue_config.specs.Settings.{QueueSettings, default_settings}
@@ -50,6 +50,7 @@ pub record IsRecordOf (lines : List (Entry ContentText)) (m : Message) (r : Reco
   pub first_receive : r.first_receive ≡ first_receive_time lines m.number
   pub last_receive : r.last_receive ≡ last_receive_time lines m.number
   pub fresh : r.slot.is_fresh ≡ ((receive_count lines m.number == 0) && not (is_returned lines m))
+  pub tries : r.slot.tries ≡ min (receive_count lines m.number) 3
   pub standing : IsStanding r.slot.stay r.slot.due (course_of lines m) (ran_out_before lines m)
 
 -- ---- all records

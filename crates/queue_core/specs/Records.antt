@@ -1,5 +1,5 @@
 -- What is kept of a queue's messages, and what an event makes of it.
-use Rattle.std.specs.Prelude.{◌≡◌, ℕ, ◌+◌, ◌*◌, ◌<◌, ◌≤◌, ◌&&◌, ◌||◌, not, nat_eq, nat_le, Bool, true, false, if◌then◌else◌, length, vec_capacity, Option, Some, None, option_map, option_and_then, unwrap_or}
+use Rattle.std.specs.Prelude.{◌≡◌, ℕ, ◌+◌, ◌*◌, ◌<◌, ◌≤◌, ◌&&◌, ◌||◌, not, nat_eq, nat_lt, nat_le, Bool, true, false, if◌then◌else◌, length, vec_capacity, Option, Some, None, option_map, option_and_then, unwrap_or}
 use Rattle.std.specs.Option.{option_map_or}
 use Rattle.std.specs.List.{AllPairs}
 use Rattle.indexmap.specs.IndexMap.{get, spare}
@@ -24,9 +24,13 @@ with_stay stay r = record r { slot = record r.slot { stay = stay } }
 abbrev pub hidden_until : ℕ → Record → Record
 hidden_until due r = record r { slot = record r.slot { stay = Hidden; due = due } }
 
+-- how often it was received, once it is received again: up to three times
+abbrev pub tried : ℕ → ℕ
+tried tries = if nat_lt tries 3 then tries + 1 else tries
+
 -- received at a time
 abbrev pub received_at : ℕ → Record → Record
-received_at at r = record r { first_receive = Some (unwrap_or r.first_receive at); last_receive = at; slot = record r.slot { is_fresh = false } }
+received_at at r = record r { first_receive = Some (unwrap_or r.first_receive at); last_receive = at; slot = record r.slot { is_fresh = false; tries = tried r.slot.tries } }
 
 -- brought back at a time
 abbrev pub back_at : ℕ → Record → Record
@@ -145,7 +149,7 @@ born_record at event =
       origin = birth.origin;
       first_receive = None;
       last_receive = 0;
-      slot = record { stay = Hidden; due = at + 1000 * birth.delay; sent = option_map_or (λ origin. origin.sent) birth.origin at; is_fresh = true };
+      slot = record { stay = Hidden; due = at + 1000 * birth.delay; sent = option_map_or (λ origin. origin.sent) birth.origin at; is_fresh = true; tries = 0 };
     })
     (effect_of event).birth
 

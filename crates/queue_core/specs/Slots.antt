@@ -1,5 +1,5 @@
 -- What the indices of a queue are, by the slots of its messages: pointwise by number.
-use Rattle.std.specs.Prelude.{◌≡◌, ℕ, ◌+◌, ◌<◌, ◌≤◌, ◌^◌, ◌==◌, ◌&&◌, not, nat_eq, Bool, true, false, if◌then◌else◌, count_by, Option, Some, None, option_and_then}
+use Rattle.std.specs.Prelude.{◌≡◌, ℕ, ◌+◌, ◌<◌, ◌≤◌, ◌^◌, ◌==◌, ◌&&◌, not, nat_eq, Bool, true, false, if◌then◌else◌, nat_lt, count_by, Option, Some, None, option_and_then}
 use Rattle.std.specs.Option.{option_map_or}
 use Rattle.std.specs.List.{AllPairs, range_with_len}
 use Rattle.std.specs.FinMap as finite
@@ -58,6 +58,14 @@ is_delayed o = option_map_or (λ s. is_hidden_stay s.stay && s.is_fresh) o false
 abbrev pub is_in_flight : Option Slot → Bool
 is_in_flight o = option_map_or (λ s. is_hidden_stay s.stay && not s.is_fresh) o false
 
+-- there, and its age is looked at
+abbrev pub has_age : Option Slot → Bool
+has_age o = option_map_or (λ s. not (is_left_stay s.stay) && nat_lt s.tries 3) o false
+
+-- there, and it was received so often that its age is not looked at
+abbrev pub is_failing : Option Slot → Bool
+is_failing o = option_map_or (λ s. not (is_left_stay s.stay) && not (nat_lt s.tries 3)) o false
+
 -- when it is due, where it is hidden
 abbrev pub due_in : Option Slot → Option ℕ
 due_in o = option_and_then (λ s. if is_hidden_stay s.stay then Some s.due else None) o
@@ -87,7 +95,9 @@ pub record CanReplace (number : ℕ) (before after : Option Slot) (x : Indices) 
   pub delayed : one_if (is_delayed before) ≤ x.delayed
   pub in_flight : one_if (is_in_flight before) ≤ x.in_flight
   pub few : x.delayed + x.in_flight < 2 ^ 63
-  pub ages : CanList number (is_here before) x.ages
+  pub failing : one_if (is_failing before) ≤ x.failing
+  pub few_failing : x.failing < 2 ^ 63
+  pub ages : CanList number (has_age before) x.ages
 
 -- what is so of other numbers is as it was
 pub record IsReplaced (number : ℕ) (before after : Option Slot) (x y : Indices) : Type 0 where
@@ -100,7 +110,8 @@ pub record IsReplaced (number : ℕ) (before after : Option Slot) (x y : Indices
   pub due_spare : y.due.spare + one_if (is_hidden after) ≡ x.due.spare + one_if (is_hidden before)
   pub visible_spare : y.visible.spare + one_if (is_shown after) ≡ x.visible.spare + one_if (is_shown before)
   pub sent_spare : y.sent.spare + one_if (is_here after) ≡ x.sent.spare + one_if (is_here before)
-  pub ages : IsListed number (is_here before) (is_here after) x.ages y.ages
+  pub failing : y.failing + one_if (is_failing before) ≡ x.failing + one_if (is_failing after)
+  pub ages : IsListed number (has_age before) (has_age after) x.ages y.ages
 
 -- ---- all numbers
 
@@ -120,11 +131,12 @@ pub record AreIndexed (slots : ℕ → Option Slot) (count : ℕ) (x : Indices) 
   pub due_room : count_slots is_shown slots count + count_slots is_left slots count ≤ x.due.spare
   pub visible_room : x.delayed + x.in_flight + count_slots is_left slots count ≤ x.visible.spare
   pub sent_room : count_slots is_left slots count ≤ x.sent.spare
-  pub ages : AreAges (λ n. is_here (slots n)) count (count_slots is_left slots count) x.ages
+  pub failing : x.failing ≡ count_slots is_failing slots count
+  pub ages : AreAges (λ n. has_age (slots n)) count (count_slots is_left slots count + x.failing) x.ages
 
 -- and room for one message more
 pub record HasRoomForOne (slots : ℕ → Option Slot) (count : ℕ) (x : Indices) : Type 0 where
   pub due : count_slots is_shown slots count + count_slots is_left slots count + 1 ≤ x.due.spare
   pub visible : x.delayed + x.in_flight + count_slots is_left slots count + 1 ≤ x.visible.spare
   pub sent : count_slots is_left slots count + 1 ≤ x.sent.spare
-  pub ages : count_slots is_left slots count + 1 ≤ x.ages.list.spare
+  pub ages : count_slots is_left slots count + x.failing + 1 ≤ x.ages.list.spare

@@ -1,7 +1,8 @@
 -- The states of messages, the counts and the age (Amazon SQS metrics for CloudWatch: ApproximateNumberOfMessagesVisible, ..Delayed, ..NotVisible, ApproximateAgeOfOldestMessage).
-use Rattle.std.specs.Prelude.{ℕ, ◌||◌, nat_lt, [], ◌∷◌, map, filter, fold, slice_get, ◌-◌, ◌/◌, ◌==◌, nat_le, Bool, true, false, not, ◌&&◌, if◌then◌else◌, List, count_by, Option, Some, None}
+use Rattle.std.specs.Prelude.{ℕ, ◌||◌, nat_lt, map, filter, slice_get, ◌-◌, ◌/◌, ◌==◌, nat_le, Bool, true, false, not, ◌&&◌, if◌then◌else◌, List, count_by, Option, Some, None}
 use Rattle.std.specs.Option.{option_map_or}
 use Rattle.std.specs.List.{find}
+use Rattle.message.specs.Order.{sorted}
 use Rattle.journal.specs.declared.entry.Entry.{Entry}
 use Rattle.queue_core.specs.declared.facts.Message.{Message}
 use Rattle.queue_core.specs.declared.facts.Candidate.{Candidate}
@@ -42,9 +43,13 @@ is_in_state state lines clock m = option_map_or (λ s. same_state state s) (stat
 abbrev pub count_in_state : {C : Type 0} → MessageState → List (Entry C) → ℕ → ℕ
 count_in_state state lines clock = count_by (λ m. is_in_state state lines clock m) (messages lines)
 
--- whole seconds since the first live message came to the queue, 0 where none is live
+-- whether a message's age is looked at: not where it keeps failing, as one does that was received three times or more
+abbrev pub has_age : {C : Type 0} → List (Entry C) → ℕ → Message → Bool
+has_age lines clock m = is_live lines clock m && nat_lt (receive_count lines m.number) 3
+
+-- whole seconds since the first of those messages came to the queue, 0 where there is none
 abbrev pub oldest_age : {C : Type 0} → List (Entry C) → ℕ → ℕ
-oldest_age lines clock = option_map_or (λ m. (clock - m.enqueue_time) / 1000) (find (λ m. is_live lines clock m) (messages lines)) 0
+oldest_age lines clock = option_map_or (λ m. (clock - m.enqueue_time) / 1000) (find (λ m. has_age lines clock m) (messages lines)) 0
 
 abbrev pub gauges_of : {C : Type 0} → List (Entry C) → ℕ → Gauges
 gauges_of lines clock = record {
@@ -64,17 +69,9 @@ candidate_of lines m = record { due = due_time lines m; message = m }
 abbrev pub comes_before : Candidate → Candidate → Bool
 comes_before a b = nat_lt a.due b.due || ((a.due == b.due) && nat_lt a.message.number b.message.number)
 
--- a candidate at its place among others that are in order
-abbrev pub put_in_order : List Candidate → Candidate → List Candidate
-put_in_order [] c = c ∷ []
-put_in_order (x ∷ xs) c = if comes_before c x then c ∷ x ∷ xs else x ∷ put_in_order xs c
-
-abbrev pub in_order : List Candidate → List Candidate
-in_order candidates = fold put_in_order [] candidates
-
 -- the visible messages in the order of due time and number
 abbrev pub receive_order : {C : Type 0} → List (Entry C) → ℕ → List Candidate
-receive_order lines clock = in_order (map (candidate_of lines) (filter (λ m. is_in_state Visible lines clock m) (messages lines)))
+receive_order lines clock = sorted comes_before (map (candidate_of lines) (filter (λ m. is_in_state Visible lines clock m) (messages lines)))
 
 -- ---- one message by its number
 

@@ -1,13 +1,14 @@
 //! The transfers that a queue has accepted, kept for good.
 
-ghost use Rattle.std.specs.Prelude.{◌≡◌, ℕ, ◌≤◌, ◌==◌, ◌&&◌, ◌||◌, true, false, Ok, OnOk, IfErr};
+ghost use Rattle.std.specs.Prelude.{◌≡◌, ℕ, ◌≤◌, ◌==◌, ◌&&◌, ◌||◌, true, false, Ok, OnOk, IfErr, option_and_then};
 ghost use Rattle.indexmap.specs.IndexSet.{spare};
 ghost use Rattle.message.specs.declared.fault.Fault.TheVariants.{OutOfMemory};
-ghost use Rattle.queue_core.specs.Messages.{accepts};
+ghost use Rattle.queue_core.specs.Messages.{effect_of, accepts};
 ghost use Rattle.queue_core.specs.Accepted.{holds, brings};
 
+use crate::effect::effect_of;
 use indexmap::IndexSet;
-use journal::Event;
+use journal::{Event, Origin};
 use message::{Content, Fault};
 use std::alloc::Global;
 
@@ -49,7 +50,7 @@ impl Accepted {
         ensures ok { OnOk result (brings event.now ≡ true → 1 ≤ spare self.new.keys) }
         ensures errors { IfErr result (λ fault. fault ≡ OutOfMemory) }
     {
-        if begins_by_transfer(event) {
+        if origin_of(event).is_some() {
             self.keys.reserve(1)?;
         }
         Ok(())
@@ -60,20 +61,8 @@ impl Accepted {
         requires { brings event.now ≡ true → 1 ≤ spare self.old.keys }
         ensures { (uid number : ℕ) → holds self.new uid number ≡ (holds self.old uid number || accepts uid number event.now) }
     {
-        match event {
-            Event::Arrived { origin, .. } => self.add(origin.uid, origin.number),
-            Event::Opened { .. }
-            | Event::Sent { .. }
-            | Event::Received { .. }
-            | Event::Changed { .. }
-            | Event::Deleted { .. }
-            | Event::DeletedAgain
-            | Event::Purged
-            | Event::Set { .. }
-            | Event::Settled { .. }
-            | Event::Orphaned { .. }
-            | Event::Refused { .. }
-            | Event::Closed => {}
+        if let Some(origin) = origin_of(event) {
+            self.add(origin.uid, origin.number);
         }
     }
 
@@ -86,23 +75,9 @@ impl Accepted {
     }
 }
 
-/// Whether an event begins a message that comes from another queue.
-fn begins_by_transfer(event: &Event<Content>) -> bool
-    ensures { result ≡ brings event.now }
+/// Where the message that an event begins came from, where it begins one that was not sent here.
+fn origin_of(event: &Event<Content>) -> Option<Origin>
+    ensures { result ≡ option_and_then (λ birth. birth.origin) (effect_of event.now).birth }
 {
-    match event {
-        Event::Arrived { .. } => true,
-        Event::Opened { .. }
-        | Event::Sent { .. }
-        | Event::Received { .. }
-        | Event::Changed { .. }
-        | Event::Deleted { .. }
-        | Event::DeletedAgain
-        | Event::Purged
-        | Event::Set { .. }
-        | Event::Settled { .. }
-        | Event::Orphaned { .. }
-        | Event::Refused { .. }
-        | Event::Closed => false,
-    }
+    effect_of(event).birth?.origin
 }

@@ -1,4 +1,4 @@
-//! The messages that are there, in the order in which they came.
+//! The messages whose age is looked at, in the order in which they came.
 
 ghost use Rattle.std.specs.Prelude.{◌≡◌, ℕ, ◌+◌, ◌<◌, ◌≤◌, ◌^◌, ◌≢◌, true, false, length, slice_index, slice_set, if◌then◌else◌, OnOk};
 ghost use Rattle.std.specs.FinMap as finite;
@@ -7,7 +7,7 @@ ghost use Rattle.queue_core.specs.Ages.{place_if, AreAges, IsLonger, HasPlaces, 
 use age_index::AgeIndex;
 use std::alloc::{AllocError, Global};
 
-/// The list of the messages that are there, by number, and the slot at which the list has each: a place for
+/// The list of the messages whose age is looked at, by number, and the slot at which the list has each: a place for
 /// every number, so that one is taken out without a search.
 #[derive(Debug, Drop)]
 pub(crate) struct Ages {

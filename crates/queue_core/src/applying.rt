@@ -13,9 +13,10 @@ ghost use Rattle.queue_core.specs.Tally.{births};
 ghost use Rattle.queue_core.specs.Spending.{added, event_adds, left_count, Costs};
 ghost use Rattle.queue_core.specs.Applying.{CanApply, HaveReceived, HaveCounted, HasChanged, among, where_here, where_left, ended_by, returned_from};
 
+use crate::effect::{Change, effect_of};
 use crate::index::MessageIndex;
 use crate::record::Record;
-use crate::slot::{Slot, Stay};
+use crate::slot::{Slot, Stay, tried};
 use indexmap::IndexMap;
 use journal::{Event, Moment, Ticks};
 use message::Content;
@@ -46,31 +47,30 @@ impl MessageIndex {
             ≡ filter (λ n. is_left (slots_in self.new n)) self.old.leaving.items ++ (effect_of event.now).departures }
         ensures cost { Costs (births event.now) (event_adds (left_count self.old) event.now) ticks.old self.old ticks.new self.new }
     {
-        match event {
-            Event::Opened { .. } | Event::DeletedAgain | Event::Refused { .. } => {}
-            Event::Sent { .. } | Event::Arrived { .. } => {
+        match effect_of(event).change {
+            Change::Nothing => {
                 if let Some(kept) = born {
                     self.begin(kept, ticks);
                 }
             }
-            Event::Received {
+            Change::Receive {
                 timeout,
                 offered,
                 leaving,
                 target,
             } => {
-                self.depart_all(leaving.as_slice(), *target, ticks);
-                self.offer_all(offered.as_slice(), at, after_seconds(at, *timeout), ticks);
+                self.depart_all(leaving, target, ticks);
+                self.offer_all(offered, at, after_seconds(at, timeout), ticks);
             }
-            Event::Changed { number, timeout } => {
-                self.reschedule(*number, after_seconds(at, *timeout), ticks);
+            Change::Reschedule(number, timeout) => {
+                self.reschedule(number, after_seconds(at, timeout), ticks);
             }
-            Event::Deleted { number } => self.delete(*number, ticks),
-            Event::Purged => self.purge(ticks),
-            Event::Set { .. } => self.end_period(settings.retention_seconds, at, ticks),
-            Event::Settled { number } => self.confirm(*number, ticks),
-            Event::Orphaned { target } => self.bring_back(*target, at, ticks),
-            Event::Closed => self.close(ticks),
+            Change::Remove(number) => self.delete(number, ticks),
+            Change::RemoveAll => self.purge(ticks),
+            Change::EndPeriod => self.end_period(settings.retention_seconds, at, ticks),
+            Change::Confirm(number) => self.confirm(number, ticks),
+            Change::BringBack(target) => self.bring_back(target, at, ticks),
+            Change::Close => self.close(ticks),
         }
     }
 
@@ -108,6 +108,7 @@ impl MessageIndex {
             stay: Stay::Hidden,
             due,
             is_fresh: false,
+            tries: tried(kept.slot.tries),
             ..kept.slot
         };
         self.rewrite(number, Some(first_receive), at, slot, ticks);

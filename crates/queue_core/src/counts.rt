@@ -3,7 +3,7 @@
 ghost use Rattle.std.specs.Prelude.{◌≡◌, ℕ, ◌-◌, ◌/◌, true, Some};
 ghost use Rattle.queue_core.specs.States.{gauges_of, oldest_age};
 ghost use Rattle.queue_core.specs.Queue.{QueueHistory};
-ghost use Rattle.queue_core.specs.Slots.{is_here};
+ghost use Rattle.queue_core.specs.Slots.{has_age};
 ghost use Rattle.queue_core.specs.declared.record.Record.{Record};
 ghost use Rattle.queue_core.specs.Records.{records_in, slots_in, HasIndices};
 ghost use Rattle.queue_core.specs.Indexed.{IsIndexOf};
@@ -26,12 +26,12 @@ impl MessageIndex {
         }
     }
 
-    /// Whole seconds since the first message that is there came, 0 where none is there.
+    /// Whole seconds since the first message came whose age is looked at, 0 where there is none.
     fn oldest_age(&self, at: Moment) -> u64
         requires { HasIndices self.now }
         ensures { (q : QueueHistory) → q.clock ≡ at → IsIndexOf q.lines q.clock self.now → result ≡ oldest_age q.lines q.clock }
     {
-        match self.first_here() {
+        match self.first_with_age() {
             Some(number) => self.age_of(number, at),
             None => 0,
         }
@@ -39,7 +39,7 @@ impl MessageIndex {
 
     /// Whole seconds since the message of a number, which is there, came.
     fn age_of(&self, number: u64, at: Moment) -> u64
-        requires { is_here (slots_in self.now number) ≡ true }
+        requires { has_age (slots_in self.now number) ≡ true }
         ensures { (r : Record) → records_in self.now number ≡ Some r → result ≡ (at - r.enqueue_time) / 1000 }
     {
         match self.records.get(&number) {

@@ -283,6 +283,14 @@ pub fn times_are_told()
     ensures no_message { oldest_age example.only_opened 5000 ≡ 0 }
 {}
 
+/// The age is that of the first message that was received fewer than three times.
+pub fn what_keeps_failing_has_no_age()
+    ensures received_twice { oldest_age example.received_twice 2999 ≡ 1 }
+    ensures received_three_times { oldest_age example.received_three_times 3000 ≡ 0 }
+    ensures sent_behind_it { oldest_age example.sent_behind_what_fails 9999 ≡ 4 }
+    ensures both_are_there { example.counts_at 9999 example.sent_behind_what_fails ≡ example.counts 2 0 0 }
+{}
+
 /// The journals of these examples are those that commands leave.
 pub fn journals_come_of_commands()
     ensures delayed { example.lines_after default_settings

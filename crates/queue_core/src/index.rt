@@ -7,11 +7,12 @@ ghost use Rattle.queue_core.specs.declared.slot.Stay.TheVariants.{Shown};
 ghost use Rattle.std.specs.VecDeque.{deque_capacity};
 ghost use Rattle.queue_core.specs.Messages.{effect_of};
 ghost use Rattle.queue_core.specs.Ages.{IsFirstHere};
-ghost use Rattle.queue_core.specs.Slots.{one_if, is_hidden, is_here, is_left_for, IsReplaced};
+ghost use Rattle.queue_core.specs.Slots.{one_if, is_hidden, has_age, is_left_for, IsReplaced};
 ghost use Rattle.queue_core.specs.Records.{records_in, slots_in, born_in, with_stay, with_parts, records_settled, HasIndices, IsIndexed, IsReady, HasSame};
 ghost use Rattle.queue_core.specs.Settling.{is_due, shown_at, was_sent_by, kept_since};
 ghost use Rattle.queue_core.specs.Spending.{added, Costs};
 
+use crate::effect::{Change, effect_of};
 use crate::indices::{Indices, is_left_for};
 use crate::record::Record;
 use crate::slot::{Slot, Stay};
@@ -109,19 +110,29 @@ impl MessageIndex {
             .count() as u64
     }
 
-    /// The least number of a message that is there, where there is one.
-    pub(crate) fn first_here(&self) -> Option<u64>
+    /// The least number of a message whose age is looked at, where there is one.
+    pub(crate) fn first_with_age(&self) -> Option<u64>
         requires { HasIndices self.now }
-        ensures { IsFirstHere (λ n. is_here (slots_in self.now n)) result }
+        ensures { IsFirstHere (λ n. has_age (slots_in self.now n)) result }
     {
         self.indices.ages.list.first()
+    }
+
+    /// How many of the messages that are kept the list of ages lacks: those that have left, and those that keep failing.
+    fn without_age(&self) -> usize
+        requires indexed { IsIndexed self.now }
+        requires few { born_in self.now < 2 ^ 30 }
+        ensures count { result ≡ length self.now.leaving.items + self.now.indices.failing }
+        ensures few { result < 2 ^ 31 }
+    {
+        self.leaving.len() + self.indices.failing as usize
     }
 
     /// Makes room for one message more, in all that it will ever be in but the queue of those that have left,
     /// where a receive makes room. `OutOfMemory` is the only refusal.
     pub(crate) fn reserve_one(&mut self, alloc: Global) -> Result<(), Fault>
         requires indexed { IsIndexed self.old }
-        requires few { born_in self.old < 2 ^ 31 }
+        requires few { born_in self.old < 2 ^ 30 }
         ensures same { HasSame self.old self.new }
         ensures indices { HasIndices self.new }
         ensures ok { OnOk result (IsReady self.new) }
@@ -129,9 +140,8 @@ impl MessageIndex {
     {
         // No index lacks more of the messages than there are records.
         let room = self.records.len() + 1;
+        let lacking = self.without_age() + 1;
         self.indices.reserve(alloc, room, room, room)?;
-        // The list of ages lacks those that have left.
-        let lacking = self.leaving.len() + 1;
         let numbers = self.receives.len() + 1;
         self.indices.ages.reserve(alloc, lacking, numbers)?;
         self.records.reserve(1)?;
@@ -302,7 +312,7 @@ impl MessageIndex {
     /// No other event wants memory. `OutOfMemory` is the only refusal.
     pub(crate) fn make_room(&mut self, alloc: Global, event: &Event<Content>) -> Result<(), Fault>
         requires indexed { IsIndexed self.old }
-        requires few { born_in self.old < 2 ^ 31 }
+        requires few { born_in self.old < 2 ^ 30 }
         ensures same { HasSame self.old self.new }
         ensures indexed { IsIndexed self.new }
         ensures calm { (effect_of event.now).birth ≡ None → (effect_of event.now).departures ≡ [] → result ≡ Ok tt }
@@ -310,22 +320,14 @@ impl MessageIndex {
         ensures room { OnOk result (length self.new.leaving.items + length (effect_of event.now).departures ≤ deque_capacity self.new.leaving) }
         ensures errors { IfErr result (λ fault. fault ≡ OutOfMemory) }
     {
-        match event {
-            Event::Sent { .. } | Event::Arrived { .. } => self.reserve_one(alloc),
-            Event::Received { leaving, .. } => {
-                self.leaving.reserve(leaving.as_slice().len())?;
-                Ok(())
-            }
-            Event::Opened { .. }
-            | Event::Changed { .. }
-            | Event::Deleted { .. }
-            | Event::DeletedAgain
-            | Event::Purged
-            | Event::Set { .. }
-            | Event::Settled { .. }
-            | Event::Orphaned { .. }
-            | Event::Refused { .. }
-            | Event::Closed => Ok(()),
+        let effect = effect_of(event);
+        if let Change::Receive { leaving, .. } = effect.change {
+            self.leaving.reserve(leaving.len())?;
+            return Ok(());
         }
+        if effect.birth.is_some() {
+            self.reserve_one(alloc)?;
+        }
+        Ok(())
     }
 }

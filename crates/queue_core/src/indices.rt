@@ -4,7 +4,7 @@ ghost use Rattle.std.specs.Prelude.{◌≡◌, ℕ, ◌+◌, ◌*◌, ◌<◌, �
 ghost use Rattle.std.specs.FinMap as finite;
 ghost use Rattle.journal.specs.Order.{is_before};
 ghost use Rattle.visible_index.specs.Pairs.{has_pair};
-ghost use Rattle.queue_core.specs.Slots.{due_in, sent_in, is_here, is_left, is_left_for, is_delayed, is_in_flight, one_if, CanReplace, IsReplaced, AreIndexed};
+ghost use Rattle.queue_core.specs.Slots.{due_in, sent_in, is_here, is_left, is_left_for, is_delayed, is_in_flight, has_age, is_failing, one_if, CanReplace, IsReplaced, AreIndexed};
 ghost use Rattle.queue_core.specs.Changes.{shown_in, is_at, IsReserved, HasRoom};
 ghost use Rattle.queue_core.specs.Spending.{spent, AreBelow, moved, added, KeepsSent};
 
@@ -16,7 +16,8 @@ use std::alloc::{AllocError, Global};
 use visible_index::VisibleIndex;
 
 /// When the hidden messages are due and when all that are there were first sent, those that may be received in
-/// their order, how many of the hidden ones are delayed and in flight, and those that are there by number.
+/// their order, how many of the hidden ones are delayed and in flight, those whose age is looked at by number, and how
+/// many are there beside these.
 #[derive(Debug, Drop)]
 pub(crate) struct Indices {
     pub due: DeadlineHeap,
@@ -24,6 +25,7 @@ pub(crate) struct Indices {
     pub visible: VisibleIndex,
     pub delayed: u64,
     pub in_flight: u64,
+    pub failing: u64,
     pub ages: Ages,
 }
 
@@ -38,6 +40,7 @@ impl Indices {
             visible: VisibleIndex::new(alloc),
             delayed: 0,
             in_flight: 0,
+            failing: 0,
             ages: Ages::new(alloc),
         }
     }
@@ -90,7 +93,8 @@ impl Indices {
         self.delayed = self.delayed - u64::from(is_delayed(before)) + u64::from(is_delayed(after));
         self.in_flight = self.in_flight - u64::from(is_in_flight(before))
             + u64::from(is_in_flight(after));
-        self.ages.replace(number, is_here(before), is_here(after));
+        self.failing = self.failing - u64::from(is_failing(before)) + u64::from(is_failing(after));
+        self.ages.replace(number, has_age(before), has_age(after));
     }
 }
 
@@ -143,6 +147,26 @@ pub(crate) fn is_in_flight(slot: Option<Slot>) -> bool
 {
     match slot {
         Some(slot) => matches!(slot.stay, Stay::Hidden) && !slot.is_fresh,
+        None => false,
+    }
+}
+
+/// Whether it is there, and was received fewer than three times.
+fn has_age(slot: Option<Slot>) -> bool
+    ensures { result ≡ has_age slot }
+{
+    match slot {
+        Some(slot) => matches!(slot.stay, Stay::Hidden | Stay::Shown) && slot.tries < 3,
+        None => false,
+    }
+}
+
+/// Whether it is there, and was received three times or more.
+fn is_failing(slot: Option<Slot>) -> bool
+    ensures { result ≡ is_failing slot }
+{
+    match slot {
+        Some(slot) => matches!(slot.stay, Stay::Hidden | Stay::Shown) && slot.tries >= 3,
         None => false,
     }
 }

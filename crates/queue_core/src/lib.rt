@@ -27,6 +27,7 @@ mod ages;
 mod applying;
 mod command;
 mod counts;
+mod effect;
 pub mod examples;
 pub mod facts;
 mod index;

@@ -4,6 +4,7 @@
 ghost use Rattle.std.specs.Prelude.{◌≡◌, is_some};
 ghost use Rattle.queue_core.specs.Messages.{effect_of, settings_after, gives_settings, closes};
 
+use crate::effect::{Change, effect_of};
 use journal::Event;
 use message::Content;
 use queue_config::Settings;
@@ -12,10 +13,11 @@ use queue_config::Settings;
 pub fn settings_after(settings: Settings, event: &Event<Content>) -> Settings
     ensures { result ≡ settings_after settings event.now }
 {
-    match event {
-        Event::Opened { settings, .. } | Event::Set { settings } => *settings,
-        Event::Orphaned { target } => settings.without_target(*target),
-        _ => settings,
+    let effect = effect_of(event);
+    let given = effect.settings.unwrap_or(settings);
+    match effect.change {
+        Change::BringBack(target) => given.without_target(target),
+        _ => given,
     }
 }
 
@@ -23,19 +25,19 @@ pub fn settings_after(settings: Settings, event: &Event<Content>) -> Settings
 pub(crate) fn begins(event: &Event<Content>) -> bool
     ensures { result ≡ is_some (effect_of event.now).birth }
 {
-    matches!(event, Event::Sent { .. } | Event::Arrived { .. })
+    effect_of(event).birth.is_some()
 }
 
 /// Whether an event gives the queue its settings.
 pub fn gives_settings(event: &Event<Content>) -> bool
     ensures { result ≡ gives_settings event.now }
 {
-    matches!(event, Event::Opened { .. } | Event::Set { .. })
+    effect_of(event).settings.is_some()
 }
 
 /// Whether an event closes the queue.
 pub fn closes(event: &Event<Content>) -> bool
     ensures { result ≡ closes event.now }
 {
-    matches!(event, Event::Closed)
+    matches!(effect_of(event).change, Change::Close)
 }

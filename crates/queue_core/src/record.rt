@@ -5,6 +5,7 @@ ghost use Rattle.message.specs.declared.fault.Fault.TheVariants.{OutOfMemory};
 ghost use Rattle.queue_core.specs.declared.slot.Stay.TheVariants.{Hidden};
 ghost use Rattle.queue_core.specs.Records.{born_record};
 
+use crate::effect::effect_of;
 use crate::slot::{Slot, Stay};
 use journal::{Event, Moment, Origin};
 use message::{Content, Fault};
@@ -33,26 +34,14 @@ pub(crate) fn record_born(at: Moment, event: &Event<Content>) -> Result<Option<R
     ensures ok { IfOk result (λ born. born ≡ born_record at event.now) }
     ensures errors { IfErr result (λ fault. fault ≡ OutOfMemory) }
 {
-    match event {
-        Event::Sent { delay, content } => {
-            let due = at.milliseconds() + 1000 * u64::from(*delay);
-            Ok(Some(new_record(content.share()?, at, at, None, due)))
+    match effect_of(event).birth {
+        Some(birth) => {
+            let sent = birth.origin.map_or(at, |origin| origin.sent);
+            let due = at.milliseconds() + 1000 * u64::from(birth.delay);
+            let content = birth.content.share()?;
+            Ok(Some(new_record(content, at, sent, birth.origin, due)))
         }
-        Event::Arrived { origin, content } => {
-            let due = at.milliseconds();
-            Ok(Some(new_record(content.share()?, at, origin.sent, Some(*origin), due)))
-        }
-        Event::Opened { .. }
-        | Event::Received { .. }
-        | Event::Changed { .. }
-        | Event::Deleted { .. }
-        | Event::DeletedAgain
-        | Event::Purged
-        | Event::Set { .. }
-        | Event::Settled { .. }
-        | Event::Orphaned { .. }
-        | Event::Refused { .. }
-        | Event::Closed => Ok(None),
+        None => Ok(None),
     }
 }
 
@@ -71,7 +60,7 @@ fn new_record(
       origin = origin;
       first_receive = None;
       last_receive = 0;
-      slot = record { stay = Hidden; due = due; sent = first_send_time; is_fresh = true };
+      slot = record { stay = Hidden; due = due; sent = first_send_time; is_fresh = true; tries = 0 };
     } }
 {
     Record {
@@ -86,6 +75,7 @@ fn new_record(
             due,
             sent: first_send_time.milliseconds(),
             is_fresh: true,
+            tries: 0,
         },
     }
 }

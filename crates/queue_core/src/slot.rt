@@ -1,5 +1,8 @@
 //! Where a message stands in the indices.
 
+ghost use Rattle.std.specs.Prelude.{◌≡◌};
+ghost use Rattle.queue_core.specs.Records.{tried};
+
 /// Where a message stands that a queue has, or that waits for a dead-letter queue.
 #[derive(Clone, Copy, Debug, PartialEq, Eq)]
 pub(crate) enum Stay {
@@ -22,4 +25,14 @@ pub(crate) struct Slot {
     pub sent: u64,
     /// Whether it was never received here, nor brought back.
     pub is_fresh: bool,
+    /// How often it was received here, counted up to three.
+    pub tries: u8,
+}
+
+/// How often a message was received, once it is received again: counted up to three, from which on its age is not
+/// looked at (Amazon SQS, of ApproximateAgeOfOldestMessage).
+pub(crate) fn tried(tries: u8) -> u8
+    ensures { result ≡ tried tries }
+{
+    if tries < 3 { tries + 1 } else { tries }
 }

@@ -276,7 +276,7 @@ impl QueueState {
     fn messages_so_far(&self) -> u64
         ensures count { result ≡ message_count self.now.lines }
         ensures small { result < 2 ^ 63 }
-        ensures lines { length self.now.lines < 2 ^ 31 }
+        ensures lines { length self.now.lines < 2 ^ 30 }
     {
         let count = self.message_count();
         // The journal has at most one entry more than this, a number of 25 bits.

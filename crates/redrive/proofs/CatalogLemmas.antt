@@ -1,14 +1,13 @@
 -- What is true of every name directory stays true as queues are added, changed and taken out.
-use Rattle.std.proofs.Common.{◌≡◌, ℕ, ◌+◌, ◌<◌, ◌≤◌, Bool, true, false, not, cond, List, [], ◌∷◌, ◌++◌, length, get_or, set, take, map, Option, Some, None, refl, sym, ap, subst, ◌∙◌, arith}
-use Rattle.std.specs.Prelude.{nat_eq, filter, fold, remove, is_some}
+use Rattle.std.proofs.Common.{◌≡◌, ℕ, ◌+◌, ◌<◌, ◌≤◌, Bool, true, false, not, cond, List, [], ◌∷◌, ◌++◌, length, get_or, set, Option, Some, None, refl, sym, ap, subst, ◌∙◌, arith}
+use Rattle.std.specs.Prelude.{nat_eq, remove, is_some}
 use Rattle.std.specs.List.{find, position, IsDistinct}
 use Rattle.std.specs.Option.{option_map}
 use Rattle.std.specs.Str.{bytes_eq}
-use Rattle.std.proofs.lemmas.List.{length-append, length-map, set-get_or, take_more}
+use Rattle.std.proofs.lemmas.List.{length-append, length-map, set-get_or}
 use Rattle.std.proofs.lemmas.List.Filters.{length-filter_both}
 use Rattle.std.proofs.lemmas.List.Elements.{All-nil, All-filter, All-push, All-map, All-weaker}
 use Rattle.std.proofs.lemmas.List.Quantifiers.{position-Some}
-use Rattle.redrive.specs.Listing.{put_name, in_order}
 use Rattle.redrive.specs.Catalog.{Directory, is_directory_full, empty_directory, name_of, uid_of_name, has_uid, without_uid, retargeted, with_target, IsDirectory}
 use Rattle.redrive.specs.declared.catalog.Registered.{Registered}
 use Rattle.redrive.proofs.KeyedLemmas.{places_left, IsDistinct-push, IsDistinct-filter, map-key, find-unused, filter-absent, find-position, find-no_position, map-absent, map-present, remove-present}
@@ -108,23 +107,3 @@ IsDirectory-with_target d uid target h =
       begun = h.begun;
       last = h.last;
     }
-
--- ---- sources, one after another
-
-fold-or : (b : Bool) (order : List (List ℕ)) (q : Registered) (qs : List Registered) → fold put_name order (map name_of (cond b (q ∷ qs) qs)) ≡ fold put_name (cond b (put_name order q.name) order) (map name_of qs)
-fold-or true order q qs = refl
-fold-or false order q qs = refl
-
-module _ (p : Registered → Bool) where
-  names-push : (order : List (List ℕ)) (qs : List Registered) (q : Registered)
-      → fold put_name order (map name_of (filter p (qs ++ q ∷ []))) ≡ cond (p q) (put_name (fold put_name order (map name_of (filter p qs))) q.name) (fold put_name order (map name_of (filter p qs)))
-  names-push order [] q = fold-or (p q) order q []
-  names-push order (x ∷ qs) q =
-      fold-or (p x) order x (filter p (qs ++ q ∷ []))
-      ∙ names-push (cond (p x) (put_name order x.name) order) qs q
-      ∙ ap (λ (all : List (List ℕ)). cond (p q) (put_name all q.name) all) (sym (fold-or (p x) order x (filter p qs)))
-
-  pub names-more : (qs : List Registered) (i : ℕ) (q : Registered) → i < length qs → q ≡ get_or qs i q
-      → in_order (map name_of (filter p (take (i + 1) qs))) ≡ cond (p q) (put_name (in_order (map name_of (filter p (take i qs)))) q.name) (in_order (map name_of (filter p (take i qs))))
-  names-more qs i q l is =
-      ap (λ (some : List Registered). in_order (map name_of (filter p some))) (take_more qs i q l ∙ ap (λ x. take i qs ++ x ∷ []) (sym is)) ∙ names-push [] (take i qs) q

@@ -5,7 +5,7 @@ pub mod OpeningLemmas
 pub mod OrderLemmas
 pub mod RegistryLemmas
 pub mod PlaceLemmas
-pub mod PlacingLemmas
+pub mod StoredNameLemmas
 pub mod DeletionLemmas
 pub mod MovingLemmas
 pub mod AnswerLemmas

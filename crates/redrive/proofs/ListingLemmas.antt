@@ -1,13 +1,9 @@
--- Names gathered and put in order, one after another.
+-- Names that are gathered, one after another.
 use Rattle.std.proofs.Common.{◌≡◌, ℕ, zero, suc, ◌+◌, ◌<◌, Bool, true, false, cond, List, [], ◌∷◌, ◌++◌, length, get_or, take, map, Result, Ok, Err, refl, sym, ap, ◌∙◌, arith}
-use Rattle.std.specs.Prelude.{nat_eq, filter, fold, OnErr}
+use Rattle.std.specs.Prelude.{nat_eq, filter, OnErr}
 use Rattle.std.specs.List.{starts_with}
 use Rattle.std.proofs.lemmas.List.{take_more}
-use Rattle.redrive.specs.Listing.{comes_before, put_name, in_order, names_beginning}
-
-pub fold-if : (b : Bool) (order : List (List ℕ)) (x : List ℕ) (xs : List (List ℕ)) → fold put_name order (cond b (x ∷ xs) xs) ≡ fold put_name (cond b (put_name order x) order) xs
-fold-if true order x xs = refl
-fold-if false order x xs = refl
+use Rattle.redrive.specs.Listing.{names_beginning}
 
 -- ---- names that are gathered
 
@@ -40,36 +36,6 @@ names_beginning-more key prefix xs i x l is =
     ∙ ap (names_beginning prefix) (map-push key (take i xs) x)
     ∙ filter-push (λ n. starts_with nat_eq n prefix) (map key (take i xs)) (key x)
     ∙ append-if (starts_with nat_eq (key x) prefix) (names_beginning prefix (map key (take i xs))) (key x)
-
--- names put in order, one name further
-fold-push : (order names : List (List ℕ)) (name : List ℕ) → fold put_name order (names ++ name ∷ []) ≡ put_name (fold put_name order names) name
-fold-push order [] name = refl
-fold-push order (x ∷ names) name = fold-push (put_name order x) names name
-
-pub in_order-more : (names : List (List ℕ)) (i : ℕ) (name : List ℕ) → i < length names → name ≡ get_or names i name
-    → in_order (take (i + 1) names) ≡ put_name (in_order (take i names)) name
-in_order-more names i name l is =
-    ap in_order (take_more names i name l ∙ ap (λ (y : List ℕ). take i names ++ y ∷ []) (sym is))
-    ∙ fold-push [] (take i names) name
-
--- ---- how many names there are
-
-put-if : (b : Bool) (name x : List ℕ) (xs : List (List ℕ)) → length (put_name xs name) ≡ length xs + 1
-    → length (cond b (name ∷ x ∷ xs) (x ∷ put_name xs name)) ≡ length (x ∷ xs) + 1
-put-if true name x xs h = omega arith
-put-if false name x xs h = omega (arith, h)
-
-length-put : (xs : List (List ℕ)) (name : List ℕ) → length (put_name xs name) ≡ length xs + 1
-length-put [] name = refl
-length-put (x ∷ xs) name = put-if (comes_before name x) name x xs (length-put xs name)
-
-length-fold : (order names : List (List ℕ)) → length (fold put_name order names) ≡ length names + length order
-length-fold order [] = omega arith
-length-fold order (x ∷ names) = let next = length-fold (put_name order x) names in let one = length-put order x in omega arith
-
--- as many as before they were put in order
-pub length-in_order : (names : List (List ℕ)) → length (in_order names) ≡ length names
-length-in_order names = let all = length-fold [] names in omega arith
 
 -- where one passes a test, there is one that passes
 some-if : {X : Type 0} (b : Bool) (x : X) (xs : List X) → 0 < length xs → 0 < length (cond b (x ∷ xs) xs)

@@ -150,7 +150,7 @@ impl Catalog {
         ensures wants { OnErr result (0 < length (names_with self.now prefix.now)) }
     {
         let names = self.names_with(alloc, prefix)?;
-        in_order(alloc, names)
+        in_order(names)
     }
 
     /// Whether a queue has the uid.
@@ -184,7 +184,7 @@ impl Catalog {
         ensures wants { OnErr result (has_uid self.now uid ≡ true → 0 < length (names_to self.now uid)) }
     {
         let names = self.names_to(alloc, uid)?;
-        in_order(alloc, names)
+        in_order(names)
     }
 
     /// The names of the queues whose target a uid is.

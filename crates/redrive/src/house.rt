@@ -398,7 +398,7 @@ impl House {
         for queue in self.queues.as_slice() {
             add_name(&mut names, prefix, queue.name())?;
         }
-        in_order(alloc, names)
+        in_order(names)
     }
 
     /// The names of the queues whose dead-letter queue the queue of a uid is, in the order of their
@@ -428,7 +428,7 @@ impl House {
                 names.push(queue.name())?;
             }
         }
-        in_order(alloc, names)
+        in_order(names)
     }
 
     /// Looks at every queue at a moment, so that each clock is there at least.

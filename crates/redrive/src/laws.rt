@@ -4,15 +4,16 @@
 ghost use Rattle.std.specs.Prelude.{ℕ, List, [], nat_eq, IsTrue};
 ghost use Rattle.std.specs.List.{All, Contains, IsDistinct, starts_with};
 ghost use Rattle.std.specs.Str.{bytes_eq};
+ghost use Rattle.message.specs.Order.{is_ascending, text_before};
 ghost use Rattle.redrive.specs.History.{IsWholeHistory};
-ghost use Rattle.redrive.specs.Listing.{is_ascending, listed_names};
+ghost use Rattle.redrive.specs.Listing.{listed_names};
 ghost use Rattle.redrive.specs.World.{World, IsRegistry};
 
 /// Of names that differ, each that is listed stands before the next in the order of their bytes, and
 /// the names listed are those that begin with the prefix.
 pub fn listed_names_ascend()
     ensures ascending { (prefix : List ℕ) (names : List (List ℕ))
-        → IsDistinct bytes_eq names → IsTrue (is_ascending (listed_names prefix names)) }
+        → IsDistinct bytes_eq names → IsTrue (is_ascending text_before (listed_names prefix names)) }
     ensures all { (prefix : List ℕ) (names : List (List ℕ)) (name : List ℕ)
         → Contains names name → IsTrue (starts_with nat_eq name prefix)
         → Contains (listed_names prefix names) name }

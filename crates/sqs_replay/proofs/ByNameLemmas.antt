@@ -1,21 +1,23 @@
 -- The statistics of all queues, by name: the same as those of the names that are listed.
-use Rattle.std.proofs.Common.{◌≡◌, ℕ, suc, zero, ◌+◌, ◌<◌, ◌≤◌, Bool, true, false, cond, List, [], ◌∷◌, ◌++◌, length, get_or, take, map, max, Option, Some, Result, Ok, Err, inl, inr, refl, sym, ap, subst, ◌∙◌, arith}
-use Rattle.std.specs.Prelude.{nat_eq, filter, fold}
+use Rattle.std.proofs.Common.{◌≡◌, ℕ, ◌+◌, ◌<◌, ◌≤◌, Bool, true, false, cond, List, [], ◌∷◌, ◌++◌, length, get_or, take, map, max, Option, Some, Result, Ok, Err, inl, inr, refl, sym, ap, subst, ◌∙◌, arith}
+use Rattle.std.specs.Prelude.{nat_eq, filter}
 use Rattle.std.specs.Option.{option_map_or}
 use Rattle.std.specs.List.{find, starts_with, IsDistinct, AllByRecursion}
 use Rattle.std.specs.Str.{bytes_eq}
 use Rattle.std.proofs.lemmas.Cmp.{nat_eq_equiv}
+use Rattle.std.proofs.lemmas.List.Elements.{All-from_recursion}
 use Rattle.std.proofs.lemmas.List.{length-map, get_or-map, take_more, take_all}
 use Rattle.redrive.proofs.RegistryLemmas.{some_queue}
 use Rattle.std.proofs.lemmas.Slice.Eq.{bytes_eq-Decides}
 use Rattle.message.specs.declared.fault.Fault.{Fault}
 use Rattle.message.specs.declared.fault.Fault.TheVariants.{QueueDoesNotExist, OutOfMemory}
 use Rattle.message.specs.Fault.{Meets}
+use Rattle.message.specs.Order.{text_before}
+use Rattle.message.proofs.SortedLemmas.{all-sorted, map-sorted}
 use Rattle.board.specs.Sheet.{Statistics}
 use Rattle.board.specs.Queue.{sheet_of}
-use Rattle.statistics_api.specs.Texts.{comes_before, put_by_name}
 use Rattle.queue_core.specs.Queue.{QueueHistory, at_moment}
-use Rattle.redrive.specs.Listing.{put_name, in_order}
+use Rattle.redrive.specs.Listing.{in_order}
 use Rattle.redrive.specs.World.{World, queue_named, queue_of_uid, names_in_world, with_queue_changed, world_at_moment, IsRegistry}
 use Rattle.sqs_replay.specs.Sheets.{sheets_of}
 use Rattle.sqs_replay.specs.Served.{sheet_served, named_sheet_served}
@@ -23,21 +25,6 @@ use Rattle.sqs_replay.proofs.SheetLemmas.{look-left, look-queue}
 use Rattle.sqs_replay.proofs.Memory.{memory_or_other, met}
 
 -- ---- names
-
-put-if : (b : Bool) (s t : Statistics) (ts more : List Statistics) (names : List (List ℕ)) → map (λ x. x.name) more ≡ names
-    → map (λ x. x.name) (cond b (s ∷ t ∷ ts) (t ∷ more)) ≡ cond b (s.name ∷ t.name ∷ map (λ x. x.name) ts) (t.name ∷ names)
-put-if true s t ts more names h = refl
-put-if false s t ts more names h = ap (λ (n : List (List ℕ)). t.name ∷ n) h
-
-put-names : (order : List Statistics) (s : Statistics) → map (λ x. x.name) (put_by_name order s) ≡ put_name (map (λ x. x.name) order) s.name
-put-names [] s = refl
-put-names (t ∷ ts) s = put-if (comes_before s.name t.name) s t ts (put_by_name ts s) (put_name (map (λ x. x.name) ts) s.name) (put-names ts s)
-
-fold-names : (order sheets : List Statistics) → map (λ x. x.name) (fold put_by_name order sheets) ≡ fold put_name (map (λ x. x.name) order) (map (λ x. x.name) sheets)
-fold-names order [] = refl
-fold-names order (s ∷ sheets) =
-    fold-names (put_by_name order s) sheets
-    ∙ ap (λ (n : List (List ℕ)). fold put_name n (map (λ x. x.name) sheets)) (put-names order s)
 
 no-prefix : (names : List (List ℕ)) → filter (λ n. starts_with nat_eq n []) names ≡ names
 no-prefix [] = refl
@@ -51,28 +38,7 @@ names-of-sheets (q ∷ queues) = ap (λ (l : List (List ℕ)). q.name ∷ l) (na
 pub listed-sheets : (w : World) → names_in_world w [] ≡ map (λ s. s.name) (sheets_of w)
 listed-sheets w =
     ap in_order (no-prefix (map (λ q. q.name) w.queues) ∙ names-of-sheets w.queues)
-    ∙ sym (fold-names [] (map sheet_of w.queues))
-
--- ---- what is true of each
-
-module _ (P : Statistics → Type 0) where
-  put-if-all : (b : Bool) (s t : Statistics) (ts more : List Statistics) → P s → P t → AllByRecursion P ts → AllByRecursion P more
-      → AllByRecursion P (cond b (s ∷ t ∷ ts) (t ∷ more))
-  put-if-all true s t ts more hs ht hts hmore = (hs, (ht, hts))
-  put-if-all false s t ts more hs ht hts hmore = (ht, hmore)
-
-  put-all : (order : List Statistics) (s : Statistics) → AllByRecursion P order → P s → AllByRecursion P (put_by_name order s)
-  put-all [] s h hs = (hs, tt)
-  put-all (t ∷ ts) s h hs = put-if-all (comes_before s.name t.name) s t ts (put_by_name ts s) hs h.0 h.1 (put-all ts s h.1 hs)
-
-  fold-all : (order sheets : List Statistics) → AllByRecursion P order → AllByRecursion P sheets → AllByRecursion P (fold put_by_name order sheets)
-  fold-all order [] h hs = h
-  fold-all order (s ∷ sheets) h hs = fold-all (put_by_name order s) sheets (put-all order s h hs.0) hs.1
-
-  all-at : (sheets : List Statistics) (i : ℕ) (d : Statistics) → i < length sheets → AllByRecursion P sheets → P (get_or sheets i d)
-  all-at [] i d l h = absurd (omega arith)
-  all-at (s ∷ sheets) zero d l h = h.0
-  all-at (s ∷ sheets) (suc i) d l h = all-at sheets i d (omega arith) h.1
+    ∙ sym (map-sorted (λ (s : Statistics). s.name) text_before (map sheet_of w.queues))
 
 -- ---- found by a key
 
@@ -163,11 +129,11 @@ module _ (w : World) (at : ℕ) where
   pub served-at : w ≡ world_at_moment w at → IsRegistry w → (i : ℕ) (d : Statistics) → i < length (sheets_of w) → IsServed (get_or (sheets_of w) i d)
   served-at same h i d l =
       let all : AllByRecursion (IsAt at) w.queues = each-still at w.queues (ap (λ (v : World). v.queues) same) in
-      all-at IsServed (sheets_of w) i d l
-      (fold-all IsServed [] (map sheet_of w.queues) tt
+      All-from_recursion IsServed (sheets_of w)
+      (all-sorted (λ s t. text_before s.name t.name) IsServed (map sheet_of w.queues)
       (served-each all w.queues all
       (found-all bytes_eq (λ k. (bytes_eq-Decides k k).1 refl) (λ (q : QueueHistory). q.name) w.queues h.names)
-      (found-all nat_eq (λ k. nat_eq_equiv.refl k) (λ (q : QueueHistory). q.uid) w.queues h.uids)))
+      (found-all nat_eq (λ k. nat_eq_equiv.refl k) (λ (q : QueueHistory). q.uid) w.queues h.uids))) i d l
 
 -- where a value is there, want of memory is the only fault
 pub only-memory : {T : Type 0} (fault : Fault) (wanted : Result T Fault) (x : T) → Meets {T = T} (Err fault) wanted → wanted ≡ Ok x → fault ≡ OutOfMemory

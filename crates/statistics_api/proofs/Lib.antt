@@ -3,8 +3,6 @@ pub mod EscapeLemmas
 pub mod ItemLemmas
 pub mod JoinLemmas
 pub mod NameLemmas
-pub mod OrderLemmas
 pub mod PlainLemmas
 pub mod RouteLemmas
 pub mod TextLemmas
-pub mod SortLemmas

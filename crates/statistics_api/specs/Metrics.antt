@@ -30,7 +30,7 @@ abbrev pub measure_help : Measure → List ℕ
 measure_help Visible = codes "Messages that a receive can take."
 measure_help Delayed = codes "Messages whose delay is not over."
 measure_help InFlight = codes "Messages that were received and not deleted, while they are hidden."
-measure_help Age = codes "Age of the oldest message."
+measure_help Age = codes "Age of the oldest message that was received fewer than three times."
 measure_help Entries = codes "Entries of the journal."
 measure_help Sent = codes "Messages sent in the current minute."
 measure_help SentSize = codes "Size of the messages sent in the current minute."

@@ -1,7 +1,6 @@
 -- Statistics as JSON (this project's own resource); keys stand in byte order.
-use Rattle.std.specs.Prelude.{ℕ, List, [], ◌∷◌, codes, Bool, if◌then◌else◌, fold}
-use Rattle.std.specs.Cmp.Lexicographic.{slice_cmp}
-use Rattle.std.specs.Ordering.{nat_cmp, is_lt}
+use Rattle.std.specs.Prelude.{ℕ, List, [], ◌∷◌, codes}
+use Rattle.message.specs.Order.{sorted, text_before}
 use Rattle.alarm.specs.declared.state.AlarmState.{AlarmState}
 use Rattle.alarm.specs.AlarmState.{alarm_state_name}
 use Rattle.board.specs.Sheet.{Statistics}
@@ -67,17 +66,9 @@ list_data key data_of xs = object (member key (array (items_by data_of xs)) no_m
 
 -- ---- by name
 
-abbrev pub comes_before : List ℕ → List ℕ → Bool
-comes_before a b = is_lt (slice_cmp nat_cmp a b)
-
--- a queue at its place among others that are in order
-abbrev pub put_by_name : List Statistics → Statistics → List Statistics
-put_by_name [] s = s ∷ []
-put_by_name (t ∷ ts) s = if comes_before s.name t.name then s ∷ t ∷ ts else t ∷ put_by_name ts s
-
 -- in the order of their names' bytes; queues of one name stay in the order that they have
 abbrev pub by_name : List Statistics → List Statistics
-by_name sheets = fold put_by_name [] sheets
+by_name sheets = sorted (λ s t. text_before s.name t.name) sheets
 
 -- ---- texts, without blanks
 

@@ -14,7 +14,7 @@ pub(crate) enum Measure {
     Delayed,
     /// Messages in flight.
     InFlight,
-    /// The age of the oldest message, in seconds.
+    /// The age of the oldest message that was received fewer than three times, in seconds.
     Age,
     /// Entries of the journal.
     Entries,
@@ -80,7 +80,7 @@ impl Measure {
             Measure::Delayed => "Messages whose delay is not over.",
             Measure::InFlight =>
                 "Messages that were received and not deleted, while they are hidden.",
-            Measure::Age => "Age of the oldest message.",
+            Measure::Age => "Age of the oldest message that was received fewer than three times.",
             Measure::Entries => "Entries of the journal.",
             Measure::Sent => "Messages sent in the current minute.",
             Measure::SentSize => "Size of the messages sent in the current minute.",

@@ -246,7 +246,7 @@ jutkariq_queue_messages_delayed{queue="jobs"} 2
 # TYPE jutkariq_queue_messages_in_flight gauge
 jutkariq_queue_messages_in_flight{queue="a"} 3
 jutkariq_queue_messages_in_flight{queue="jobs"} 3
-# HELP jutkariq_queue_oldest_message_age_seconds Age of the oldest message.
+# HELP jutkariq_queue_oldest_message_age_seconds Age of the oldest message that was received fewer than three times.
 # TYPE jutkariq_queue_oldest_message_age_seconds gauge
 jutkariq_queue_oldest_message_age_seconds{queue="a"} 1
 jutkariq_queue_oldest_message_age_seconds{queue="jobs"} 1

@@ -103,7 +103,7 @@ fn other_refusals(rt: HostRuntime) -> Result<(), Fail> {
 #[test]
 fn sizes(rt: HostRuntime) -> Result<(), Fail> {
     let alloc = rt.alloc();
-    let half = "é".repeat(alloc, 65_536)?;
+    let half = "é".repeat(alloc, 262_144)?;
     let body = format!(in alloc;
         "{{\"QueueUrl\":\"jobs\",\"Entries\":[{{\"Id\":\"a\",\"MessageBody\":\"{half}\"}},{{\"Id\":\"b\",\"MessageBody\":\"{half}x\"}},{{\"Id\":\"c\",\"MessageBody\":\"\"}}]}}"
     )?;
@@ -115,7 +115,7 @@ fn sizes(rt: HostRuntime) -> Result<(), Fail> {
     )?;
     assert_eq!(rt;
         words.as_str(),
-        "Entries has 262,145 bytes of messages together, more than 262,144"
+        "Entries has 1,048,577 bytes of messages together, more than 1,048,576"
     );
     let body = format!(in alloc; "{{\"QueueUrl\":\"jobs\",\"MessageBody\":\"{half}{half}a\"}}")?;
     let words = said(
@@ -126,9 +126,10 @@ fn sizes(rt: HostRuntime) -> Result<(), Fail> {
     )?;
     assert_eq!(rt;
         words.as_str(),
-        "MessageBody has 262,145 bytes, more than MaximumMessageSize"
+        "MessageBody has 1,048,577 bytes, more than MaximumMessageSize"
     );
-    let body = format!(in alloc; "{{\"QueueUrl\":\"jobs\",\"MessageBody\":\"{half}\u{fffe}\"}}")?;
+    let many = "é".repeat(alloc, 65_536)?;
+    let body = format!(in alloc; "{{\"QueueUrl\":\"jobs\",\"MessageBody\":\"{many}\u{fffe}\"}}")?;
     let words = said(
         alloc,
         "SendMessage",

@@ -30,7 +30,7 @@ wait_seconds = -1
 [[queue]]
 name = "jobs"
 maximum_message_size = 0x3FF
-=> OutOfRange example.toml:3: [[queue]] "jobs": maximum_message_size = 1023 is not in 1024 to 262144
+=> OutOfRange example.toml:3: [[queue]] "jobs": maximum_message_size = 1023 is not in 1024 to 1048576
 [[queue]]
 name = "jobs"
 dead_letter_queue = "dead"

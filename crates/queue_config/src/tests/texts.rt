@@ -23,7 +23,7 @@ queue = <1;[1]> => 3 WrongKind
 [limits]|max_lines = <0;16777217;-1> => 4 OutOfRange
 <[limits]|max_lines = 0|more = 1;[[queue]]|delay_seconds = 901;[[queue]]|name = "a"|visibility_timeout = 43201;[[queue]]|name = "a"|retention_seconds = 59> => 4 OutOfRange
 [[queue]]|name = <"a b";""> => 4 OutOfRange
-<[[queue]]|name = "a"|wait_seconds = 21;[[queue]]|name = "a"|maximum_message_size = 262145;[limits]|in_flight = 0|[[queue]]|nom = "a"> => 4 OutOfRange
+<[[queue]]|name = "a"|wait_seconds = 21;[[queue]]|name = "a"|maximum_message_size = 1048577;[limits]|in_flight = 0|[[queue]]|nom = "a"> => 4 OutOfRange
 [[queue]]|name = "a"|[[queue]]|name = "A"|[[queue]]|name = "a" => 5 NameTwice
 // Forms of TOML: inline tables, dotted and quoted keys, numbers and values of every kind.
 queue = [] => 1000000 120000
@@ -41,7 +41,10 @@ limits.in_flight = 1_000|limits.max_lines = 1 => 1 1000
 [[queue]]|name = "a"|maximum_message_size = <4294967296;1023> => 4 OutOfRange
 [[queue]]|name = "nnnnnnnnnnnnnnnnnnnnnnnnnnnnnnnnnnnnnnnnnnnnnnnnnnnnnnnnnnnnnnnnnnnnnnnnnnnnnnnn" => 1000000 120000; nnnnnnnnnnnnnnnnnnnnnnnnnnnnnnnnnnnnnnnnnnnnnnnnnnnnnnnnnnnnnnnnnnnnnnnnnnnnnnnn
 [[queue]]|name = <"nnnnnnnnnnnnnnnnnnnnnnnnnnnnnnnnnnnnnnnnnnnnnnnnnnnnnnnnnnnnnnnnnnnnnnnnnnnnnnnnn";"\u00e9"> => 4 OutOfRange
-[[queue]]|name = "a"|retention_seconds = 1209600|maximum_message_size = 262144 => 1000000 120000; a retention_seconds=1209600
+[[queue]]|name = "a"|retention_seconds = 1209600|maximum_message_size = 1048576 => 1000000 120000; a retention_seconds=1209600
+// Arrays, inline tables and the parts of a key, 80 in one another and 81.
+<x = (80 [#, )0(80 , #]);x = (80 {x# = )0(80 , y# = 0});x(79 .x#) = 0> => 2 UnknownKey
+<x = (81 [#, )0(81 , #]);x = (81 {x# = )0(81 , y# = 0});x(80 .x#) = 0> => 1 Syntax
 // Texts with two faults, each pair in either order, and two faults of one table, whose keys are
 // judged in the order of their bytes.
 <[[queue]]|name = "u"|zzz = 1|a =;[[queue]]|name = 5|a =;a =|[[queue]]|name = "u"|zzz = 1;a =|[[queue]]|name = 5;a =|[[queue]]|name = "r"|wait_seconds = 21> => 1 Syntax

@@ -20,7 +20,8 @@ use Rattle.queue_core.specs.Messages.{effect_of, contains_number, status_after, 
 use Rattle.queue_core.specs.States.{message_numbered, is_numbered}
 use Rattle.redrive.specs.Places.{status_numbered, end_of, IsDeparture, StillWaits, CameBack}
 use Rattle.queue_core.proofs.PushLemmas.{slice_get-push, numbered-kept, course-kept}
-use Rattle.queue_core.proofs.PendingLemmas.{Contains-from_filter, Contains-nil, departed, status-leaving, status-kept}
+use Rattle.queue_core.proofs.OfferLemmas.{Contains-from_filter}
+use Rattle.queue_core.proofs.PendingLemmas.{Contains-nil, departed, status-leaving, status-kept}
 use Rattle.redrive.proofs.transfers.Journals.{Line, Lines, more, stands_from, stands_gives, stands_once, stands_kept, accepted_kept}
 use Rattle.redrive.proofs.transfers.Views.{View, IsSettling, IsStep, Grows, IsOpened, Change, Stays, Steps, Opens, Closes, by_uid, by_growth}
 

@@ -24,7 +24,7 @@ InvalidAttributeName ReceiveMessage {"QueueUrl":"jobs","AttributeNames":["All","
 InvalidAttributeName ReceiveMessage {"QueueUrl":"jobs","AttributeNames":["All"],"MessageSystemAttributeNames":["SenderId","QueueArn"]} => MessageSystemAttributeNames has the unknown name QueueArn
 InvalidAttributeValue CreateQueue {"QueueName":"jobs","Attributes":{"DelaySeconds":"901"}} => Attributes.DelaySeconds is 901, and 0 to 900, in 1 to 9 digits, is wanted
 InvalidAttributeValue SetQueueAttributes {"QueueUrl":"jobs","Attributes":{"MessageRetentionPeriod":"59"}} => Attributes.MessageRetentionPeriod is 59, and 60 to 1,209,600, in 1 to 9 digits, is wanted
-InvalidAttributeValue SetQueueAttributes {"QueueUrl":"jobs","Attributes":{"MaximumMessageSize":"1048576"}} => Attributes.MaximumMessageSize is 1048576, and 1,024 to 262,144, in 1 to 9 digits, is wanted
+InvalidAttributeValue SetQueueAttributes {"QueueUrl":"jobs","Attributes":{"MaximumMessageSize":"1048577"}} => Attributes.MaximumMessageSize is 1048577, and 1,024 to 1,048,576, in 1 to 9 digits, is wanted
 InvalidAttributeValue SetQueueAttributes {"QueueUrl":"jobs","Attributes":{"VisibilityTimeout":" 5"}} => Attributes.VisibilityTimeout is " 5", and 0 to 43,200, in 1 to 9 digits, is wanted
 InvalidAttributeValue SetQueueAttributes {"QueueUrl":"jobs","Attributes":{"ReceiveMessageWaitTimeSeconds":"0000000020"}} => Attributes.ReceiveMessageWaitTimeSeconds is 0000000020, and 0 to 20, in 1 to 9 digits, is wanted
 InvalidAttributeValue SetQueueAttributes {"QueueUrl":"jobs","Attributes":{"DelaySeconds":"","RedrivePolicy":"{}","Zzz":"1"}} => Attributes.DelaySeconds is "", and 0 to 900, in 1 to 9 digits, is wanted

@@ -1,7 +1,7 @@
 use Rattle.std.proofs.Common.{◌≡◌, None, refl}
 use Rattle.std.specs.Prelude.{string_bytes}
 use Rattle.message.specs.Content.{body_fault}
-use Rattle.message.proofs.OrderLemmas.{IsStoredContent-from_judged}
+use Rattle.message.proofs.ContentLemmas.{IsStoredContent-from_judged}
 use Rattle.message.proofs.content.Content.new.Goals as goal
 
 pub invariant_of-result : goal.invariant_of-result

@@ -2,14 +2,14 @@ use Rattle.std.proofs.Common.{cond, nat_eq, is_some, ap, ◌∙◌}
 use mir.Val.{bool_byte}
 use Rattle.std.specs.FinMap as finite
 use Rattle.visible_index.specs.Pairs.{has_pair}
-use Rattle.queue_core.specs.Slots.{is_hidden, is_shown, is_here, is_delayed, is_in_flight}
+use Rattle.queue_core.specs.Slots.{is_hidden, is_shown, is_here, is_delayed, is_in_flight, is_failing}
 use Rattle.queue_core.specs.Changes.{is_at}
 use Rattle.queue_core.proofs.SlotLemmas.{is_some-due_in, is_some-sent_in, is_some-shown_in, is_at-shown_in, same_rooms, recounted}
 use Rattle.queue_core.proofs.SpendingLemmas.{cost-replaced}
 use Rattle.queue_core.proofs.indices.Indices.replace.Goals as goal
 
 pub replace-requires : goal.replace-requires
-replace-requires c = rw c.is_here.ensures c.requires.ages
+replace-requires c = rw c.has_age.ensures c.requires.ages
 
 pub returns-clause-replaced : goal.returns-clause-replaced
 returns-clause-replaced c =
@@ -28,7 +28,8 @@ returns-clause-replaced c =
       due_spare = same_rooms c.due_in.result c.due_in-2.result (is_hidden before) (is_hidden after) x.due.spare _ (ap is_some c.due_in.ensures ∙ is_some-due_in before) (ap is_some c.due_in-2.ensures ∙ is_some-due_in after) c.replace_moment.ensures.spare;
       visible_spare = same_rooms c.shown_in.result c.shown_in-2.result (is_shown before) (is_shown after) x.visible.spare _ (ap is_some c.shown_in.ensures ∙ is_some-shown_in before) (ap is_some c.shown_in-2.ensures ∙ is_some-shown_in after) c.replace_pair.ensures.spare;
       sent_spare = same_rooms c.sent_in.result c.sent_in-2.result (is_here before) (is_here after) x.sent.spare _ (ap is_some c.sent_in.ensures ∙ is_some-sent_in before) (ap is_some c.sent_in-2.ensures ∙ is_some-sent_in after) c.replace_moment-2.ensures.spare;
-      ages = rw (c.is_here.ensures, c.is_here-2.ensures) at c.replace.ensures;
+      failing = recounted x.failing c.from-5.result c.from-6.result (is_failing before) (is_failing after) (c.from-5.ensures ∙ ap bool_byte c.is_failing.ensures) (c.from-6.ensures ∙ ap bool_byte c.is_failing-2.ensures) c.requires.failing;
+      ages = rw (c.has_age.ensures, c.has_age-2.ensures) at c.replace.ensures;
     }
 
 pub returns-clause-cost : goal.returns-clause-cost

@@ -1,10 +1,12 @@
 use Rattle.std.proofs.Common.{◌≡◌, ℕ, ◌<◌, List, length, map, sym, ap, subst, ◌∙◌, arith}
 use Rattle.std.specs.Prelude.{OnErr}
 use Rattle.std.proofs.lemmas.List.{take_all}
+use Rattle.message.specs.Order.{text_before}
+use Rattle.message.proofs.SortedLemmas.{length-sorted}
 use Rattle.queue_core.specs.Queue.{QueueHistory}
 use Rattle.redrive.specs.World.{World}
 use Rattle.redrive.specs.Listing.{names_beginning}
-use Rattle.redrive.proofs.ListingLemmas.{on_refusal, names_beginning-more, length-in_order, some-begins}
+use Rattle.redrive.proofs.ListingLemmas.{on_refusal, names_beginning-more, some-begins}
 use Rattle.redrive.proofs.house.House.list.Goals as goal
 
 pub loop-queue-preserved : goal.loop-queue-preserved
@@ -19,7 +21,7 @@ returns-in_err-add_name-clause-wants c =
     let begins = some-begins (λ (q : QueueHistory). q.name) c.args.prefix.now c.as_slice-queue-items.result.now c.loop-queue.queue-index c.queue-item.result c.loop-queue-test.true c.queue-item.is
     (rw (sym c.name.ensures) c.in_err-add_name.ensures.wants) in
     on_refusal c.from_residual.result
-    (rw (length-in_order (names_beginning c.args.prefix.now (map (λ (q : QueueHistory). q.name) c.args.self.now.queues)))
+    (rw (length-sorted text_before (names_beginning c.args.prefix.now (map (λ (q : QueueHistory). q.name) c.args.self.now.queues)))
     (subst (λ (qs : List QueueHistory). 0 < length (names_beginning c.args.prefix.now (map (λ q. q.name) qs))) same begins))
 
 pub returns-clause-wants : goal.returns-clause-wants
@@ -28,5 +30,5 @@ returns-clause-wants c =
     let all = take_all c.loop-queue.queue-index c.as_slice-queue-items.result.now c.loop-queue-test.false in
     subst (λ (n : ℕ). OnErr c.in_order.result (0 < n))
     (ap length (c.loop-queue.invariant ∙ ap (λ (qs : List QueueHistory). names_beginning c.args.prefix.now (map (λ q. q.name) qs)) (all ∙ same))
-    ∙ sym (length-in_order (names_beginning c.args.prefix.now (map (λ (q : QueueHistory). q.name) c.args.self.now.queues))))
+    ∙ sym (length-sorted text_before (names_beginning c.args.prefix.now (map (λ (q : QueueHistory). q.name) c.args.self.now.queues))))
     c.in_order.ensures.wants
