@@ -1,6 +1,6 @@
 //! The directory of the queues that are served: names, mailboxes and desks.
 
-ghost use Rattle.std.specs.Prelude.{◌≡◌, ◌⊎◌, ◌==◌, ◌+◌, [], ◌∷◌, ◌++◌, map, false, true, Result, Ok, Err, None, Some, IfSome, IfOk, IfErr, OnOk, OnErr};
+ghost use Rattle.std.specs.Prelude.{◌≡◌, ◌⊎◌, ◌==◌, ◌+◌, [], ◌∷◌, ◌++◌, map, false, true, Result, Ok, Err, None, Some, IfSome, IfOk, IfErr, OnOk, OnErr, option_map, slice_get};
 ghost use Rattle.std.specs.Arc.{arc_value};
 ghost use Rattle.std.specs.List.{All, position};
 ghost use Rattle.std.specs.Str.{bytes_eq};
@@ -22,6 +22,7 @@ use crate::readers::{Readers, Shown};
 use board::Sheet;
 use crossbeam_channel::Sender;
 use desk::{Desk, Gate, NoGate, Pass, Press};
+use indexmap::IndexMap;
 use journal::Moment;
 use message::{Fault, QueueName};
 use queue_config::Limits;
@@ -160,11 +161,14 @@ impl<P: Press, S: Drop> Served<P, S> {
     }
 }
 
-/// What lies under the directory's lock: the names, and the queues that are served.
+/// What lies under the directory's lock: the names, and the queues that are served. Where each of these lies is kept by
+/// its name, so that a request finds its queue by a hash. That is looked at and not relied on: where it is not so, all are
+/// gone through.
 #[derive(Drop)]
 struct Entries<P: Press, S: Drop> {
     catalog: Catalog,
     served: Vec<Served<P, S>>,
+    places: IndexMap<QueueName, usize>,
 }
 
 impl<P: Press, S: Drop> Entries<P, S> {
@@ -175,13 +179,57 @@ impl<P: Press, S: Drop> Entries<P, S> {
         self.served.iter().position(|queue| queue.uid == uid)
     }
 
-    /// The place of the queue of a name.
-    fn place_named(&self, name: &QueueName) -> Option<usize>
-        ensures { result ≡ position (λ queue. bytes_eq queue.name name.now) self.now.served.items }
+    /// The place of the queue of a name, as it is kept by the name.
+    fn kept_place(&self, name: &QueueName) -> Option<usize>
+        ensures { IfSome result (λ place. option_map (λ queue. bytes_eq queue.name name.now) (slice_get self.now.served.items place) ≡ Some true) }
+    {
+        let place = *self.places.get(name)?;
+        let queue = self.served.get(place)?;
+        if is_same_name(&queue.name, name) {
+            Some(place)
+        } else {
+            None
+        }
+    }
+
+    /// The place of the first queue of a name, found by going through all.
+    fn scanned_place(&self, name: &QueueName) -> Option<usize>
+        ensures first { result ≡ position (λ queue. bytes_eq queue.name name.now) self.now.served.items }
+        ensures found { IfSome result (λ place. option_map (λ queue. bytes_eq queue.name name.now) (slice_get self.now.served.items place) ≡ Some true) }
     {
         self.served
             .iter()
             .position(|queue| is_same_name(&queue.name, name))
+    }
+
+    /// The place of a queue of a name.
+    fn place_named(&self, name: &QueueName) -> Option<usize>
+        ensures found { IfSome result (λ place. option_map (λ queue. bytes_eq queue.name name.now) (slice_get self.now.served.items place) ≡ Some true) }
+        ensures absent { result ≡ None → position (λ queue. bytes_eq queue.name name.now) self.now.served.items ≡ None }
+    {
+        match self.kept_place(name) {
+            Some(place) => Some(place),
+            None => self.scanned_place(name),
+        }
+    }
+
+    /// Keeps where the queues lie, as far as there is memory for it.
+    fn keep_places(&mut self)
+        ensures served { self.new.served ≡ self.old.served }
+        ensures catalog { self.new.catalog ≡ self.old.catalog }
+    {
+        self.places.clear();
+        for (place, queue) in self.served.iter().enumerate() {
+            let _ = self.places.insert(queue.name, place);
+        }
+    }
+
+    /// The uid of a name.
+    fn uid_of(&self, name: &QueueName) -> Option<u64> {
+        match self.kept_place(name) {
+            Some(place) => Some(self.served[place].uid),
+            None => self.catalog.find(name),
+        }
     }
 
     /// The queue of a name once more, where it is served.
@@ -223,6 +271,7 @@ impl<P: Press, S: Drop> Entries<P, S> {
             return Err(Fault::QueueDoesNotExist);
         }
         queue.duties.set_target(target);
+        let _ = self.places.insert(queue.name, self.served.len());
         self.served.push_reserved(queue);
         Ok(())
     }
@@ -244,7 +293,11 @@ impl<P: Press, S: Drop> Entries<P, S> {
         ensures catalog { self.new.catalog ≡ self.old.catalog }
     {
         match self.place_of(uid) {
-            Some(place) => Some(self.served.remove(place)),
+            Some(place) => {
+                let queue = self.served.remove(place);
+                self.keep_places();
+                Some(queue)
+            }
             None => None,
         }
     }
@@ -299,6 +352,7 @@ impl<P: Press, S: Drop> Directory<P, S> {
         let entries = Entries {
             catalog: Catalog::new(alloc)?,
             served: Vec::new(alloc),
+            places: IndexMap::new(alloc),
         };
         Ok(Directory {
             limits,
@@ -338,7 +392,7 @@ impl<P: Press, S: Drop> Directory<P, S> {
 
     /// The uid of a name.
     pub fn uid_of<R: Wait>(&self, rt: &R, name: &QueueName) -> Option<u64> {
-        self.entries.lock(rt).catalog.find(name)
+        self.entries.lock(rt).uid_of(name)
     }
 
     /// The queue of a uid: its desk, its mailbox, and a pass of its own. `None` where it has its name and is not
@@ -420,7 +474,7 @@ impl<P: Press, S: Drop> Directory<P, S> {
         ensures errors { IfErr result (λ fault. fault ≡ OutOfMemory) }
     {
         let names = self.entries.lock(rt).catalog.names_with(alloc, prefix)?;
-        in_order(alloc, names)
+        in_order(names)
     }
 
     /// The names of the queues whose target the queue of a uid is, in the order of their bytes. They are put in
@@ -429,7 +483,7 @@ impl<P: Press, S: Drop> Directory<P, S> {
         ensures errors { IfErr result (λ fault. (fault ≡ QueueDoesNotExist) ⊎ (fault ≡ OutOfMemory)) }
     {
         let names = self.entries.lock(rt).catalog.names_to(alloc, uid)?;
-        in_order(alloc, names)
+        in_order(names)
     }
 
     /// All queues that are served once more. `OutOfMemory` is the only refusal.
