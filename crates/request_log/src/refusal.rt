@@ -70,6 +70,10 @@ pub(crate) fn refusal_of(reply: &Reply<'_>) -> Option<Refusal> {
             "ServiceUnavailable",
             "1,000 requests wait for the queue already",
         )),
+        503 => Some(Refusal::Other(
+            "ServiceUnavailable",
+            "bodies of 33,554,432 bytes are on their way already",
+        )),
         _ => None,
     }
 }

@@ -52,6 +52,7 @@ use Rattle.tokio.specs.contracts.net.stream.TcpStream as stream
 use Rattle.sqs_server.proofs.arriving.Arriving.TheSendSync as arriving
 use Rattle.sqs_server.proofs.arriving.Asked.TheSendSync as asked
 use Rattle.sqs_server.proofs.attendance.Attendance.TheSendSync as attendance
+use Rattle.sqs_server.proofs.bodies.Bodies.TheSendSync as bodies
 use Rattle.sqs_server.proofs.door.Guest.TheSendSync as guest
 use Rattle.sqs_server.proofs.notices.Notices.TheSendSync as notices
 use Rattle.sqs_server.proofs.queues.Made.TheSendSync as made
@@ -120,13 +121,13 @@ pub hall_send : (T : RattleType) (w : wait.Ghosts T.Denot) → IsSend T → IsSe
 hall_send T w s =
     let one = directory_send T w s in
     let both = directory_sync T w s in
-    search (order.the_send, register.the_send, register.the_sync, sendable, crosses) depth 40 fits 100000
+    search (order.the_send, register.the_send, register.the_sync, bodies.the_send, bodies.the_sync, sendable, crosses) depth 40 fits 100000
 
 pub hall_sync : (T : RattleType) (w : wait.Ghosts T.Denot) → IsSend T → IsSync (hall.the_row T w)
 hall_sync T w s =
     let one = directory_send T w s in
     let both = directory_sync T w s in
-    search (order.the_send, register.the_send, register.the_sync, sendable, crosses) depth 40 fits 100000
+    search (order.the_send, register.the_send, register.the_sync, bodies.the_send, bodies.the_sync, sendable, crosses) depth 40 fits 100000
 
 -- part by part, as a field of what goes with it
 front_field_send : (T : RattleType) (w : wait.Ghosts T.Denot) → IsSend T → IsSend (front.the_field T w).row

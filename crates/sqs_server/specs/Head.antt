@@ -1,6 +1,7 @@
 -- What a request over HTTP asks (AWS JSON 1.0 for method and target; the limit and the order are this project's own).
-use Rattle.std.specs.Prelude.{ℕ, nat_eq, nat_lt, if◌then◌else◌, Bool, false, not, ◌==◌, ◌&&◌, ◌||◌, List, length, take, drop, codes, Option, Some, None, Result, Ok, Err}
+use Rattle.std.specs.Prelude.{ℕ, nat_eq, nat_le, nat_lt, if◌then◌else◌, Bool, false, not, ◌==◌, ◌&&◌, ◌||◌, List, length, take, drop, codes, Option, Some, None, Result, Ok, Err}
 use Rattle.std.specs.List.{starts_with}
+use Rattle.std.specs.Option.{option_map_or}
 use Rattle.std.specs.Str.{bytes_eq, is_utf8}
 use Rattle.message.specs.declared.fault.Fault.{Fault}
 use Rattle.message.specs.declared.fault.Fault.TheVariants.{UnsupportedOperation}
@@ -13,6 +14,14 @@ use Rattle.sqs_server.specs.declared.head.Denial.TheVariants.{FromPage, MethodNo
 -- how many bytes the body of a request may have
 abbrev pub body_limit : ℕ
 body_limit = 8_388_608
+
+-- the most bytes that large bodies may have together whose requests one thread answers: those of four of the largest
+abbrev pub bodies_limit : ℕ
+bodies_limit = 33_554_432
+
+-- as how many bytes a body counts there: a small one as none, and one whose size is not announced as the most
+abbrev pub counted : Option ℕ → ℕ
+counted announced = option_map_or (λ size. if nat_le size 65_536 then 0 else size) announced body_limit
 
 -- why a request is not looked at that comes from no web page, by its method and by the size of its body: the method is judged first
 abbrev pub denial_by_size : List ℕ → ℕ → Option Denial

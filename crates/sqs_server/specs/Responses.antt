@@ -26,7 +26,7 @@ use Rattle.sqs_server.specs.declared.stage.Stage.{Stage}
 use Rattle.sqs_server.specs.declared.stage.Stage.TheVariants as stages
 use Rattle.sqs_server.specs.declared.stage.Turn.TheVariants.{Goes, Waits}
 use Rattle.sqs_server.specs.Head.{body_limit, denial_of}
-use Rattle.sqs_server.specs.Sent.{HoldsBody, denied, refused, reply_headers}
+use Rattle.sqs_server.specs.Sent.{HoldsBody, crowded, denied, refused, reply_headers}
 use Rattle.sqs_server.specs.Stages.{Turns}
 
 -- ---- what is sent
@@ -50,12 +50,13 @@ has_origin head = is_some (get head.headers (codes "origin"))
 module _ {R : Type 0} where
   -- ---- how a request begins
 
-  -- denied by its head, or its body comes, under the limit
+  -- denied by its head; or its body comes, under the limit, unless the bodies that are on their way hold too much
   abbrev pub Judged : Parts → Incoming TcpStream → Option Denial → Stage R → Type 0
   Judged head body (Some denial) stage = stage ≡ stages.Sending (denied denial)
   Judged head body None stage =
-      (arriving : Arriving) × (stage ≡ stages.Collecting arriving) × (arriving.head ≡ head)
-      × IsCollectOf arriving.body record { remaining = body_limit; inner = body }
+      (stage ≡ stages.Sending crowded)
+      ⊎ ((arriving : Arriving) × (stage ≡ stages.Collecting arriving) × (arriving.head ≡ head)
+      × IsCollectOf arriving.body record { remaining = body_limit; inner = body })
 
   -- the same, by the method and by the least size that its body can have: the announced one, where there is one
   abbrev pub IsFirst : Request (Incoming TcpStream) → Stage R → Type 0

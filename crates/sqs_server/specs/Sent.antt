@@ -22,6 +22,10 @@ denied BodyTooLarge = record { status = 413; body = codes "{\"message\":\"body t
 abbrev pub busy : Sent
 busy = record { status = 500; body = codes "{\"__type\":\"com.amazonaws.sqs#ServiceUnavailable\",\"message\":\"Too many requests wait for the queue.\"}" }
 
+-- where the bodies that are on their way hold too much together
+abbrev pub crowded : Sent
+crowded = record { status = 503; body = codes "{\"__type\":\"com.amazonaws.sqs#ServiceUnavailable\",\"message\":\"Too much of other requests is on its way.\"}" }
+
 -- a refusal
 abbrev pub refused : Fault → Sent
 refused fault = record { status = fault_status fault; body = fault_body fault }

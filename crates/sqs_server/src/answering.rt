@@ -6,9 +6,10 @@ ghost use Rattle.sqs_server.specs.Responses as response;
 ghost use Rattle.sqs_server.specs.Responses.{IsFirst, IsGiven, Judged, Responds};
 
 use crate::arriving::{Arriving, Asked};
+use crate::bodies::{Bodies, Part, counted};
 use crate::front::Front;
 use crate::head::{BODY_LIMIT, denial_of};
-use crate::reply::{Sent, denied, refused, response_of};
+use crate::reply::{Sent, crowded, denied, refused, response_of};
 use crate::stage::{Halt, Stage};
 use bytes::Bytes;
 use futures::Future;
@@ -22,7 +23,7 @@ use hyper::{Request, Response};
 use message::Fault;
 use std::alloc::Global;
 use std::mem;
-use std::sync::Wait;
+use std::sync::{Arc, Wait};
 use std::time::Clock;
 
 /// The future of a response.
@@ -60,11 +61,11 @@ fn respond(
 }
 
 /// The stage of a request whose body comes behind a head.
-fn collecting<R: Wait + Drop>(alloc: Global, head: Parts, body: Incoming) -> Stage<R>
+fn collecting<R: Wait + Drop>(alloc: Global, head: Parts, body: Incoming, part: Part) -> Stage<R>
     ensures { Judged head body None result }
 {
     let body = Limited::new(body, BODY_LIMIT as usize).collect(alloc);
-    Stage::Collecting(Arriving { head, body })
+    Stage::Collecting(Arriving { head, body, part })
 }
 
 /// Whether a head tells an origin.
@@ -77,23 +78,38 @@ fn has_origin(head: &Parts) -> bool
     }
 }
 
-/// The stage that a request begins with, by its head and by the least size that its body can have.
-fn judged<R: Wait + Drop>(alloc: Global, head: Parts, body: Incoming, size: u64) -> Stage<R>
+/// The stage that a request begins with, by its head, by the least size that its body can have, and by the size that is
+/// announced, where one is.
+fn judged<R: Wait + Drop>(
+    alloc: Global,
+    bodies: &Arc<Bodies>,
+    head: Parts,
+    body: Incoming,
+    size: u64,
+    announced: Option<u64>,
+) -> Stage<R>
     ensures { Judged head body (head_spec.denial_of (response.has_origin head) head.method size) result }
 {
     match denial_of(has_origin(&head), head.method.as_str(), size) {
         Some(denial) => Stage::Sending(denied(denial)),
-        None => collecting(alloc, head, body),
+        None => match Bodies::part(bodies, counted(announced)) {
+            Some(part) => collecting(alloc, head, body, part),
+            None => Stage::Sending(crowded()),
+        },
     }
 }
 
 /// The stage that a request begins with.
-fn first_stage<R: Wait + Drop>(alloc: Global, request: Request<Incoming>) -> Stage<R>
+fn first_stage<R: Wait + Drop>(
+    alloc: Global,
+    bodies: &Arc<Bodies>,
+    request: Request<Incoming>,
+) -> Stage<R>
     ensures { IsFirst request result }
 {
     let (head, body) = request.into_parts();
-    let size = body.size_hint().lower();
-    judged(alloc, head, body, size)
+    let hint = body.size_hint();
+    judged(alloc, bodies, head, body, hint.lower(), hint.exact())
 }
 
 impl<R: Wait + Clock + Drop> Future for Answering<R> {
@@ -132,7 +148,7 @@ impl<R: Wait + Clock + Copy + Drop> Service<Request<Incoming>> for Front<R> {
         Answering {
             alloc: self.alloc,
             front: self.again().ok(),
-            stage: first_stage(self.alloc, request),
+            stage: first_stage(self.alloc, &self.hall.bodies, request),
             asked: None,
         }
     }

@@ -2,6 +2,7 @@
 
 ghost use Rattle.std.specs.Prelude.{IsSome};
 
+use crate::bodies::Part;
 use bytes::Bytes;
 use http::request::Parts;
 use http_body_util::Limited;
@@ -13,6 +14,7 @@ use hyper::body::Incoming;
 pub struct Arriving {
     pub head: Parts,
     pub body: Collect<Limited<Incoming>>,
+    pub part: Part,
     // The body has not been handed over.
     pub ghost here: { ∥ IsSome body.collected ∥₁ },
 }
@@ -22,4 +24,5 @@ pub struct Arriving {
 pub struct Asked {
     pub head: Parts,
     pub body: Bytes,
+    pub part: Part,
 }

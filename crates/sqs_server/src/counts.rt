@@ -10,11 +10,11 @@ use std::alloc::Global;
 use std::sync::atomic::{AtomicU64, Ordering};
 
 /// The statuses that a request can be answered with, the last one for all that is none of the others.
-const STATUSES: [u16; 6] = [200, 400, 403, 405, 413, 500];
+const STATUSES: [u16; 7] = [200, 400, 403, 405, 413, 503, 500];
 
 /// The place of a status among them.
 fn status_place(status: u16) -> usize
-    ensures { result < 6 }
+    ensures { result < 7 }
 {
     match status {
         200 => 0,
@@ -22,7 +22,8 @@ fn status_place(status: u16) -> usize
         403 => 2,
         405 => 3,
         413 => 4,
-        _ => 5,
+        503 => 5,
+        _ => 6,
     }
 }
 

@@ -10,6 +10,7 @@ use crate::attendance::{Attendance, Presence};
 use crate::front::Front;
 use crate::notices::Notices;
 use crate::statistics::StatisticsFront;
+use crate::watch::Watch;
 use bytes::Bytes;
 use futures::Future;
 use futures::executor::TaskSet;
@@ -39,6 +40,7 @@ pub struct Guest<C, R> {
     /// In a place of its own: it is large, and who spawns and polls a guest moves it.
     connection: Box<C>,
     notices: Notices,
+    watch: Watch,
     /// For as long as the guest is there.
     _presence: Presence,
 }
@@ -57,9 +59,10 @@ impl<C: Future<Output = hyper::Result<()>>, R: Wait + Drop> Future for Guest<C, 
     ghost needs = { λ g. C.needs g.connection.value };
 
     /// Serves. A fault of the connection is told on standard error, and is no fault of the server. That a client asks
-    /// nothing for long is no fault.
+    /// nothing for long is no fault. A connection at which nothing happens for long is closed.
     fn poll(&mut self, cx: &mut Context<'_>) -> Poll<()> {
         match self.connection.poll(cx) {
+            Poll::Pending if self.watch.is_over(cx) => {}
             Poll::Pending => return Poll::Pending,
             Poll::Ready(Ok(())) => {}
             Poll::Ready(Err(error)) if error.is_timeout() => {}
@@ -108,6 +111,7 @@ pub struct Reception<R: Wait + Drop> {
     pub http: Builder<TokioTimer<R>>,
     pub front: Front<R>,
     pub notices: Notices,
+    pub timers: Handle,
 }
 
 impl<R: Wait + Clock + Copy + Send + Drop + 'static> Welcome for Reception<R> {
@@ -127,6 +131,7 @@ impl<R: Wait + Clock + Copy + Send + Drop + 'static> Welcome for Reception<R> {
             alloc: self.alloc,
             connection,
             notices,
+            watch: Watch::new(&self.rt, &self.timers),
             _presence: presence,
         };
         Ok(Caller { guest })
@@ -141,6 +146,7 @@ pub struct Exhibition<R: Wait + Drop> {
     pub http: Builder<TokioTimer<R>>,
     pub front: StatisticsFront<R>,
     pub notices: Notices,
+    pub timers: Handle,
 }
 
 impl<R: Wait + Clock + Copy + Send + Drop + 'static> Welcome for Exhibition<R> {
@@ -160,6 +166,7 @@ impl<R: Wait + Clock + Copy + Send + Drop + 'static> Welcome for Exhibition<R> {
             alloc: self.alloc,
             connection,
             notices,
+            watch: Watch::new(&self.rt, &self.timers),
             _presence: presence,
         })
     }

@@ -16,6 +16,7 @@ ghost use Rattle.request_plan.specs.Task.{Begins};
 ghost use Rattle.sqs_server.specs.Turns.{OnWaits};
 
 use crate::arriving::{Arriving, Asked};
+use crate::bodies::{Bodies, Part};
 use crate::clock::{Day, wait_limit};
 use crate::head::{Denial, asked_of, target_of};
 use crate::queues::{Made, Mailbox, NewQueue, Order, Printer, Queue, Queues, is_full};
@@ -41,18 +42,20 @@ use std::alloc::Global;
 use std::sync::{Arc, Wait};
 use std::time::Clock;
 
-/// What all connections share: the queues, where more of them are ordered, the time of day, and what is told of requests.
+/// What the connections of a thread share: the queues, where more of them are ordered, the time of day, what is told of
+/// requests, and how much their bodies hold.
 #[derive(Drop)]
 pub struct Hall<R: Wait + Drop> {
     pub queues: Arc<Queues<R>>,
     pub orders: Sender<Order>,
     pub day: Arc<Day>,
     pub register: Arc<Register>,
+    pub bodies: Arc<Bodies>,
 }
 
 impl<R: Wait + Drop> Hall<R> {
-    /// The same once more. `OutOfMemory` is the only refusal.
-    fn again(&self) -> Result<Hall<R>, Fault>
+    /// The same for another thread, of whose connections no body is on its way. `OutOfMemory` is the only refusal.
+    fn apart(&self, alloc: Global) -> Result<Hall<R>, Fault>
         ensures { IfErr result (λ fault. fault ≡ OutOfMemory) }
     {
         Ok(Hall {
@@ -60,6 +63,7 @@ impl<R: Wait + Drop> Hall<R> {
             orders: self.orders.clone()?,
             day: Arc::try_clone(&self.day)?,
             register: Arc::try_clone(&self.register)?,
+            bodies: Arc::new(alloc, Bodies::new())?,
         })
     }
 }
@@ -95,7 +99,7 @@ impl<R: Wait + Copy + Drop> Front<R> {
         ensures errors { IfErr result (λ fault. fault ≡ OutOfMemory) }
     {
         let mut front = self.again()?;
-        front.hall = Arc::new(self.alloc, self.hall.again()?)?;
+        front.hall = Arc::new(self.alloc, self.hall.apart(self.alloc)?)?;
         Ok(front)
     }
 }
@@ -494,13 +498,13 @@ impl<R: Wait + Clock + Drop> Front<R> {
     }
 
     /// Begins what a request asks whose body has come, and keeps the request.
-    fn read(&self, head: Parts, body: Collected, kept: &mut Option<Asked>) -> Next<R>
+    fn read(&self, head: Parts, body: Collected, part: Part, kept: &mut Option<Asked>) -> Next<R>
         ensures { IsRead self.now.port head body result }
     {
         match body.to_bytes() {
             Ok(body) => {
                 let next = self.judge(&head, body.as_slice());
-                *kept = Some(Asked { head, body });
+                *kept = Some(Asked { head, body, part });
                 next
             }
             Err(_refused) => refuses(Fault::OutOfMemory),
@@ -518,10 +522,14 @@ impl<R: Wait + Clock + Drop> Front<R> {
         ensures kept { Keeps cx.old cx.new }
         ensures leads { Collects self.now.port arriving result }
     {
-        let Arriving { head, mut body } = arriving;
+        let Arriving {
+            head,
+            mut body,
+            part,
+        } = arriving;
         match body.poll(cx) {
-            Poll::Pending => Turn::Waits(Stage::Collecting(Arriving { head, body })),
-            Poll::Ready(Ok(body)) => Turn::Goes(self.read(head, body, kept)),
+            Poll::Pending => Turn::Waits(Stage::Collecting(Arriving { head, body, part })),
+            Poll::Ready(Ok(body)) => Turn::Goes(self.read(head, body, part, kept)),
             Poll::Ready(Err(error)) => Turn::Goes(Next::Ends(sent_of_error(error))),
         }
     }

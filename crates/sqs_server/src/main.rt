@@ -4,11 +4,11 @@
 //! - `head`: the order in which a request is judged, and what it asks. What it asks of one queue, one command after
 //!   another, is its plan (request_plan). `reply`: what is sent.
 //! - `clock`: the wall clock. `queues`: how a queue comes to be served.
-//! - `stage`, `arriving`: how far a request is. `front`: what becomes of it there, from its body to what
-//!   is sent. `answering`: the service, whose future goes through these stages.
+//! - `stage`, `arriving`: how far a request is. `bodies`: how much all bodies may hold. `front`: what becomes of it
+//!   there, from its body to what is sent. `answering`: the service, whose future goes through these stages.
 //! - `register`, `counts`: what is told of the requests that were answered.
 //! - `statistics`: the service of the other port, which tells what was printed of the queues.
-//! - `door`: the connections. `attendance`: how many are open. `notices`: lines for standard error. `serving`: the runtimes, the queues and the doors together.
+//! - `door`: the connections. `attendance`: how many are open. `watch`: whether anything happens at one. `notices`: lines for standard error. `serving`: the runtimes, the queues and the doors together.
 //!
 //! What is pure of it has exact contracts, whose definitions stand in `specs/`.
 #![tactic(auto)]
@@ -20,6 +20,7 @@ mod answering;
 mod arguments;
 mod arriving;
 mod attendance;
+mod bodies;
 mod clock;
 mod counts;
 mod door;
@@ -34,6 +35,7 @@ mod stage;
 mod statistics;
 #[cfg(test)]
 mod tests;
+mod watch;
 
 use arguments::{
     Arguments, Ending, Environment, Refusal, Values, Variable, Wanted, arguments_among,
@@ -146,8 +148,8 @@ fn register_of<R>(rt: &R, level: Level) -> Result<Register, Fault>
 where
     R: Wait + Threads + Clock + AllocGlobal + Eprint + Copy + Send + 'static,
 {
-    let (notices, lines) = Notices::new(rt.alloc())?;
-    start_telling(rt, rt.alloc(), lines)?;
+    let (notices, waiting) = Notices::new(rt.alloc())?;
+    start_telling(rt, rt.alloc(), waiting)?;
     Register::new(rt, rt.alloc(), level, notices)
 }
 

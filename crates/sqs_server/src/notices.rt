@@ -1,12 +1,14 @@
 //! Lines that are told on standard error while the server serves: requests that were refused, and faults that end no
 //! program. A thread of its own tells them: whoever reads standard error may be slow, and no connection waits for that.
+//! Where there is no memory for a line, that is told, at most once a second.
 
 use crate::clock::moment_of_day;
 use crossbeam_channel::{Receiver, RecvTimeoutError, Sender, bounded};
 use message::Fault;
 use request_log::Burst;
 use std::alloc::{AllocError, Global};
-use std::sync::Wait;
+use std::sync::atomic::{AtomicBool, Ordering};
+use std::sync::{Arc, Wait};
 use std::thread;
 use std::thread::Threads;
 use std::time::{Clock, Duration};
@@ -17,30 +19,74 @@ const LINES: usize = 1000;
 /// How long nothing comes until what was held back is told, in seconds.
 const PAUSE: u64 = 1;
 
+/// What is told where there was no memory for a line, or for what was to be told.
+const SHORTAGE: &str = "sqs_server: out of memory";
+
+/// How long nothing is told of a shortage again, in milliseconds.
+const SHORTAGE_PAUSE: u64 = 1000;
+
+/// Whether there was no memory for a line since that was last told.
+#[derive(Drop)]
+pub struct Shortage {
+    is_there: AtomicBool,
+}
+
+impl Shortage {
+    /// Notes that there was none.
+    fn note(&self) {
+        self.is_there.store(true, Ordering::SeqCst);
+    }
+
+    /// Whether it was noted since this was last asked.
+    fn take(&self) -> bool {
+        self.is_there.swap(false, Ordering::SeqCst)
+    }
+}
+
 /// Where lines are told.
 #[derive(Drop)]
 pub struct Notices {
     lines: Sender<String>,
+    shortage: Arc<Shortage>,
+}
+
+/// Where lines are found that are to be told.
+#[derive(Drop)]
+pub struct Waiting {
+    pub lines: Receiver<String>,
+    shortage: Arc<Shortage>,
 }
 
 impl Notices {
     /// A place for lines, and where they are found. `OutOfMemory` is the only refusal.
-    pub fn new(alloc: Global) -> Result<(Notices, Receiver<String>), Fault> {
-        let (lines, waiting) = bounded::<String, Global>(alloc, LINES)?;
-        Ok((Notices { lines }, waiting))
+    pub fn new(alloc: Global) -> Result<(Notices, Waiting), Fault> {
+        let (lines, found) = bounded::<String, Global>(alloc, LINES)?;
+        let shortage = Shortage {
+            is_there: AtomicBool::new(false),
+        };
+        let shortage = Arc::new(alloc, shortage)?;
+        let waiting = Waiting {
+            lines: found,
+            shortage: Arc::try_clone(&shortage)?,
+        };
+        Ok((Notices { lines, shortage }, waiting))
     }
 
     /// The same for another connection. `OutOfMemory` is the only refusal.
     pub fn again(&self) -> Result<Notices, Fault> {
         Ok(Notices {
             lines: self.lines.clone()?,
+            shortage: Arc::try_clone(&self.shortage)?,
         })
     }
 
-    /// Has a line told, if there was memory for it.
+    /// Has a line told, or that there was no memory for it.
     pub fn tell<R: Wait>(&self, rt: &R, line: Result<String, AllocError>) {
-        if let Ok(line) = line {
-            let _ = self.lines.try_send(rt, line);
+        match line {
+            Ok(line) => {
+                let _ = self.lines.try_send(rt, line);
+            }
+            Err(AllocError) => self.shortage.note(),
         }
     }
 }
@@ -53,9 +99,9 @@ fn tell_rest<R: Clock + Eprint>(rt: &R, burst: &mut Burst) {
 }
 
 /// Tells a line, or counts it where it is the last one again.
-fn tell_one<R: Clock + Eprint>(rt: &R, burst: &mut Burst, line: &str) {
+fn tell_one<R: Clock + Eprint>(rt: &R, burst: &mut Burst, shortage: &Shortage, line: &str) {
     let Ok((before, is_told)) = burst.hear(moment_of_day(rt), line) else {
-        return;
+        return shortage.note();
     };
     if let Some(before) = before {
         let _ = rt.eprintln(format_args!("{before}"));
@@ -65,12 +111,24 @@ fn tell_one<R: Clock + Eprint>(rt: &R, burst: &mut Burst, line: &str) {
     }
 }
 
+/// Tells that memory was short, where that was noted and not told a moment ago. It takes no memory.
+fn tell_shortage<R: Clock + Eprint>(rt: &R, shortage: &Shortage, told: &mut u64) {
+    let now = moment_of_day(rt).milliseconds();
+    if now.abs_diff(*told) >= SHORTAGE_PAUSE && shortage.take() {
+        *told = now;
+        let _ = rt.eprintln(format_args!("{SHORTAGE}"));
+    }
+}
+
 /// Tells lines on standard error until nobody has any more.
-fn tell_all<R: Wait + Clock + Eprint>(rt: &R, alloc: Global, lines: Receiver<String>) {
+fn tell_all<R: Wait + Clock + Eprint>(rt: &R, alloc: Global, waiting: Waiting) {
+    let Waiting { lines, shortage } = waiting;
     let mut burst = Burst::new(alloc);
+    let mut told = 0;
     for _ in rt.forever() {
+        tell_shortage(rt, &shortage, &mut told);
         match lines.recv_timeout(rt, Duration::from_secs(PAUSE)) {
-            Ok(line) => tell_one(rt, &mut burst, line.as_str()),
+            Ok(line) => tell_one(rt, &mut burst, &shortage, line.as_str()),
             Err(RecvTimeoutError::Timeout) => tell_rest(rt, &mut burst),
             Err(RecvTimeoutError::Disconnected) => return,
         }
@@ -81,10 +139,10 @@ fn tell_all<R: Wait + Clock + Eprint>(rt: &R, alloc: Global, lines: Receiver<Str
 pub(crate) fn start_telling<R: Wait + Clock + Threads + Eprint + Copy + Send + 'static>(
     rt: &R,
     alloc: Global,
-    lines: Receiver<String>,
+    waiting: Waiting,
 ) -> Result<(), Fault> {
     let own = *rt;
-    match thread::spawn(rt, move || tell_all(&own, alloc, lines)) {
+    match thread::spawn(rt, move || tell_all(&own, alloc, waiting)) {
         Ok(_thread) => Ok(()),
         Err(_refused) => Err(Fault::OutOfMemory),
     }

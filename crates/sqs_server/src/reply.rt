@@ -7,7 +7,7 @@ ghost use Rattle.http.specs.StatusCode.{IsStatusCode};
 ghost use Rattle.message.specs.Fault.{Meets};
 ghost use Rattle.message.specs.declared.fault.Fault.TheVariants.{OutOfMemory};
 ghost use Rattle.serde_json.specs.Written.{compact_text};
-ghost use Rattle.sqs_server.specs.Sent.{HoldsBody, busy, denied, refused, reply_headers, sent_for};
+ghost use Rattle.sqs_server.specs.Sent.{HoldsBody, busy, crowded, denied, refused, reply_headers, sent_for};
 
 use crate::head::Denial;
 use aws_json::{ReplyShape, fault_text, reply_text, status};
@@ -54,6 +54,18 @@ pub(crate) fn busy() -> Sent
         r#"{"__type":"com.amazonaws.sqs#ServiceUnavailable","message":"Too many requests wait for the queue."}"#;
     Sent {
         status: 500,
+        body: Bytes::from_static(text.as_bytes()),
+    }
+}
+
+/// What is sent where the bodies that are on their way hold too much together. Clients try again at this status too.
+pub(crate) fn crowded() -> Sent
+    ensures { result ≡ crowded }
+{
+    let text =
+        r#"{"__type":"com.amazonaws.sqs#ServiceUnavailable","message":"Too much of other requests is on its way."}"#;
+    Sent {
+        status: 503,
         body: Bytes::from_static(text.as_bytes()),
     }
 }

@@ -8,6 +8,7 @@ ghost use Rattle.sqs_server.specs.declared.arguments.Refusal.TheVariants.{Listen
 
 use crate::arguments::Refusal;
 use crate::attendance::Attendance;
+use crate::bodies::Bodies;
 use crate::door::{Door, Exhibition, Reception, Welcome, is_shortage};
 use crate::front::{Front, Hall};
 use crate::notices::Notices;
@@ -170,6 +171,7 @@ where
                 register: Arc::try_clone(&self.register)?,
             },
             notices,
+            timers: runtime.handle().time().clone()?,
         })
     }
 
@@ -309,6 +311,7 @@ where
             http: Builder::new(alloc, RandomState::new(&rt)?).timer(timer),
             front,
             notices,
+            timers: runtime.handle().time().clone()?,
         })
     }
 
@@ -409,6 +412,7 @@ where
         orders: opened.orders,
         day: opened.day,
         register,
+        bodies: Arc::new(alloc, Bodies::new())?,
     };
     let front = Front {
         rt: *rt,

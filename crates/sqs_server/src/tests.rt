@@ -65,7 +65,7 @@ where
     };
     let (address, statistics) = (ports.requests.address()?, ports.statistics.address()?);
     let (ends, ended) = unbounded::<bool, Global>(alloc)?;
-    let (notices, lines) = Notices::new(alloc)?;
+    let (notices, waiting) = Notices::new(alloc)?;
     let register = Register::new(rt, alloc, Level::Refused, notices)?;
     let (own, host) = (*rt, *host);
     let _server = thread::spawn(rt, move || {
@@ -76,7 +76,7 @@ where
         address,
         statistics,
         ended,
-        lines,
+        lines: waiting.lines,
     })
 }
 

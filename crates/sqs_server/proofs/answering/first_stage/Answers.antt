@@ -8,10 +8,10 @@ use Rattle.sqs_server.proofs.answering.first_stage.Goals as goal
 pub returns : goal.returns
 returns g c =
     let parts = c.into_parts-head in
-    let hint = c.size_hint.result in
+    let hint = c.size_hint-hint.result in
     let stage = c.judged.result in
-    let judged = subst (λ size. Judged parts.result.0 parts.result.1 (denial_of (has_origin parts.result.0) parts.result.0.method size) stage) c.lower-size.ensures.value c.judged.ensures in (
+    let judged = subst (λ size. Judged parts.result.0 parts.result.1 (denial_of (has_origin parts.result.0) parts.result.0.method size) stage) c.lower.ensures.value c.judged.ensures in (
       hint,
-      c.size_hint.ensures ∙ ap (λ p. size_left p.1.kind) parts.ensures,
+      c.size_hint-hint.ensures ∙ ap (λ p. size_left p.1.kind) parts.ensures,
       subst (λ p. Judged p.0 p.1 (denial_of (has_origin p.0) p.0.method (lower hint)) stage) parts.ensures judged,
     )

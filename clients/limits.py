@@ -1,0 +1,242 @@
+#!/usr/bin/env python3
+"""Shows what becomes of large bodies that come together, of connections that stand still, and of want of memory, by a server of its own.
+
+usage: clients/limits.py [PROGRAM]
+
+The program is the one that `make run` starts, unless another is named. It takes a minute and a half: what is given up after 30 to 40 seconds has to be
+waited for. Each line of what it prints names a check; the status is 1 where one fails.
+
+  - Bodies of 8 MB are announced over more connections than all threads together may take. Some are answered 503, and each of these is closed. A small
+    request is answered all the same, over each of many connections. Once the large ones are cut, one more is taken, and answered.
+  - A body of which no byte comes any more, and a reply of which none is taken, end their connection between 30 and 45 seconds later. A receive that
+    waits for 20 seconds does not: it is answered, and so is what is asked next over its connection.
+  - Under a limit of its memory the proved server tells that it has none, in one line, goes on, and answers what is asked once the memory is there again.
+"""
+import json
+import os
+import re
+import resource
+import socket
+import subprocess
+import sys
+import tempfile
+import threading
+import time
+
+ROOT = os.path.normpath(os.path.join(os.path.dirname(os.path.abspath(__file__)), ".."))
+# The largest body, and the most threads that answer requests: docs/PROFILE.md, section 25.
+LARGEST, THREADS, LARGE_AT_ONCE = 8_388_608, 16, 4
+SHORT = "sqs_server: out of memory"
+
+
+class Server:
+    """A server at free ports, with one queue."""
+
+    def __init__(self, program, memory=None):
+        self.room = tempfile.TemporaryDirectory()
+        with open(f"{self.room.name}/config.toml", "w", encoding="utf-8") as it:
+            it.write('[[queue]]\nname = "jobs"\n')
+        limit = (lambda: resource.setrlimit(resource.RLIMIT_AS, (memory, memory))) if memory else None
+        self.said = open(f"{self.room.name}/said", "w+", encoding="utf-8")
+        self.process = subprocess.Popen(
+            [program, f"{self.room.name}/config.toml"],
+            stdout=subprocess.PIPE,
+            stderr=self.said,
+            text=True,
+            preexec_fn=limit,
+            env={**os.environ, "JUTKARIQ_PORT": "0", "JUTKARIQ_STATISTICS_PORT": "0", "JUTKARIQ_LOG": "none"},
+        )
+        first = self.process.stdout.readline()
+        found = re.search(r"requests at http://localhost:(\d+)", first)
+        self.port = int(found[1]) if found else None
+        if not found and not memory:
+            raise SystemExit(f"clients/limits.py: the server does not say where it listens: {first!r}")
+
+    def told(self):
+        """Returns the lines that it has told on standard error."""
+        self.said.seek(0)
+        return self.said.read().splitlines()
+
+    def end(self):
+        """Ends it, and returns whether it still went."""
+        went = self.process.poll() is None
+        self.process.kill()
+        self.process.wait()
+        return went
+
+    def connect(self, room=None):
+        """Returns a connection, which takes in no more than so many bytes at once, where a number is given."""
+        it = socket.socket()
+        if room:
+            it.setsockopt(socket.SOL_SOCKET, socket.SO_RCVBUF, room)
+        it.settimeout(60)
+        it.connect(("127.0.0.1", self.port))
+        return it
+
+
+def head(action, length):
+    """Returns the head of a request."""
+    return f"POST / HTTP/1.1\r\nHost: localhost\r\nX-Amz-Target: AmazonSQS.{action}\r\nContent-Length: {length}\r\n\r\n".encode()
+
+
+def ask(it, action, **members):
+    """Asks, and returns the status and the body of the reply."""
+    body = json.dumps(members).encode()
+    it.sendall(head(action, len(body)) + body)
+    return reply(it)
+
+
+def reply(it):
+    """Returns the status and the body of the next reply, or None where the connection ends before."""
+    came = b""
+    while b"\r\n\r\n" not in came:
+        piece = it.recv(65_536)
+        if not piece:
+            return None
+        came += piece
+    front, _, body = came.partition(b"\r\n\r\n")
+    length = int(re.search(rb"content-length: (\d+)", front)[1])
+    while len(body) < length:
+        piece = it.recv(65_536)
+        if not piece:
+            return None
+        body += piece
+    return int(front.split()[1]), body.decode()
+
+
+def has_ended(it):
+    """Returns whether nothing more comes over a connection but its end."""
+    try:
+        return it.recv(1) == b""
+    except ConnectionResetError:
+        return True
+
+
+class Checks:
+    """What was found, told line by line."""
+
+    def __init__(self):
+        self.failed = 0
+
+    def see(self, what, holds, found=""):
+        """Tells of a check."""
+        print(f"{'ok' if holds else 'FAILED'}: {what}{'' if holds else f': {found}'}", flush=True)
+        self.failed += not holds
+
+
+def bodies(checks, program):
+    """Large bodies that come together."""
+    server = Server(program)
+    many = [server.connect() for _ in range(THREADS * LARGE_AT_ONCE + 1)]
+    for it in many:
+        it.sendall(head("SendMessage", LARGEST))
+    time.sleep(2)
+    refused = []
+    for it in many:
+        it.settimeout(0.05)
+        try:
+            refused.append((it, reply(it)))
+        except TimeoutError:
+            pass
+        it.settimeout(60)
+    told = {answer for _, answer in refused}
+    text = '{"__type":"com.amazonaws.sqs#ServiceUnavailable","message":"Too much of other requests is on its way."}'
+    checks.see("some bodies of 8 MB are too many, and told so", told == {(503, text)}, told)
+    checks.see("four of them are not", len(many) - len(refused) >= LARGE_AT_ONCE, len(refused))
+    checks.see("the connections of those that are too many are closed", all(has_ended(it) for it, _ in refused))
+    answers = {ask(server.connect(), "GetQueueUrl", QueueName="jobs")[0] for _ in range(40)}
+    checks.see("small requests are answered beside them", answers == {200}, answers)
+    for it in many:
+        it.close()
+    time.sleep(0.5)
+    body = json.dumps({"QueueUrl": "jobs", "MessageBody": "x" * 1_000_000}).encode()
+    statuses = set()
+    for _ in range(8):
+        it = server.connect()
+        it.sendall(head("SendMessage", len(body)) + body)
+        statuses.add(reply(it)[0])
+    checks.see("once they are gone large ones are answered again", statuses == {200}, statuses)
+    checks.see("the server goes on", server.end())
+
+
+def stillness(checks, program):
+    """Connections at which nothing happens."""
+    server = Server(program)
+    begun, ends = time.monotonic(), {}
+
+    def body_stops():
+        it = server.connect()
+        it.sendall(head("SendMessage", 1000) + b" " * 500)
+        ends["body"] = (reply(it), time.monotonic() - begun)
+
+    def reply_is_left():
+        it = server.connect(room=4096)
+        for _ in range(10):
+            ask(it, "SendMessage", QueueUrl="jobs", MessageBody="x" * 800_000)
+        body = json.dumps({"QueueUrl": "jobs", "MaxNumberOfMessages": 10}).encode()
+        it.sendall(head("ReceiveMessage", len(body)) + body)
+        asked = time.monotonic()
+        time.sleep(46)
+        ends["reply"] = (reply(it), asked - begun)
+
+    def receive_waits():
+        it = server.connect()
+        first = ask(it, "ReceiveMessage", QueueUrl="quiet", WaitTimeSeconds=20)
+        ends["receive"] = (first, time.monotonic() - begun, ask(it, "GetQueueUrl", QueueName="jobs")[0])
+
+    ask(server.connect(), "CreateQueue", QueueName="quiet")
+    threads = [threading.Thread(target=it) for it in (body_stops, reply_is_left, receive_waits)]
+    for it in threads:
+        it.start()
+    for it in threads:
+        it.join()
+    came, after = ends.get("body", ("nothing", 60))
+    checks.see("a body that stops ends its connection after 30 to 45 seconds", came is None and 30 <= after <= 45, ends)
+    checks.see("a reply that nobody takes is cut", ends.get("reply", ("nothing", 0))[0] is None, ends)
+    first, after, second = ends.get("receive", (None, 0, None))
+    checks.see("a receive that waits is answered", first == (200, "{}") and 19 <= after <= 25 and second == 200, ends)
+    checks.see("the server goes on", server.end())
+
+
+def shortage(checks, program):
+    """Want of memory."""
+    server = Server(program, memory=400 * 2**20)
+    if not server.port:
+        print("left out: want of memory. This program takes more from the start, as one that is not proved does")
+        return
+    held = []
+    for _ in range(60):
+        try:
+            it = server.connect()
+            it.settimeout(5)
+            it.sendall(head("SendMessage", 8_000_000) + b" " * 7_999_999)
+            held.append(it)
+        except OSError:
+            pass
+        if any("out of memory" in it for it in server.told()):
+            break
+    time.sleep(2)
+    lines = server.told()
+    checks.see("the server tells that it has no memory", any("out of memory" in it for it in lines), lines[-3:])
+    checks.see("it does not tell so more than once a second", lines.count(SHORT) <= 60, lines.count(SHORT))
+    for it in held:
+        it.close()
+    time.sleep(1)
+    answer = ask(server.connect(), "SendMessage", QueueUrl="jobs", MessageBody="a")
+    checks.see("once the memory is there again it answers", answer and answer[0] == 200, answer)
+    checks.see("the server goes on", server.end())
+
+
+def main():
+    """Does all of it."""
+    if len(sys.argv) > 2:
+        raise SystemExit("usage: clients/limits.py [PROGRAM]")
+    program = sys.argv[1] if len(sys.argv) == 2 else subprocess.run([f"{ROOT}/tools/run", "--which", "sqs_server"], stdout=subprocess.PIPE, text=True, check=True).stdout.strip()
+    checks = Checks()
+    bodies(checks, program)
+    shortage(checks, program)
+    stillness(checks, program)
+    raise SystemExit(1 if checks.failed else 0)
+
+
+main()
