@@ -3,13 +3,14 @@
 # `make install` puts them into PREFIX/bin. `make test` is what each commit must pass: the edits can be applied, each crate has a verdict that holds, and
 # all tests pass. It takes minutes where the verdicts hold. `make prove` proves everything from nothing, and writes every verdict anew. `make verdicts` says
 # which hold. `make clients` tours the server, with boto3 and the AWS command line; `make polls` shows what becomes of receives that wait, of dead letters and
-# of clients that make faults, and behind that what 1,000 quiet queues take, as `make rest` does alone: both fail beyond their limits. `make clock` shows what
+# of clients that make faults, and behind that what 1,000 quiet queues take, as `make rest` does alone: both fail beyond their limits. `make limits` shows what
+# becomes of large bodies, of connections that stand still and of want of memory. `make clock` shows what
 # a wall clock does that is put back; `make rate` times the proved one beside nginx, `make many` with 1,000 queues, and `make watched` while its statistics are
 # read; `make bench` times the proved replay. `make wrong-bodies` tries the edits that the gate leaves out; with CRATE=name those of one crate.
-# `make refuse` runs the tests of refused memory once for each allocation. `make page` shows the statistics page with numbers that were made up, and
-# `make page-test` tries it in a browser, and behind it that of the server. `make using` does what docs/USING.md says, and compares. `make table` puts
-# what the verdicts say into docs/PROOFS.md.
-.PHONY: run replay try build install test prove verdicts table clients polls clock rate rest many watched wrong-bodies refuse bench page page-test using
+# `make refuse` refuses each allocation in turn to the tests of refused memory, and to the replay on its stored runs. `make page` shows the statistics page
+# with numbers that were made up, and `make page-test` tries it in a browser, and behind it that of the server. `make using` does what docs/USING.md says, and
+# compares. `make table` puts what the verdicts say into docs/PROOFS.md.
+.PHONY: run replay try build install test prove verdicts table clients polls limits clock rate rest many watched wrong-bodies refuse bench page page-test using
 PREFIX ?= /usr/local
 
 run:
@@ -45,6 +46,9 @@ clients:
 
 polls:
 	clients/run.sh polls
+
+limits:
+	clients/limits.py
 
 clock:
 	clients/clock.py

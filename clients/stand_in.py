@@ -107,7 +107,7 @@ class Large(Queue):
     def minute(self, minute, over=MINUTE):
         """Returns a minute of millions."""
         millions = {key: 16_000_000 + number for key, number in super().minute(minute, over).items()}
-        return {**millions, "age": 1_209_599, "inFlight": 120_000, "minute": minute, "sentSize": 16_000_000 * 262_144}
+        return {**millions, "age": 1_209_599, "inFlight": 120_000, "minute": minute, "sentSize": 16_000_000 * 1_048_576}
 
     def sheet(self, now):
         """Returns what stands in it."""

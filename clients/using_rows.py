@@ -189,14 +189,14 @@ class Rows:
         return said
 
     def attribute_values(self):
-        """A size that Amazon SQS allows, and a dead-letter queue that is not there; 262,144 is allowed."""
+        """A size that is one byte too large, and a dead-letter queue that is not there; 1,048,576 is allowed."""
         policy = json.dumps({"deadLetterTargetArn": "arn:aws:sqs:elasticmq:000000000000:nowhere", "maxReceiveCount": 3})
         with self.server() as server:
             sqs, found = server.client(), []
-            for attributes in ({"MaximumMessageSize": "1048576"}, {"RedrivePolicy": policy}):
+            for attributes in ({"MaximumMessageSize": "1048577"}, {"RedrivePolicy": policy}):
                 found.append(refusal(sqs.create_queue, QueueName="new", Attributes=attributes))
-            sqs.create_queue(QueueName="new", Attributes={"MaximumMessageSize": "262144"})
-            self.logged(server, "Attributes.MaximumMessageSize is 1048576, and 1,024 to 262,144", "names the queue nowhere, and no open queue has this name")
+            sqs.create_queue(QueueName="new", Attributes={"MaximumMessageSize": "1048576"})
+            self.logged(server, "Attributes.MaximumMessageSize is 1048577, and 1,024 to 1,048,576", "names the queue nowhere, and no open queue has this name")
         return self.alike("InvalidAttributeValue", found)
 
     def not_served(self):

@@ -1,45 +1,120 @@
-/* Put before the C library by LD_PRELOAD: the allocation whose number stands in REFUSE (1 is the
-   first) finds no memory, once. At the end the number of allocations is written to standard error,
-   also where the program leaves by _exit, as one with threads does. */
-#include <stddef.h>
-#include <stdio.h>
+/* Put before the C library by LD_PRELOAD: a program that the kit has linked is refused memory. REFUSE has the number of the allocation that finds none (1 is
+   the first), or 5.. for the fifth and all behind it. An allocation is a call of rattle_alloc or rattle_realloc, by which all code of Rattle takes memory;
+   both are led here, for x86-64. The file of the name in REFUSE_COUNTS, 16 bytes at first 0, has how many were asked for and how many were refused, also
+   where the program is killed. They stay 0 where it has no such functions. */
+#define _GNU_SOURCE
+#include <elf.h>
+#include <fcntl.h>
+#include <stdatomic.h>
+#include <stdint.h>
 #include <stdlib.h>
-#include <sys/syscall.h>
+#include <string.h>
+#include <sys/auxv.h>
+#include <sys/mman.h>
+#include <sys/stat.h>
 #include <unistd.h>
 
-extern void *__libc_malloc(size_t);
-extern void *__libc_calloc(size_t, size_t);
-extern void *__libc_realloc(void *, size_t);
+/* What both functions return. */
+struct given {
+    uint64_t is_given;
+    void *place;
+};
 
-static long allocations = 0;
-static long refused = -1;
+static struct {
+    atomic_long asked, refused;
+} *counts;
+static long first = 0, last = 0;
+
+/* The program's own, where an address sanitizer is linked into it. */
+static void *(*own_malloc)(size_t) = malloc;
+static void *(*own_realloc)(void *, size_t) = realloc;
 
 static int is_refused(void) {
-    if (refused < 0) {
-        const char *number = getenv("REFUSE");
-        refused = number ? atol(number) : 0;
+    long number = atomic_fetch_add(&counts->asked, 1) + 1;
+    if (number < first || number > last) {
+        return 0;
     }
-    allocations++;
-    return allocations == refused;
+    atomic_fetch_add(&counts->refused, 1);
+    return 1;
 }
 
-void *malloc(size_t size) { return is_refused() ? NULL : __libc_malloc(size); }
+static struct given given(void *place) {
+    static char nothing;
+    return (struct given){place != NULL, place ? place : &nothing};
+}
 
-void *calloc(size_t count, size_t size) { return is_refused() ? NULL : __libc_calloc(count, size); }
+static struct given alloc(size_t size, size_t alignment) { return given(is_refused() ? NULL : own_malloc(size ? size : alignment)); }
 
-void *realloc(void *old, size_t size) { return is_refused() ? NULL : __libc_realloc(old, size); }
+static struct given again(void *old, size_t kept, size_t size, size_t alignment) {
+    (void)kept;
+    return given(is_refused() ? NULL : own_realloc(old, size ? size : alignment));
+}
 
-__attribute__((destructor)) static void tell(void) {
-    char text[40];
-    int length = snprintf(text, sizeof text, "\nallocations=%ld\n", allocations);
-    if (write(2, text, (size_t)length) < 0) {
-        syscall(SYS_exit_group, 3);
+/* Puts a jump to a function at the beginning of another. */
+static void lead(unsigned char *from, uintptr_t to) {
+    unsigned char jump[] = {0x48, 0xb8, 0, 0, 0, 0, 0, 0, 0, 0, 0xff, 0xe0}; /* mov rax, to; jmp rax */
+    uintptr_t page = (uintptr_t)from & ~(uintptr_t)4095, end = (uintptr_t)from + sizeof jump;
+    memcpy(jump + 2, &to, sizeof to);
+    if (mprotect((void *)page, end - page, PROT_READ | PROT_WRITE | PROT_EXEC) == 0) {
+        memcpy(from, jump, sizeof jump);
+        mprotect((void *)page, end - page, PROT_READ | PROT_EXEC);
     }
 }
 
-void _exit(int status) {
-    tell();
-    for (;;) {
-        syscall(SYS_exit_group, status);
+/* Finds the functions by the program's table of symbols. */
+static void find(const char *image) {
+    const Elf64_Ehdr *head = (const Elf64_Ehdr *)image;
+    const Elf64_Shdr *parts = (const Elf64_Shdr *)(image + head->e_shoff);
+    unsigned char *base = (unsigned char *)getauxval(AT_PHDR) - head->e_phoff, *alloc_at = NULL, *again_at = NULL;
+    for (int part = 0; part < head->e_shnum; part++) {
+        if (parts[part].sh_type != SHT_SYMTAB) {
+            continue;
+        }
+        const char *names = image + parts[parts[part].sh_link].sh_offset;
+        const Elf64_Sym *it = (const Elf64_Sym *)(image + parts[part].sh_offset), *end = it + parts[part].sh_size / sizeof *it;
+        for (; it < end; it++) {
+            const char *name = names + it->st_name;
+            unsigned char *at = it->st_shndx == SHN_UNDEF ? NULL : base + it->st_value;
+            if (at && strcmp(name, "rattle_alloc") == 0) {
+                alloc_at = at;
+            } else if (at && strcmp(name, "rattle_realloc") == 0) {
+                again_at = at;
+            } else if (at && strcmp(name, "malloc") == 0) {
+                own_malloc = (void *(*)(size_t))(uintptr_t)at;
+            } else if (at && strcmp(name, "realloc") == 0) {
+                own_realloc = (void *(*)(void *, size_t))(uintptr_t)at;
+            }
+        }
+    }
+    if (alloc_at && again_at) {
+        lead(alloc_at, (uintptr_t)alloc);
+        lead(again_at, (uintptr_t)again);
+    }
+}
+
+/* Returns a file of at least so many bytes, mapped, or NULL. */
+static void *mapped(const char *path, int access, int way, size_t least) {
+    struct stat it;
+    int file = path ? open(path, access | O_CLOEXEC) : -1;
+    if (file < 0) {
+        return NULL;
+    }
+    size_t size = fstat(file, &it) == 0 ? (size_t)it.st_size : 0;
+    void *place = size < least ? MAP_FAILED : mmap(NULL, size, access == O_RDWR ? PROT_READ | PROT_WRITE : PROT_READ, way, file, 0);
+    close(file);
+    return place == MAP_FAILED ? NULL : place;
+}
+
+__attribute__((constructor)) static void begin(void) {
+    const char *number = getenv("REFUSE");
+    char *rest = NULL;
+    if (number) {
+        first = strtol(number, &rest, 10);
+        last = *rest ? INT64_MAX : first;
+    }
+    counts = mapped(getenv("REFUSE_COUNTS"), O_RDWR, MAP_SHARED, sizeof *counts);
+    const char *image = mapped("/proc/self/exe", O_RDONLY, MAP_PRIVATE, sizeof(Elf64_Ehdr));
+    if (counts && image) {
+        find(image);
     }
 }

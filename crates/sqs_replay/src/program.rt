@@ -1,6 +1,6 @@
 //! What the program makes of its arguments, and what it tells of how it ended.
 
-ghost use Rattle.std.specs.Prelude.{◌≡◌, [], ◌++◌, false, Ok, Err, Some, IfOk, IfErr, string_bytes};
+ghost use Rattle.std.specs.Prelude.{◌≡◌, [], ◌++◌, false, Ok, Err, Some, None, IfOk, IfErr, string_bytes};
 ghost use Rattle.std.specs.IoError.{error_kind};
 ghost use Rattle.std.specs.Process.{exit_status};
 ghost use Rattle.std.specs.Str.{is_utf8};
@@ -100,14 +100,17 @@ fn refusal_of_file(error: &io::Error) -> Refusal
     Refusal::Replay(fault_of(error, ReplayFault::Read))
 }
 
-/// What is said of a file that could not be read.
+/// What is said of a file that could not be read: which and why, but for want of memory, of which one line is enough.
 fn unread(alloc: Global, path: &str, error: &io::Error) -> Ending
-    ensures { result.refusal ≡ refusal_of_file (error_kind error.now) }
+    ensures refusal { result.refusal ≡ refusal_of_file (error_kind error.now) }
+    ensures short { result.refusal ≡ Refusal.Replay ReplayFault.OutOfMemory → result.more ≡ None }
 {
-    Ending {
-        refusal: refusal_of_file(error),
-        more: format!(in alloc; "{path}: {error}").ok(),
-    }
+    let refusal = refusal_of_file(error);
+    let more = match &refusal {
+        Refusal::Replay(ReplayFault::OutOfMemory) => None,
+        _ => format!(in alloc; "{path}: {error}").ok(),
+    };
+    Ending { refusal, more }
 }
 
 /// What is said of a file that is no configuration.

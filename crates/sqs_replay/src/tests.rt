@@ -1,5 +1,6 @@
 //! What no stored run of `cases/` can show: devices that fail, memory that is refused, the parts of a
-//! line, the longest line, and what the program makes of its arguments and tells of its end.
+//! line, one that is cut, the longest line, and what the program makes of its arguments and tells of its
+//! end.
 
 mod devices;
 mod lines;
@@ -46,10 +47,10 @@ const ANSWERS: &str = r#"200 {"QueueUrl":"http://localhost:9324/000000000000/job
 200 {"alarms":[]}
 "#;
 
-/// Replays [`INPUT`] in memory, and gives the outcome and what was written.
-fn replayed(rt: &HostRuntime) -> (Result<(), ReplayFault>, Vec<u8>) {
+/// Replays an input in memory, and gives the outcome and what was written.
+fn replayed(rt: &HostRuntime, input: &[u8]) -> (Result<(), ReplayFault>, Vec<u8>) {
     let config = Config::with_limits(rt.alloc(), Limits::default());
-    let mut inlet = Device::new(INPUT.as_bytes());
+    let mut inlet = Device::new(input);
     let mut outlet = Device::new(Vec::new(rt.alloc()));
     let mut ticks = Ticks::new(rt);
     let result = replay(rt.alloc(), config, &mut inlet, &mut outlet, &mut ticks);
@@ -61,13 +62,42 @@ fn replayed(rt: &HostRuntime) -> (Result<(), ReplayFault>, Vec<u8>) {
 /// `rt try --test --fail-alloc N -- refused_memory` refuses the Nth allocation.
 #[test]
 fn refused_memory(rt: HostRuntime) -> Result<(), Fail> {
-    let (result, written) = match replayed(&rt) {
+    let (result, written) = match replayed(&rt, INPUT.as_bytes()) {
         (Err(ReplayFault::OutOfMemory), written) => {
             same(ANSWERS.as_bytes().starts_with(written.as_slice()), true)?;
-            replayed(&rt)
+            replayed(&rt, INPUT.as_bytes())
         }
         replayed => replayed,
     };
     same(result, Ok(()))?;
     same(str::from_utf8(written.as_slice())?, ANSWERS)
+}
+
+/// A line whose queue is not there, and its answer.
+const LINE: &str = r#"1000 SendMessage {"QueueUrl":"jobs","MessageBody":"hello"}"#;
+
+const ABSENT: &str =
+    r#"400 {"__type":"com.amazonaws.sqs#QueueDoesNotExist","message":"The specified queue does not exist."}
+"#;
+
+/// The answer to a line that cannot be read.
+const UNREAD: &str =
+    r#"400 {"__type":"com.amazonaws.sqs#SerializationException","message":"The request cannot be read."}
+"#;
+
+/// A line that is cut, wherever that is and whatever ends it, is answered once, and cannot be read.
+#[test]
+fn cut_lines(rt: HostRuntime) -> Result<(), Fail> {
+    for end in ["", "\n", "\r\n"] {
+        for length in 1..=LINE.len() {
+            let mut input = Vec::new(rt.alloc());
+            input.extend_from_slice(LINE.as_bytes().get(..length).ok_or("a front")?)?;
+            input.extend_from_slice(end.as_bytes())?;
+            let (result, written) = replayed(&rt, input.as_slice());
+            let answer = if length < LINE.len() { UNREAD } else { ABSENT };
+            same(result, Ok(()))?;
+            same(str::from_utf8(written.as_slice())?, answer)?;
+        }
+    }
+    Ok(())
 }
