@@ -1,15 +1,16 @@
--- What the event of a command is about: it opens no queue, offers and lets leave visible messages, each once, and confirms a transfer that waits.
+-- What the event of a command is about: it opens no queue, offers and lets leave visible messages, each once, gives live ones another due time, and confirms a transfer that waits.
 use Rattle.std.proofs.Common.{◌≡◌, ℕ, suc, Bool, true, false, not, cond, eqb, List, [], ◌∷◌, Option, Some, None, refl, sym, ap, subst, inl, inr, ◌∙◌, arith}
 use Rattle.std.specs.Prelude.{⊤, ◌≢◌, IfSome, nat_eq, nat_lt, nat_le, unwrap_or, filter, slice_get}
 use Rattle.std.specs.Option.{option_map_or}
 use Rattle.std.specs.List.{All, AllPairs}
-use Rattle.std.proofs.lemmas.Option.{slice_get-get_or}
+use Rattle.std.proofs.lemmas.Option.{none-some, slice_get-get_or}
 use Rattle.std.proofs.lemmas.List.Elements.{All-nil, All-cons, All-head, All-tail, All-take, All-filter}
 use Rattle.std.proofs.lemmas.List.Kept.{AllPairs-cons}
-use Rattle.std.proofs.lemmas.Bool.{false≢true, eqb-true, eqb-false, ne_eqb, or_cases, or_parts, or_from}
+use Rattle.std.proofs.lemmas.Bool.{false≢true, and_parts, eqb-true, eqb-false, ne_eqb, or_cases, or_parts, or_from}
 use Rattle.message.specs.declared.fault.Fault.{Fault}
-use Rattle.message.specs.declared.fault.Fault.TheVariants.{InvalidParameterValue, ReceiptHandleIsInvalid, OverLimit}
+use Rattle.message.specs.declared.fault.Fault.TheVariants.{InvalidParameterValue, ReceiptHandleIsInvalid, MessageNotInflight, OverLimit}
 use Rattle.message.specs.Content.{ContentText, content_size}
+use Rattle.receipt_handle.specs.declared.handle.Handle.{Handle}
 use Rattle.queue_config.specs.Settings.{settings_with}
 use Rattle.journal.specs.declared.entry.Entry.{Entry}
 use Rattle.journal.specs.declared.entry.Event.{Event}
@@ -18,10 +19,11 @@ use Rattle.queue_core.specs.declared.command.Command.{Command}
 use Rattle.queue_core.specs.declared.command.Command.TheVariants as commands
 use Rattle.queue_core.specs.declared.facts.Candidate.{Candidate}
 use Rattle.queue_core.specs.declared.facts.Message.{Message}
-use Rattle.queue_core.specs.declared.facts.MessageState.TheVariants.{Visible}
+use Rattle.queue_core.specs.declared.facts.MessageState.{MessageState}
+use Rattle.queue_core.specs.declared.facts.MessageState.TheVariants.{Visible, InFlight}
 use Rattle.queue_core.specs.Messages.{effect_of, contains_number, messages, settings_of, offers_number, opens, awaits_transfer, is_closed, has_accepted}
-use Rattle.queue_core.specs.States.{is_in_state, is_numbered, receive_order}
-use Rattle.queue_core.specs.Queue.{QueueHistory, Outcome, refusal, unless_refused, first_refusal, refused_or, done, send_outcome, receive_outcome, change_outcome, delete_outcome, change_refusal, is_valid_handle, holds_live, arrive_outcome, is_pending, settle_outcome, orphan_outcome, in_flight_count, is_exhausted, scanned_candidates, offered_candidates, leaving_candidates, received_event, numbers_of, policy_target, outcome_of}
+use Rattle.queue_core.specs.States.{is_live, waiting_state, same_state, is_in_state, message_numbered, is_numbered, receive_order}
+use Rattle.queue_core.specs.Queue.{QueueHistory, Outcome, refusal, unless_refused, first_refusal, refused_or, done, send_outcome, receive_outcome, change_outcome, delete_outcome, change_refusal, is_valid_handle, is_latest_handle, holds_in_flight, passes_twelve_hours, holds_live, arrive_outcome, is_pending, settle_outcome, orphan_outcome, in_flight_count, is_exhausted, scanned_candidates, offered_candidates, leaving_candidates, received_event, numbers_of, policy_target, outcome_of}
 use Rattle.queue_core.specs.Turns.{IsVisibleCandidate}
 use Rattle.queue_core.specs.Legal.{IsCausedIn}
 use Rattle.queue_core.proofs.OfferLemmas.{comes_to, scanned-take, scanned_once, order_visible, offered_visible}
@@ -30,6 +32,7 @@ use Rattle.queue_core.proofs.PushLemmas.{numbered-number}
 -- what the event of a command is about
 pub record IsAbout (q : QueueHistory) (event : Event ContentText) : Type 0 where
   pub unopened : opens event ≡ false
+  pub rescheduled : (n : ℕ) → (effect_of event).reschedules n ≡ true → is_numbered (λ m. is_live q.lines q.clock m) q.lines n ≡ true
   pub offered : (n : ℕ) → offers_number n event ≡ true → is_numbered (λ m. is_in_state Visible q.lines q.clock m) q.lines n ≡ true
   pub departing : (n : ℕ) → contains_number n (effect_of event).departures ≡ true → is_numbered (λ m. is_in_state Visible q.lines q.clock m) q.lines n ≡ true
   pub apart : (n : ℕ) → offers_number n event ≡ true → contains_number n (effect_of event).departures ≡ false
@@ -135,6 +138,19 @@ module _ (lines : List (Entry ContentText)) (clock : ℕ) where
         | inr is ↦ candidates_visible n cs (All-tail (λ x. IsVisibleCandidate lines clock x) c cs h) is
       ]
 
+-- what is in a state is live
+live_by_state : (live : Bool) (state own : MessageState) → option_map_or (λ s. same_state state s) (cond live (Some own) None) false ≡ true → live ≡ true
+live_by_state true state own h = refl
+live_by_state false state own h = absurd (false≢true h)
+
+live_numbered : (state : MessageState) (lines : List (Entry ContentText)) (clock n : ℕ) → is_numbered (λ m. is_in_state state lines clock m) lines n ≡ true
+    → is_numbered (λ m. is_live lines clock m) lines n ≡ true
+live_numbered state lines clock n h = by_message (message_numbered lines n) h
+  where
+    by_message : (o : Option Message) → option_map_or (λ m. is_in_state state lines clock m) o false ≡ true → option_map_or (λ m. is_live lines clock m) o false ≡ true
+    by_message None k = absurd (false≢true k)
+    by_message (Some m) k = live_by_state (is_live lines clock m) state (waiting_state lines clock m) k
+
 -- ---- a receive
 
 module _ (q : QueueHistory) (maximum : ℕ) where
@@ -167,6 +183,7 @@ about-parts : (q : QueueHistory) (timeout target : ℕ) (offered leaving : List 
     → IsAbout q (Received timeout offered leaving target)
 about-parts q timeout target offered leaving there departing apart once leaving_once = record {
   unopened = refl;
+  rescheduled = λ n is. live_numbered Visible q.lines q.clock n (there n is);
   offered = there;
   departing = departing;
   apart = apart;
@@ -185,18 +202,21 @@ about-received q maximum timeout =
 
 -- ---- every other event
 
--- neither the opening of a queue nor a receive
+-- neither the opening of a queue nor a receive nor a change
 abbrev IsPlain : Event ContentText → Type 0
 IsPlain (Opened uid settings) = ⊥
 IsPlain (Received timeout offered leaving target) = ⊥
+IsPlain (Changed number timeout) = ⊥
 IsPlain event = ⊤
 
 about-plain : (q : QueueHistory) (event : Event ContentText) → IsPlain event
     → ((n : ℕ) → (effect_of event).confirms n ≡ true → is_numbered (λ m. awaits_transfer q.lines m) q.lines n ≡ true) → IsAbout q event
 about-plain q (Opened uid settings) h k = absurd h
 about-plain q (Received timeout offered leaving target) h k = absurd h
+about-plain q (Changed number timeout) h k = absurd h
 about-plain q event h k = record {
   unopened = refl;
+  rescheduled = λ n is. absurd (false≢true is);
   offered = λ n is. absurd (false≢true is);
   departing = λ n is. absurd (false≢true is);
   apart = λ n is. refl;
@@ -208,13 +228,37 @@ about-plain q event h k = record {
 about-idle : (q : QueueHistory) (event : Event ContentText) → IsPlain event → ((n : ℕ) → (effect_of event).confirms n ≡ false) → IsAbout q event
 about-idle q event h none = about-plain q event h (λ n is. absurd (false≢true (sym (none n) ∙ is)))
 
+-- a change is about a message that is live
+about-changed : (q : QueueHistory) (number timeout : ℕ) → is_numbered (λ m. is_live q.lines q.clock m) q.lines number ≡ true → IsAbout q (Changed number timeout)
+about-changed q number timeout live = record {
+  unopened = refl;
+  rescheduled = λ n is. subst (λ (i : ℕ). is_numbered (λ m. is_live q.lines q.clock m) q.lines i ≡ true) (eqb-true number n is) live;
+  offered = λ n is. absurd (false≢true is);
+  departing = λ n is. absurd (false≢true is);
+  apart = λ n is. refl;
+  departing_once = AllPairs-nil (λ a b. nat_eq a b ≡ false);
+  offered_once = λ timeout target offered leaving e. absurd cc;
+  confirmed = λ n is. absurd (false≢true is);
+}
+
+held-unrefused : (valid holds passes : Bool) → cond valid (cond holds (cond passes (Some InvalidParameterValue) None) (Some MessageNotInflight)) (Some ReceiptHandleIsInvalid) ≡ None → holds ≡ true
+held-unrefused true true passes h = refl
+held-unrefused true false passes h = absurd (none-some MessageNotInflight (sym h))
+held-unrefused false holds passes h = absurd (none-some ReceiptHandleIsInvalid (sym h))
+
+-- and so is what a change that is not refused is about
+changed-live : (q : QueueHistory) (handle : Handle) (timeout : ℕ) → change_refusal q handle timeout ≡ None → is_numbered (λ m. is_live q.lines q.clock m) q.lines handle.number ≡ true
+changed-live q handle timeout h =
+    let held = held-unrefused (is_valid_handle q handle) (holds_in_flight q handle) (passes_twelve_hours q handle.number timeout) h in
+    live_numbered InFlight q.lines q.clock handle.number (and_parts (is_numbered (λ m. is_in_state InFlight q.lines q.clock m) q.lines handle.number) (is_latest_handle q handle) held).0
+
 -- ---- every command
 
 -- what is to be shown where something is so of each event that a command adds, but for refusals
 abbrev pub IsSoOfAdded : QueueHistory → (Event ContentText → Type 0) → Command → Type 0
 IsSoOfAdded q P (commands.Send content delay) = P (Sent (unwrap_or delay (settings_of q.lines).delay_seconds) content)
 IsSoOfAdded q P (commands.Receive maximum timeout) = P (received_event q maximum timeout)
-IsSoOfAdded q P (commands.Change handle timeout) = P (Changed handle.number timeout)
+IsSoOfAdded q P (commands.Change handle timeout) = change_refusal q handle timeout ≡ None → P (Changed handle.number timeout)
 IsSoOfAdded q P (commands.Delete handle) = P (Deleted handle.number) × P DeletedAgain
 IsSoOfAdded q P commands.Purge = P Purged
 IsSoOfAdded q P (commands.Set wish target) = P (Set (settings_with (settings_of q.lines) wish target))
@@ -234,8 +278,8 @@ module _ (P : Event ContentText → Type 0) where
   added-cond true o p h k = h refl
   added-cond false o p h k = k refl
 
-  added-refused_or : (r : Option Fault) (o : Outcome) → ((fault : Fault) → P (Refused fault)) → IfSome o.event P → IfSome (refused_or r o).event P
-  added-refused_or None o f h = h
+  added-refused_or : (r : Option Fault) (o : Outcome) → ((fault : Fault) → P (Refused fault)) → (r ≡ None → IfSome o.event P) → IfSome (refused_or r o).event P
+  added-refused_or None o f h = h refl
   added-refused_or (Some fault) o f h = f fault
 
   added-deletion : (b : Bool) (number : ℕ) → P (Deleted number) × P DeletedAgain → IfSome (done (cond b (Deleted number) DeletedAgain)).event P
@@ -269,6 +313,7 @@ module _ (P : Event ContentText → Type 0) where
 -- what each is about
 about-each : (q : QueueHistory) (command : Command) → IsSoOfAdded q (IsAbout q) command
 about-each q (commands.Receive maximum timeout) = about-received q maximum timeout
+about-each q (commands.Change handle timeout) = λ unrefused. about-changed q handle.number timeout (changed-live q handle timeout unrefused)
 about-each q (commands.Delete handle) = (about-idle q (Deleted handle.number) tt (λ n. refl), about-idle q DeletedAgain tt (λ n. refl))
 about-each q (commands.Arrive parcel) = λ first. about-idle q (Arrived parcel.origin parcel.content) tt (λ n. refl)
 about-each q (commands.Settle number) = λ pending.

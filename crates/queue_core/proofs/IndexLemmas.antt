@@ -240,7 +240,7 @@ module _ (s : QueueSettings) (clock at : ℕ) (event : Event ContentText) where
         origin = birth.origin;
         first_receive = None;
         last_receive = 0;
-        slot = record { stay = Hidden; due = at + 1000 * birth.delay; sent = option_map_or (λ origin. origin.sent) birth.origin at; is_fresh = true; tries = 0 };
+        slot = record { stay = Hidden; due = at + 1000 * birth.delay; sent = option_map_or (λ origin. origin.sent) birth.origin at; is_fresh = true; is_returned = false; tries = 0 };
       }) birth)
       by_birth None = tt
       by_birth (Some birth) = λ shown. absurd cc

@@ -1,5 +1,5 @@
 -- What a queue's journal says is what its indices say.
-use Rattle.std.proofs.Common.{◌≡◌, ℕ, ◌+◌, ◌*◌, ◌≤◌, ◌<◌, Bool, true, false, not, cond, ◌&&◌, ◌||◌, ◌==◌, List, [], ◌∷◌, map, length, get_or, Option, Some, None, inl, inr, refl, sym, ap, subst, ◌∙◌, arith}
+use Rattle.std.proofs.Common.{◌≡◌, ℕ, ◌+◌, ◌*◌, ◌≤◌, Bool, true, false, not, cond, ◌&&◌, ◌||◌, ◌==◌, List, [], ◌∷◌, map, length, get_or, Option, Some, None, inl, inr, refl, sym, ap, subst, ◌∙◌, arith}
 use Rattle.std.specs.Prelude.{option_map, count_by, nat_le, nat_lt, min, slice_get}
 use Rattle.std.specs.Option.{option_map_or}
 use Rattle.std.specs.List.{Contains, list_any}
@@ -29,8 +29,8 @@ use Rattle.queue_core.specs.declared.record.Record.{Record}
 use Rattle.queue_core.specs.declared.indices.Indices.{Indices}
 use Rattle.queue_core.specs.Slots.{is_hidden_stay, is_shown_stay, is_left_stay, is_left_stay_for, is_left_for, is_here, is_shown, is_left, is_delayed, is_in_flight, has_age as slot_has_age, shows, count_slots, AreIndexed}
 use Rattle.queue_core.specs.Records.{Records, stay_at, with_stay, has_run_out, settled_record, IsSettled}
-use Rattle.queue_core.specs.Recorded.{ran_out_before, runs_out_by, IsStanding, IsRecordOf, AreRecorded}
-use Rattle.queue_core.proofs.FactLemmas.{Line, expired-split, numbered-number, numbered-place}
+use Rattle.queue_core.specs.Recorded.{runs_out_by, IsStanding, IsRecordOf, notes_end, TellsExpiry, AreRecorded}
+use Rattle.queue_core.proofs.FactLemmas.{Line, numbered-number}
 use Rattle.queue_core.proofs.PairLemmas.{AreAscending, ascending_same, AllPairs-map, count_by-places}
 
 -- ---- what passing time leaves as it is
@@ -81,10 +81,10 @@ in_flight_by Hidden live late false h = rw (h.0, h.1) refl
 in_flight_by Shown live late fresh h = rw (h.0, h.1) refl
 in_flight_by (Left target ran_out) live late fresh h = rw h refl
 
-due_by : (stay : Stay) (due : ℕ) (c : Course) (ran_out : Bool) → IsStanding stay due c ran_out → is_shown_stay stay ≡ true → c.due ≡ due
-due_by Hidden due c ran_out h e = h.1
-due_by Shown due c ran_out h e = h.1
-due_by (Left target left_ran_out) due c ran_out h e = absurd (false≢true e)
+due_by : (stay : Stay) (due : ℕ) (c : Course) → IsStanding stay due c → is_shown_stay stay ≡ true → c.due ≡ due
+due_by Hidden due c h e = h.1
+due_by Shown due c h e = h.1
+due_by (Left target left_ran_out) due c h e = absurd (false≢true e)
 
 shows_by : (stay : Stay) (visible : Bool) (at due moment : ℕ) → visible ≡ is_shown_stay stay → (is_shown_stay stay ≡ true → at ≡ due) → (visible && (at == moment)) ≡ (is_shown_stay stay && (due == moment))
 shows_by Hidden visible at due moment h k = rw h refl
@@ -96,15 +96,15 @@ stay_shown Hidden h = absurd (false≢true h)
 stay_shown Shown h = refl
 stay_shown (Left target ran_out) h = absurd (false≢true h)
 
-awaits_by : (stay : Stay) (due : ℕ) (c : Course) (ran_out : Bool) → IsStanding stay due c ran_out → awaits_status c.status ≡ is_left_stay stay
-awaits_by Hidden due c ran_out h = ap awaits_status h.0
-awaits_by Shown due c ran_out h = ap awaits_status h.0
-awaits_by (Left target left_ran_out) due c ran_out h = ap awaits_status h.0
+awaits_by : (stay : Stay) (due : ℕ) (c : Course) → IsStanding stay due c → awaits_status c.status ≡ is_left_stay stay
+awaits_by Hidden due c h = ap awaits_status h.0
+awaits_by Shown due c h = ap awaits_status h.0
+awaits_by (Left target left_ran_out) due c h = ap awaits_status h.0
 
-waits_by : (target : ℕ) (stay : Stay) (due : ℕ) (c : Course) (ran_out : Bool) → IsStanding stay due c ran_out → is_waiting_status target c.status ≡ is_left_stay_for target stay
-waits_by target Hidden due c ran_out h = ap (is_waiting_status target) h.0
-waits_by target Shown due c ran_out h = ap (is_waiting_status target) h.0
-waits_by target (Left own left_ran_out) due c ran_out h = ap (is_waiting_status target) h.0
+waits_by : (target : ℕ) (stay : Stay) (due : ℕ) (c : Course) → IsStanding stay due c → is_waiting_status target c.status ≡ is_left_stay_for target stay
+waits_by target Hidden due c h = ap (is_waiting_status target) h.0
+waits_by target Shown due c h = ap (is_waiting_status target) h.0
+waits_by target (Left own left_ran_out) due c h = ap (is_waiting_status target) h.0
 
 lt-min : (count : ℕ) → nat_lt (min count 3) 3 ≡ nat_lt count 3
 lt-min count = elim (cases_lt count 3) [
@@ -139,13 +139,18 @@ record HasRecord (lines : List Line) (clock : ℕ) (m : Message) (r : Record) : 
   of : IsRecordOf lines m r
   seen : IsSeen r.slot.stay (is_live lines clock m) (is_late lines clock m)
 
-live_at : (status : Status) (expired ran_out runs_out : Bool) → status ≡ Present → expired ≡ (ran_out || runs_out) → ran_out ≡ false → runs_out ≡ false → (is_present_status status && not expired) ≡ true
-live_at status expired ran_out runs_out a b c d = rw (a, b, c, d) refl
+live_at : (status : Status) (expired noted runs_out : Bool) → status ≡ Present → expired ≡ (noted || runs_out) → noted ≡ false → runs_out ≡ false → (is_present_status status && not expired) ≡ true
+live_at status expired noted runs_out a b c d = rw (a, b, c, d) refl
 
 gone_at : (target : ℕ) (status : Status) (expired : Bool) → status ≡ Waiting target → (is_present_status status && not expired) ≡ false
 gone_at target status expired h = rw h refl
 
-module _ (lines : List Line) (clock : ℕ) (m : Message) (r : Record) (place : m.place < length lines) (of : IsRecordOf lines m r) where
+here-unnoted : (stay : Stay) → is_left_stay stay ≡ false → notes_end stay ≡ false
+here-unnoted Hidden h = refl
+here-unnoted Shown h = refl
+here-unnoted (Left target ran_out) h = absurd (false≢true (sym h))
+
+module _ (lines : List Line) (clock : ℕ) (m : Message) (r : Record) (tells : TellsExpiry lines clock m r) (of : IsRecordOf lines m r) where
   abbrev retention : ℕ
   retention = (settings_of lines).retention_seconds
 
@@ -160,18 +165,18 @@ module _ (lines : List Line) (clock : ℕ) (m : Message) (r : Record) (place : m
         ap (λ (x : Record). x.slot.stay)
         (stays_at (not (is_left_stay r.slot.stay) && has_run_out retention clock r) (with_stay (stay_at clock r.slot.stay r.slot.due) r) r settled)
 
-    live : (stay : Stay) → r.slot.stay ≡ stay → is_left_stay stay ≡ false → (course_of lines m).status ≡ Present → ran_out_before lines m ≡ false → is_live lines clock m ≡ true
-    live stay e h present before =
-        live_at (course_of lines m).status (is_expired lines clock m) (ran_out_before lines m) (runs_out_by (settings_of lines) clock m) present (expired-split lines clock m place) before
+    live : (stay : Stay) → r.slot.stay ≡ stay → is_left_stay stay ≡ false → (course_of lines m).status ≡ Present → is_live lines clock m ≡ true
+    live stay e h present =
+        live_at (course_of lines m).status (is_expired lines clock m) (notes_end r.slot.stay) (runs_out_by (settings_of lines) clock m) present tells (ap notes_end e ∙ here-unnoted stay h)
         (lasts (ap is_left_stay e ∙ h))
 
-    seen_at : (stay : Stay) → r.slot.stay ≡ stay → IsStanding stay r.slot.due (course_of lines m) (ran_out_before lines m) → IsSeen stay (is_live lines clock m) (is_late lines clock m)
+    seen_at : (stay : Stay) → r.slot.stay ≡ stay → IsStanding stay r.slot.due (course_of lines m) → IsSeen stay (is_live lines clock m) (is_late lines clock m)
     seen_at Hidden e h = (
-      live Hidden e refl h.0 h.2,
+      live Hidden e refl h.0,
       ap (λ (due : ℕ). nat_le due clock) h.1
           ∙ hidden_yet (nat_le r.slot.due clock) (subst (λ (stay : Stay). stay_at clock stay r.slot.due ≡ stay) e stays),
     )
-    seen_at Shown e h = (live Shown e refl h.0 h.2, ap (λ (due : ℕ). nat_le due clock) h.1 ∙ le-leb r.slot.due clock (shown e))
+    seen_at Shown e h = (live Shown e refl h.0, ap (λ (due : ℕ). nat_le due clock) h.1 ∙ le-leb r.slot.due clock (shown e))
     seen_at (Left target ran_out) e h = gone_at target (course_of lines m).status (is_expired lines clock m) h.0
 
     has_record : HasRecord lines clock m r
@@ -196,13 +201,13 @@ module _ (lines : List Line) (clock : ℕ) (m : Message) (r : Record) (has : Has
   slot_in_flight_by = in_flight_by r.slot.stay (is_live lines clock m) (is_late lines clock m) (is_unused lines m) has.seen ∙ ap (λ (b : Bool). is_hidden_stay r.slot.stay && not b) (sym has.of.fresh)
 
   left_by : awaits_transfer lines m ≡ is_left (Some r.slot)
-  left_by = awaits_by r.slot.stay r.slot.due (course_of lines m) (ran_out_before lines m) has.of.standing
+  left_by = awaits_by r.slot.stay r.slot.due (course_of lines m) has.of.standing
 
   left_for_by : (target : ℕ) → waits_for lines target m ≡ is_left_for target (Some r.slot)
-  left_for_by target = waits_by target r.slot.stay r.slot.due (course_of lines m) (ran_out_before lines m) has.of.standing
+  left_for_by target = waits_by target r.slot.stay r.slot.due (course_of lines m) has.of.standing
 
   due_is : is_shown_stay r.slot.stay ≡ true → due_time lines m ≡ r.slot.due
-  due_is = due_by r.slot.stay r.slot.due (course_of lines m) (ran_out_before lines m) has.of.standing
+  due_is = due_by r.slot.stay r.slot.due (course_of lines m) has.of.standing
 
   shows_at : (moment : ℕ) → (is_in_state Visible lines clock m && (due_time lines m == moment)) ≡ shows (Some r.slot) moment
   shows_at moment = shows_by r.slot.stay (is_in_state Visible lines clock m) (due_time lines m) r.slot.due moment shown_by due_is
@@ -296,7 +301,7 @@ module _ (lines : List Line) (clock : ℕ) (records : Records) (is : AreRecorded
   kept_by n m r e k =
       let there = is.some n r k in
       let same : there.0 ≡ m = same_Some there.0 m (sym there.1 ∙ e) in
-      has_record lines clock m r (numbered-place lines n m e) (subst (λ (x : Message). IsRecordOf lines x r) same there.2) (settled.settled n r k) (settled.shown n r k)
+      has_record lines clock m r (subst (λ (x : Message). TellsExpiry lines clock x r) same there.3) (subst (λ (x : Message). IsRecordOf lines x r) same there.2) (settled.settled n r k) (settled.shown n r k)
 
   -- a test of messages is one of slots, where it is so of each message with its record, and no message without one passes
   numbered_at : (p : Message → Bool) (test : Option Slot → Bool) → test None ≡ false → ((m : Message) → is_live lines clock m ≡ false → awaits_transfer lines m ≡ false → p m ≡ false)

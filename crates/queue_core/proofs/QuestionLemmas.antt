@@ -27,7 +27,7 @@ use Rattle.queue_core.specs.declared.record.Record.{Record}
 use Rattle.queue_core.specs.declared.index.MessageIndex.{MessageIndex}
 use Rattle.queue_core.specs.Slots.{is_left_stay, is_left_stay_for, is_here, has_age as slot_has_age, is_left, is_left_for, is_in_flight, AreIndexed}
 use Rattle.queue_core.specs.Records.{records_in, slots_in, born_in}
-use Rattle.queue_core.specs.Recorded.{ran_out_before, IsStanding, IsRecordOf}
+use Rattle.queue_core.specs.Recorded.{IsStanding, IsRecordOf}
 use Rattle.queue_core.specs.Indexed.{IsIndexOf}
 use Rattle.queue_core.proofs.FactLemmas.{Line, numbered-number, pending_of}
 use Rattle.queue_core.proofs.SlotCountLemmas.{count_agree, count_members}
@@ -78,10 +78,10 @@ oldest_age-none lines clock k past below =
 
 -- ---- where a message that waits stands
 
-left_stay : (stay : Stay) (due : ℕ) (c : Course) (ran_out : Bool) (target : ℕ) → IsStanding stay due c ran_out → c.status ≡ Waiting target → (out : Bool) × (stay ≡ Left target out)
-left_stay Hidden due c ran_out target h e = absurd (let clash : ◌≡◌ {A = Status} Present (Waiting target) = sym h.0 ∙ e in cc)
-left_stay Shown due c ran_out target h e = absurd (let clash : ◌≡◌ {A = Status} Present (Waiting target) = sym h.0 ∙ e in cc)
-left_stay (Left own out) due c ran_out target h e = (out, let both : ◌≡◌ {A = Status} (Waiting own) (Waiting target) = sym h.0 ∙ e in let same : own ≡ target = cc in ap (λ (n : ℕ). Left n out) same)
+left_stay : (stay : Stay) (due : ℕ) (c : Course) (target : ℕ) → IsStanding stay due c → c.status ≡ Waiting target → (out : Bool) × (stay ≡ Left target out)
+left_stay Hidden due c target h e = absurd (let clash : ◌≡◌ {A = Status} Present (Waiting target) = sym h.0 ∙ e in cc)
+left_stay Shown due c target h e = absurd (let clash : ◌≡◌ {A = Status} Present (Waiting target) = sym h.0 ∙ e in cc)
+left_stay (Left own out) due c target h e = (out, let both : ◌≡◌ {A = Status} (Waiting own) (Waiting target) = sym h.0 ∙ e in let same : own ≡ target = cc in ap (λ (n : ℕ). Left n out) same)
 
 -- the message of a transfer that is not confirmed, and its record
 pub record IsWaiting (lines : List Line) (x : MessageIndex) (t : Transfer) : Type 0 where
@@ -242,7 +242,7 @@ module _ (q : QueueHistory) (x : MessageIndex) (is : IsIndexOf q.lines q.clock x
         let there = is.recorded.records.some t.number r k in
         let same : there.0 ≡ m = same_Some there.0 m (sym there.1 ∙ e) in
         let of : IsRecordOf q.lines m r = subst (λ (m : Message). IsRecordOf q.lines m r) same there.2 in
-        let left = left_stay r.slot.stay r.slot.due (course_of q.lines m) (ran_out_before q.lines m) t.target of.standing status in
+        let left = left_stay r.slot.stay r.slot.due (course_of q.lines m) t.target of.standing status in
         record { message = m; numbered = e; kept = r; found = k; of = of; ran_out = left.0; left = left.1 }
 
     first_waits : (t : Transfer) → first_transfer q ≡ Some t → IsWaiting q.lines x t

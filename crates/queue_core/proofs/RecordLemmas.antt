@@ -26,9 +26,10 @@ use Rattle.queue_core.specs.declared.slot.Stay.TheVariants.{Hidden, Shown, Left}
 use Rattle.queue_core.specs.declared.record.Record.{Record}
 use Rattle.queue_core.specs.Slots.{is_left_stay}
 use Rattle.queue_core.specs.Records.{with_stay, has_run_out, tried, stay_at, is_left_record, settled_record, record_after, Records, IsSettled, born_record, records_after, records_settled}
-use Rattle.queue_core.specs.Recorded.{ran_out_before, runs_out_by, IsStanding, IsRecordOf, AreRecorded}
+use Rattle.queue_core.specs.Recorded.{ran_out_before, runs_out_by, IsStanding, IsRecordOf, notes_end, TellsExpiry, AreRecorded}
 use Rattle.queue_core.proofs.FactLemmas.{Line, settings_from-push, course-push, ran_out-push, expired-split, receives-push, first-push, last-push, content-push, numbered-push, numbered-number, numbered-place, numbered-past, newborn, unborn, about}
-use Rattle.queue_core.proofs.ToldLemmas.{Told, IsTold, told-with, told_after, there_unless, gone_if, told-next, told-gone, untold}
+use Rattle.queue_core.proofs.PushLemmas.{or_false}
+use Rattle.queue_core.proofs.ToldLemmas.{Told, IsTold, told-with, told_after, there_unless, gone_if, told-next, told-gone, expired-next, untold}
 
 -- ---- what is there behind a step
 
@@ -46,6 +47,11 @@ module _ (lines : List Line) (clock : ℕ) (records : Records) (is : AreRecorded
   record_numbered n m r numbered at =
       let x = is.some n r at in
       subst (λ (y : Message). IsRecordOf lines y r) (same_Some x.0 m (sym x.1 ∙ numbered)) x.2
+
+  pub tells_numbered : (n : ℕ) (m : Message) (r : Record) → message_numbered lines n ≡ Some m → records n ≡ Some r → TellsExpiry lines clock m r
+  tells_numbered n m r numbered at =
+      let x = is.some n r at in
+      subst (λ (y : Message). TellsExpiry lines clock y r) (same_Some x.0 m (sym x.1 ∙ numbered)) x.3
 
 -- ---- a clock that rises
 
@@ -69,9 +75,20 @@ expired-later lines clock later m placed h expired =
     ∙ either-later (ran_out_before lines m) (runs_out_by (settings_of lines) clock m) (runs_out_by (settings_of lines) later m) (runs_out-later (settings_of lines) clock later m h)
     (sym (expired-split lines clock m placed) ∙ expired)
 
+-- what holds of whether it has expired holds later too
+tells-by : (before noted by later : Bool) → (by ≡ true → later ≡ true) → (before || by) ≡ (noted || by) → (before || later) ≡ (noted || later)
+tells-by before noted true later lasts h = or_right before later (lasts refl) ∙ sym (or_right noted later (lasts refl))
+tells-by before noted false later lasts h = ap (λ (b : Bool). b || later) (sym (or_false before) ∙ h ∙ or_false noted)
+
+tells-later : (lines : List Line) (clock later : ℕ) (m : Message) (r : Record) → m.place < length lines → clock ≤ later → TellsExpiry lines clock m r → TellsExpiry lines later m r
+tells-later lines clock later m r placed h tells =
+    expired-split lines later m placed
+    ∙ tells-by (ran_out_before lines m) (notes_end r.slot.stay) (runs_out_by (settings_of lines) clock m) (runs_out_by (settings_of lines) later m) (runs_out-later (settings_of lines) clock later m h)
+    (sym (expired-split lines clock m placed) ∙ tells)
+
 pub recorded-later : (lines : List Line) (clock later : ℕ) (records : Records) → clock ≤ later → AreRecorded lines clock records → AreRecorded lines later records
 recorded-later lines clock later records h is = record {
-  some = is.some;
+  some = λ n r at. let m = is.some n r at in (m.0, m.1, m.2, tells-later lines clock later m.0 r (numbered-place lines n m.0 m.1) h m.3);
   none = λ n m numbered gone.
       let dead = is.none n m numbered gone in
       (dead-later (is_present lines m) (is_expired lines clock m) (is_expired lines later m) (expired-later lines clock later m (numbered-place lines n m numbered) h) dead.0, dead.1);
@@ -88,7 +105,6 @@ told_of lines m = record {
   fresh = eqb (receive_count lines m.number) 0 && not (is_returned lines m);
   tries = min (receive_count lines m.number) 3;
   course = course_of lines m;
-  ran_out = ran_out_before lines m;
 }
 
 told_from : (lines : List Line) (m : Message) (r : Record) → IsRecordOf lines m r → IsTold m (told_of lines m) r
@@ -101,6 +117,7 @@ told_from lines m r is = record {
   last_receive = is.last_receive;
   fresh = is.fresh;
   tries = is.tries;
+  returned = is.returned;
   standing = is.standing;
 }
 
@@ -114,24 +131,34 @@ record_from lines m r is = record {
   last_receive = is.last_receive;
   fresh = is.fresh;
   tries = is.tries;
+  returned = is.returned;
   standing = is.standing;
 }
 
 -- ---- records settled at a time
 
-standing_at : (clock : ℕ) (stay : Stay) (due : ℕ) (c : Course) (ran_out : Bool) → IsStanding stay due c ran_out → IsStanding (stay_at clock stay due) due c ran_out
-standing_at clock Hidden due c ran_out stands = by_test (nat_le due clock)
+standing_at : (clock : ℕ) (stay : Stay) (due : ℕ) (c : Course) → IsStanding stay due c → IsStanding (stay_at clock stay due) due c
+standing_at clock Hidden due c stands = by_test (nat_le due clock)
   where
-    by_test : (b : Bool) → IsStanding (cond b Shown Hidden) due c ran_out
+    by_test : (b : Bool) → IsStanding (cond b Shown Hidden) due c
     by_test true = stands
     by_test false = stands
-standing_at clock Shown due c ran_out stands = stands
-standing_at clock (Left target left_ran_out) due c ran_out stands = stands
+standing_at clock Shown due c stands = stands
+standing_at clock (Left target ran_out) due c stands = stands
 
-present-here : (stay : Stay) (due : ℕ) (c : Course) (ran_out : Bool) → not (is_left_stay stay) ≡ true → IsStanding stay due c ran_out → c.status ≡ Present
-present-here Hidden due c ran_out h stands = stands.0
-present-here Shown due c ran_out h stands = stands.0
-present-here (Left target left_ran_out) due c ran_out h stands = absurd (false≢true h)
+notes_at : (clock : ℕ) (stay : Stay) (due : ℕ) → notes_end (stay_at clock stay due) ≡ notes_end stay
+notes_at clock Hidden due = by_test (nat_le due clock)
+  where
+    by_test : (b : Bool) → notes_end (cond b Shown Hidden) ≡ false
+    by_test true = refl
+    by_test false = refl
+notes_at clock Shown due = refl
+notes_at clock (Left target ran_out) due = refl
+
+present-here : (stay : Stay) (due : ℕ) (c : Course) → not (is_left_stay stay) ≡ true → IsStanding stay due c → c.status ≡ Present
+present-here Hidden due c h stands = stands.0
+present-here Shown due c h stands = stands.0
+present-here (Left target ran_out) due c h stands = absurd (false≢true h)
 
 abbrev settled_stay : ℕ → Record → Record
 settled_stay clock r = with_stay (stay_at clock r.slot.stay r.slot.due) r
@@ -140,16 +167,16 @@ module _ (lines : List Line) (clock : ℕ) (m : Message) (r : Record) (is : IsRe
   IsRecordOf-settled : IsRecordOf lines m (settled_stay clock r)
   IsRecordOf-settled =
       record_from lines m (settled_stay clock r)
-      (told-with m (told_of lines m) r (told_from lines m r is) (told_of lines m) (settled_stay clock r) refl is.first_receive is.last_receive is.fresh is.tries
-      (standing_at clock r.slot.stay r.slot.due (course_of lines m) (ran_out_before lines m) is.standing))
+      (told-with m (told_of lines m) r (told_from lines m r is) (told_of lines m) (settled_stay clock r) refl is.first_receive is.last_receive is.fresh is.tries is.returned
+      (standing_at clock r.slot.stay r.slot.due (course_of lines m) is.standing))
 
   -- a record that is let go is of a message that is there and has expired
-  gone-settled : m.place < length lines → settled_record (settings_of lines).retention_seconds clock r ≡ None → (is_live lines clock m ≡ false) × (awaits_transfer lines m ≡ false)
-  gone-settled placed h =
+  gone-settled : TellsExpiry lines clock m r → settled_record (settings_of lines).retention_seconds clock r ≡ None → (is_live lines clock m ≡ false) × (awaits_transfer lines m ≡ false)
+  gone-settled tells h =
       let test = and_parts (not (is_left_record r)) (has_run_out (settings_of lines).retention_seconds clock r) (gone_if _ (settled_stay clock r) h) in
-      let present = present-here r.slot.stay r.slot.due (course_of lines m) (ran_out_before lines m) test.0 is.standing in
+      let present = present-here r.slot.stay r.slot.due (course_of lines m) test.0 is.standing in
       let by : runs_out_by (settings_of lines) clock m ≡ true = ap (λ sent. nat_le (sent + 1000 * (settings_of lines).retention_seconds) clock) (sym is.first_send_time) ∙ test.1 in
-      let expired : is_expired lines clock m ≡ true = expired-split lines clock m placed ∙ or_right (ran_out_before lines m) (runs_out_by (settings_of lines) clock m) by in
+      let expired : is_expired lines clock m ≡ true = tells ∙ or_right (notes_end r.slot.stay) (runs_out_by (settings_of lines) clock m) by in
       (rw expired (and-false (is_present lines m)), ap awaits_status present)
 
 pub recorded-settled : (lines : List Line) (clock : ℕ) (records after : Records) → AreRecorded lines clock records
@@ -158,7 +185,10 @@ recorded-settled lines clock records after is same = record {
   some = λ n r at.
       let x = then_some (λ r. settled_record (settings_of lines).retention_seconds clock r) (records n) r (sym (same n) ∙ at) in
       let m = is.some n x.0 x.1 in
-      (m.0, m.1, subst (IsRecordOf lines m.0) (there_unless _ (settled_stay clock x.0) r x.2).1 (IsRecordOf-settled lines clock m.0 x.0 m.2));
+      let after = (there_unless _ (settled_stay clock x.0) r x.2).1 in
+      let tells : TellsExpiry lines clock m.0 (settled_stay clock x.0) =
+      m.3 ∙ ap (λ (b : Bool). b || runs_out_by (settings_of lines) clock m.0) (sym (notes_at clock x.0.slot.stay x.0.slot.due)) in
+      (m.0, m.1, subst (IsRecordOf lines m.0) after (IsRecordOf-settled lines clock m.0 x.0 m.2), subst (TellsExpiry lines clock m.0) after tells);
   none = λ n m numbered at. by_cases n m numbered (then_none (λ r. settled_record (settings_of lines).retention_seconds clock r) (records n) (sym (same n) ∙ at));
 }
   where
@@ -166,7 +196,7 @@ recorded-settled lines clock records after is same = record {
         → (records n ≡ None) ⊎ ((r : Record) × (records n ≡ Some r) × (settled_record (settings_of lines).retention_seconds clock r ≡ None))
         → (is_live lines clock m ≡ false) × (awaits_transfer lines m ≡ false)
     by_cases n m numbered (inl gone) = is.none n m numbered gone
-    by_cases n m numbered (inr x) = gone-settled lines clock m x.0 (record_numbered lines clock records is n m x.0 numbered x.1) (numbered-place lines n m numbered) x.2
+    by_cases n m numbered (inr x) = gone-settled lines clock m x.0 (record_numbered lines clock records is n m x.0 numbered x.1) (tells_numbered lines clock records is n m x.0 numbered x.1) x.2
 
 pub left_at : (clock : ℕ) (stay : Stay) (due : ℕ) → is_left_stay (stay_at clock stay due) ≡ is_left_stay stay
 left_at clock Hidden due = by_test (nat_le due clock)
@@ -247,39 +277,45 @@ module _ (lines : List Line) (at : ℕ) (event : Event ContentText) (m : Message
   abbrev line : Line
   line = record { at = at; event = event }
 
-  told-push : (content : ContentText) → content_of lines m ≡ Some content → told_of (lines ++ line ∷ []) m ≡ told_after (settings_of lines) at event m (told_of lines m)
+  told-push : (content : ContentText) → content_of lines m ≡ Some content → told_of (lines ++ line ∷ []) m ≡ told_after at event m (told_of lines m)
   told-push content h =
       let text : content_of (lines ++ line ∷ []) m ≡ content_of lines m = content-push lines line m content h ∙ sym h in
       let first = first-push lines line m.number in
       let last = last-push lines line m.number in
       let course = course-push lines line m placed in
-      let ran_out = ran_out-push lines line m placed in
-      let fresh : (told_of (lines ++ line ∷ []) m).fresh ≡ (told_after (settings_of lines) at event m (told_of lines m)).fresh =
+      let fresh : (told_of (lines ++ line ∷ []) m).fresh ≡ (told_after at event m (told_of lines m)).fresh =
       ap (λ (c : Course). eqb (receive_count (lines ++ line ∷ []) m.number) 0 && not c.returned) course
       ∙ (ap (λ n. eqb n 0 && not (returns (course_of lines m).status event || is_returned lines m)) (receives-push lines line m.number)
       ∙ fresh-more (receive_count lines m.number) (is_returned lines m) (offers_number m.number event) (returns (course_of lines m).status event)) in
-      let tries : (told_of (lines ++ line ∷ []) m).tries ≡ (told_after (settings_of lines) at event m (told_of lines m)).tries =
+      let tries : (told_of (lines ++ line ∷ []) m).tries ≡ (told_after at event m (told_of lines m)).tries =
       ap (λ n. min n 3) (receives-push lines line m.number) ∙ tried-more (receive_count lines m.number) (offers_number m.number event) in
-      λ i. record { content = text i; first_receive = first i; last_receive = last i; fresh = fresh i; tries = tries i; course = course i; ran_out = ran_out i }
+      λ i. record { content = text i; first_receive = first i; last_receive = last i; fresh = fresh i; tries = tries i; course = course i }
 
   placed_more : m.place < length (lines ++ line ∷ [])
   placed_more = omega (arith, length-append lines (line ∷ []))
 
-  ran-push : opens event ≡ false → (before closed now : Bool) → closes_period event ≡ closed → runs_out_by (settings_of lines) at m ≡ now → (before || now) ≡ true
-      → ((before || (closed && now)) || runs_out_by (settings_of (lines ++ line ∷ [])) at m) ≡ true
-  ran-push unopened true closed now e f h = refl
-  ran-push unopened false true now e f h = rw h refl
-  ran-push unopened false false now e f h =
-      let retention : (settings_of (lines ++ line ∷ [])).retention_seconds ≡ (settings_of lines).retention_seconds =
-      ap (λ (s : QueueSettings). s.retention_seconds) (settings_from-push default_settings lines line) ∙ retention-kept (settings_of lines) event unopened e in
-      ap (λ seconds. nat_le (m.first_send_time + 1000 * seconds) at) retention ∙ (f ∙ h)
+  -- by the retention in force, unless the event ends the period
+  runs_out-kept : opens event ≡ false → closes_period event ≡ false → runs_out_by (settings_of (lines ++ line ∷ [])) at m ≡ runs_out_by (settings_of lines) at m
+  runs_out-kept unopened unclosed =
+      ap (λ (seconds : ℕ). nat_le (m.first_send_time + 1000 * seconds) at)
+      (ap (λ (s : QueueSettings). s.retention_seconds) (settings_from-push default_settings lines line) ∙ retention-kept (settings_of lines) event unopened unclosed)
+
+  ends-push : (before closed by behind : Bool) → (closed ≡ false → behind ≡ by) → ((before || (closed && by)) || behind) ≡ ((before || by) || (closed && behind))
+  ends-push before true by behind k = refl
+  ends-push true false by behind k = refl
+  ends-push false false by behind k = k refl ∙ sym (or_false by)
+
+  -- whether it has expired behind an event
+  expired-behind : opens event ≡ false → is_expired (lines ++ line ∷ []) at m ≡ (is_expired lines at m || (closes_period event && runs_out_by (settings_of (lines ++ line ∷ [])) at m))
+  expired-behind unopened =
+      expired-split (lines ++ line ∷ []) at m placed_more
+      ∙ (ap (λ b. b || runs_out_by (settings_of (lines ++ line ∷ [])) at m) (ran_out-push lines line m placed)
+      ∙ (ends-push (ran_out_before lines m) (closes_period event) (runs_out_by (settings_of lines) at m) (runs_out_by (settings_of (lines ++ line ∷ [])) at m) (runs_out-kept unopened)
+      ∙ ap (λ b. b || (closes_period event && runs_out_by (settings_of (lines ++ line ∷ [])) at m)) (sym (expired-split lines at m placed))))
 
   -- what has expired stays so behind an event
   pub expired-push : opens event ≡ false → is_expired lines at m ≡ true → is_expired (lines ++ line ∷ []) at m ≡ true
-  expired-push unopened h =
-      expired-split (lines ++ line ∷ []) at m placed_more
-      ∙ (ap (λ b. b || runs_out_by (settings_of (lines ++ line ∷ [])) at m) (ran_out-push lines line m placed)
-      ∙ ran-push unopened (ran_out_before lines m) (closes_period event) (runs_out_by (settings_of lines) at m) refl refl (sym (expired-split lines at m placed) ∙ h))
+  expired-push unopened h = expired-behind unopened ∙ ap (λ b. b || (closes_period event && runs_out_by (settings_of (lines ++ line ∷ [])) at m)) h
 
 live_in_state : (live : Bool) (state : MessageState) → option_map_or (λ s. same_state Visible s) (cond live (Some state) None) false ≡ true → live ≡ true
 live_in_state true state h = refl
@@ -317,27 +353,42 @@ module _ (q : QueueHistory) (event : Event ContentText) (caused : IsCausedIn q e
         false_from_ne_true (offers_number m.number event)
         (λ offered. false≢true (sym dead ∙ live_numbered q.lines q.clock m.number ((about q event caused).offered m.number offered) m own_number))
 
+    unmoved : (target : ℕ) → (course_of q.lines m).status ≡ Waiting target → (effect_of event).reschedules m.number ≡ false
+    unmoved target waiting =
+        let dead : is_live q.lines q.clock m ≡ false = ap (λ (s : Status). is_present_status s && not (is_expired q.lines q.clock m)) waiting in
+        false_from_ne_true ((effect_of event).reschedules m.number)
+        (λ moved.
+        false≢true
+        (sym dead ∙ sym (ap (λ (o : Option Message). option_map_or (λ m. is_live q.lines q.clock m) o false) own_number) ∙ (about q event caused).rescheduled m.number moved))
+
     undeparting : is_live q.lines q.clock m ≡ false → contains_number m.number (effect_of event).departures ≡ false
     undeparting dead =
         false_from_ne_true (contains_number m.number (effect_of event).departures)
         (λ departing. false≢true (sym dead ∙ live_numbered q.lines q.clock m.number ((about q event caused).departing m.number departing) m own_number))
 
-    record-next : (r after : Record) → IsRecordOf q.lines m r → settled_record (settings_of q.lines).retention_seconds q.clock r ≡ Some r
-        → record_after (settings_of q.lines) q.clock event n r ≡ Some after → IsRecordOf more m after
-    record-next r after is settled h =
+    record-next : (r after : Record) → IsRecordOf q.lines m r → TellsExpiry q.lines q.clock m r → settled_record (settings_of q.lines).retention_seconds q.clock r ≡ Some r
+        → record_after (settings_of q.lines) q.clock event n r ≡ Some after → IsRecordOf more m after × TellsExpiry more q.clock m after
+    record-next r after is tells settled h =
         let by_number = subst (λ k. record_after (settings_of q.lines) q.clock event k r ≡ Some after) (sym (numbered-number q.lines n m numbered)) h in
         let test = there_unless (not (is_left_record r) && has_run_out (settings_of q.lines).retention_seconds q.clock r) (settled_stay q.clock r) r settled in
-        let next = told-next (settings_of q.lines) q.clock event m (told_of q.lines m) r (told_from q.lines m r is) after unoffered test.0 by_number in
-        record_from more m after (subst (λ (t : Told). IsTold m t after) (sym (told-push q.lines q.clock event m placed r.content is.content)) next)
+        let told = told_from q.lines m r is in
+        let next = told-next (settings_of q.lines) q.clock event m (told_of q.lines m) r told after unoffered unmoved by_number in
+        let unopened = (about q event caused).unopened in (
+          record_from more m after (subst (λ (t : Told). IsTold m t after) (sym (told-push q.lines q.clock event m placed r.content is.content)) next),
+          expired-behind q.lines q.clock event m placed unopened
+              ∙ expired-next (settings_of q.lines) q.clock event m (told_of q.lines m) r told (is_expired q.lines q.clock m) (runs_out_by (settings_of more) q.clock m) tells test.0
+              (runs_out-kept q.lines q.clock event m placed unopened) after by_number,
+        )
 
-    record-gone : (r : Record) → IsRecordOf q.lines m r → record_after (settings_of q.lines) q.clock event n r ≡ None → (is_live more q.clock m ≡ false) × (awaits_transfer more m ≡ false)
-    record-gone r is h =
+    record-gone : (r : Record) → IsRecordOf q.lines m r → TellsExpiry q.lines q.clock m r → record_after (settings_of q.lines) q.clock event n r ≡ None
+        → (is_live more q.clock m ≡ false) × (awaits_transfer more m ≡ false)
+    record-gone r is tells h =
         let by_number = subst (λ k. record_after (settings_of q.lines) q.clock event k r ≡ None) (sym (numbered-number q.lines n m numbered)) h in
-        let gone = told-gone (settings_of q.lines) q.clock event m (told_of q.lines m) r (told_from q.lines m r is) by_number in
+        let ended : notes_end r.slot.stay ≡ true → is_expired more q.clock m ≡ true =
+        λ noted. expired-push q.lines q.clock event m placed (about q event caused).unopened (tells ∙ ap (λ b. b || runs_out_by (settings_of q.lines) q.clock m) noted) in
+        let gone = told-gone (settings_of q.lines) q.clock event m (told_of q.lines m) r (told_from q.lines m r is) (is_expired more q.clock m) ended by_number in
         let push = told-push q.lines q.clock event m placed r.content is.content in
-        let dead : (is_present more m && not (ran_out_before more m)) ≡ false = ap (λ (t : Told). is_present_status t.course.status && not t.ran_out) push ∙ gone.0 in
-        let lasts : ran_out_before more m ≡ true → is_expired more q.clock m ≡ true = λ ran. expired-split more q.clock m (placed_more q.lines q.clock event m placed) ∙ rw ran refl in
-        (dead-later (is_present more m) (ran_out_before more m) (is_expired more q.clock m) lasts dead, ap (λ (t : Told). awaits_status t.course.status) push ∙ gone.1)
+        (ap (λ (t : Told). is_present_status t.course.status && not (is_expired more q.clock m)) push ∙ gone.0, ap (λ (t : Told). awaits_status t.course.status) push ∙ gone.1)
 
     none-next : (is_live q.lines q.clock m ≡ false) × (awaits_transfer q.lines m ≡ false) → (is_live more q.clock m ≡ false) × (awaits_transfer more m ≡ false)
     none-next dead =
@@ -356,7 +407,7 @@ module _ (q : QueueHistory) (event : Event ContentText) (caused : IsCausedIn q e
     origin = birth.origin;
     first_receive = None;
     last_receive = 0;
-    slot = record { stay = Hidden; due = q.clock + 1000 * birth.delay; sent = option_map_or (λ origin. origin.sent) birth.origin q.clock; is_fresh = true; tries = 0 };
+    slot = record { stay = Hidden; due = q.clock + 1000 * birth.delay; sent = option_map_or (λ origin. origin.sent) birth.origin q.clock; is_fresh = true; is_returned = false; tries = 0 };
   }
 
   abbrev born_message : ℕ → Birth ContentText → Message
@@ -370,6 +421,12 @@ module _ (q : QueueHistory) (event : Event ContentText) (caused : IsCausedIn q e
   }
 
   module _ (legal : IsLegal q) (n : ℕ) (past : message_count q.lines ≤ n) where
+    born_tells : (birth : Birth ContentText) → (effect_of event).birth ≡ Some birth → TellsExpiry more q.clock (born_message n birth) (born_of birth)
+    born_tells birth e =
+        let new = newborn q.lines entry n (born_message n birth) (ap (option_map (born_message n)) e) in
+        expired-split more q.clock (born_message n birth) (omega (arith, length-append q.lines (entry ∷ [])))
+        ∙ ap (λ (b : Bool). b || runs_out_by (settings_of more) q.clock (born_message n birth)) new.ran_out
+
     born_is : (birth : Birth ContentText) → (effect_of event).birth ≡ Some birth → IsRecordOf more (born_message n birth) (born_of birth)
     born_is birth e =
         let new = newborn q.lines entry n (born_message n birth) (ap (option_map (born_message n)) e) in
@@ -387,18 +444,20 @@ module _ (q : QueueHistory) (event : Event ContentText) (caused : IsCausedIn q e
           last_receive = sym (last-push q.lines entry n ∙ rw (unoffered_yet, un.last) refl);
           fresh = sym (ap (λ k. eqb k 0 && not (is_returned more (born_message n birth))) receives ∙ ap (λ (c : Course). not c.returned) new.course);
           tries = sym (ap (λ k. min k 3) receives);
-          standing = (ap (λ (c : Course). c.status) new.course, ap (λ (c : Course). c.due) new.course, new.ran_out);
+          returned = sym (ap (λ (c : Course). c.returned) new.course);
+          standing = (ap (λ (c : Course). c.status) new.course, ap (λ (c : Course). c.due) new.course);
         }
 
-    record-born : (after : Record) → born_record q.clock event ≡ Some after → (m : Message) × (message_of (length q.lines) n q.clock event ≡ Some m) × IsRecordOf more m after
+    record-born : (after : Record) → born_record q.clock event ≡ Some after → (m : Message) × (message_of (length q.lines) n q.clock event ≡ Some m) × IsRecordOf more m after × TellsExpiry more q.clock m after
     record-born after h = by_birth (effect_of event).birth refl
       where
-        by_birth : (birth : Option (Birth ContentText)) → (effect_of event).birth ≡ birth → (m : Message) × (message_of (length q.lines) n q.clock event ≡ Some m) × IsRecordOf more m after
+        by_birth : (birth : Option (Birth ContentText)) → (effect_of event).birth ≡ birth → (m : Message) × (message_of (length q.lines) n q.clock event ≡ Some m) × IsRecordOf more m after × TellsExpiry more q.clock m after
         by_birth None e = absurd (none-some after (sym (ap (option_map born_of) e) ∙ h))
         by_birth (Some birth) e = (
           born_message n birth,
           ap (option_map (born_message n)) e,
           subst (IsRecordOf more (born_message n birth)) (same_Some (born_of birth) after (sym (ap (option_map born_of) e) ∙ h)) (born_is birth e),
+          subst (TellsExpiry more q.clock (born_message n birth)) (same_Some (born_of birth) after (sym (ap (option_map born_of) e) ∙ h)) (born_tells birth e),
         )
 
   -- a message that begins has a record
@@ -420,20 +479,21 @@ recorded-event q event records after legal caused is settled same = record {
     some_by : (n : ℕ) (r : Record) (b : Bool) → nat_eq n (message_count q.lines) ≡ b
         → cond b (born_record q.clock event) (option_and_then (λ r. record_after (settings_of q.lines) q.clock event n r) (records n)) ≡ Some r
         → message_numbered (with_event q event).lines n ≡ cond b (message_of (length q.lines) n q.clock event) (message_numbered q.lines n)
-        → (m : Message) × (message_numbered (with_event q event).lines n ≡ Some m) × IsRecordOf (with_event q event).lines m r
+        → (m : Message) × (message_numbered (with_event q event).lines n ≡ Some m) × IsRecordOf (with_event q event).lines m r × TellsExpiry (with_event q event).lines q.clock m r
     some_by n r true e at numbered =
         let count : n ≡ message_count q.lines = eqb-true n (message_count q.lines) e in
         let x = record-born q event caused legal n (omega arith) r at in
-        (x.0, numbered ∙ x.1, x.2)
+        (x.0, numbered ∙ x.1, x.2, x.3)
     some_by n r false e at numbered =
         let x = then_some (λ r. record_after (settings_of q.lines) q.clock event n r) (records n) r at in
         let m = is.some n x.0 x.1 in
-        (m.0, numbered ∙ m.1, record-next q event caused n m.0 m.1 x.0 r m.2 (settled.settled n x.0 x.1) x.2)
+        let next = record-next q event caused n m.0 m.1 x.0 r m.2 m.3 (settled.settled n x.0 x.1) x.2 in
+        (m.0, numbered ∙ m.1, next.0, next.1)
 
     gone_by : (n : ℕ) (m : Message) → message_numbered q.lines n ≡ Some m → (records n ≡ None) ⊎ ((r : Record) × (records n ≡ Some r) × (record_after (settings_of q.lines) q.clock event n r ≡ None))
         → (is_live (with_event q event).lines q.clock m ≡ false) × (awaits_transfer (with_event q event).lines m ≡ false)
     gone_by n m numbered (inl gone) = none-next q event caused n m numbered (is.none n m numbered gone)
-    gone_by n m numbered (inr x) = record-gone q event caused n m numbered x.0 (record_numbered q.lines q.clock records is n m x.0 numbered x.1) x.2
+    gone_by n m numbered (inr x) = record-gone q event caused n m numbered x.0 (record_numbered q.lines q.clock records is n m x.0 numbered x.1) (tells_numbered q.lines q.clock records is n m x.0 numbered x.1) x.2
 
     none_by : (n : ℕ) (m : Message) (b : Bool) → nat_eq n (message_count q.lines) ≡ b
         → cond b (born_record q.clock event) (option_and_then (λ r. record_after (settings_of q.lines) q.clock event n r) (records n)) ≡ None

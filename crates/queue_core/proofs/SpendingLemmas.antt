@@ -220,7 +220,7 @@ added-none o = refl
 
 -- a slot of a kind: when it is due and was sent adds nothing
 abbrev pub slot_of : Stay → Slot
-slot_of stay = record { stay = stay; due = 0; sent = 0; is_fresh = false; tries = 0 }
+slot_of stay = record { stay = stay; due = 0; sent = 0; is_fresh = false; is_returned = false; tries = 0 }
 
 shown_adds : (s : Slot) (stay : Stay) → is_hidden_stay stay ≡ true → added (Some (record s { stay = stay })) (Some (slot_of Shown)) ≡ 0
 shown_adds s Hidden h = refl

@@ -18,7 +18,8 @@ use Rattle.queue_core.specs.declared.slot.Stay.TheVariants.{Hidden, Shown, Left}
 use Rattle.queue_core.specs.declared.record.Record.{Record}
 use Rattle.queue_core.specs.Slots.{is_left_stay}
 use Rattle.queue_core.specs.Records.{with_stay, with_parts, hidden_until, tried, received_at, back_at, has_run_out, offered_after, rescheduled_after, here_after, left_after, record_after_stay, record_after}
-use Rattle.queue_core.specs.Recorded.{runs_out_by, IsStanding}
+use Rattle.queue_core.specs.Recorded.{runs_out_by, notes_end, IsStanding}
+use Rattle.queue_core.proofs.PushLemmas.{or_false}
 use Rattle.queue_core.proofs.FactLemmas.{first_of_both}
 
 -- what a journal tells of a message that it has
@@ -29,7 +30,6 @@ pub record Told : Type 0 where
   pub fresh : Bool
   pub tries : ℕ
   pub course : Course
-  pub ran_out : Bool
 
 -- a record says what is told of a message
 pub record IsTold (m : Message) (t : Told) (r : Record) : Type 0 where
@@ -41,7 +41,8 @@ pub record IsTold (m : Message) (t : Told) (r : Record) : Type 0 where
   pub last_receive : r.last_receive ≡ t.last_receive
   pub fresh : r.slot.is_fresh ≡ t.fresh
   pub tries : r.slot.tries ≡ t.tries
-  pub standing : IsStanding r.slot.stay r.slot.due t.course t.ran_out
+  pub returned : r.slot.is_returned ≡ t.course.returned
+  pub standing : IsStanding r.slot.stay r.slot.due t.course
 
 -- a message that stands so, and has expired or not, is not live and does not wait for its dead-letter queue
 abbrev pub IsGone : Status → Bool → Type 0
@@ -66,13 +67,19 @@ pub gone_if : {A : Type 0} (b : Bool) (x : A) → cond b None (Some x) ≡ None 
 gone_if true x h = refl
 gone_if false x h = absurd (none-some x (sym h))
 
+-- however a record stands, its due time is the message's
+due_of : (stay : Stay) (due : ℕ) (c : Course) → IsStanding stay due c → c.due ≡ due
+due_of Hidden due c h = h.1
+due_of Shown due c h = h.1
+due_of (Left target ran_out) due c h = h.1
+
 -- ---- a message that is there, by what an event does to it
 
 module _ (m : Message) (t : Told) (r : Record) (is : IsTold m t r) where
   -- the record of the same message with other receives and in another place
   pub told-with : (u : Told) (x : Record) → u.content ≡ t.content → x.first_receive ≡ u.first_receive → x.last_receive ≡ u.last_receive → x.slot.is_fresh ≡ u.fresh
-      → x.slot.tries ≡ u.tries → IsStanding x.slot.stay x.slot.due u.course u.ran_out → IsTold m u (with_parts x.first_receive x.last_receive x.slot r)
-  told-with u x content first_receive last_receive fresh tries standing = record {
+      → x.slot.tries ≡ u.tries → x.slot.is_returned ≡ u.course.returned → IsStanding x.slot.stay x.slot.due u.course → IsTold m u (with_parts x.first_receive x.last_receive x.slot r)
+  told-with u x content first_receive last_receive fresh tries returned standing = record {
     content = content ∙ is.content;
     enqueue_time = is.enqueue_time;
     first_send_time = is.first_send_time;
@@ -81,43 +88,61 @@ module _ (m : Message) (t : Told) (r : Record) (is : IsTold m t r) where
     last_receive = last_receive;
     fresh = fresh;
     tries = tries;
+    returned = returned;
     standing = standing;
   }
 
   offered-told : (at : ℕ) (b : Bool)
       → IsTold m (record t { first_receive = first_of_both t.first_receive (cond b (Some at) None); last_receive = cond b at t.last_receive; fresh = t.fresh && not b; tries = cond b (tried t.tries) t.tries })
       (cond b (received_at at r) r)
-  offered-told at true = told-with _ (received_at at r) refl (ap (λ (o : Option ℕ). Some (unwrap_or o at)) is.first_receive ∙ first-some at t.first_receive) refl (sym (and-false t.fresh)) (ap tried is.tries) is.standing
-  offered-told at false = told-with _ r refl (is.first_receive ∙ sym (first-none t.first_receive)) is.last_receive (is.fresh ∙ sym (and-true t.fresh)) is.tries is.standing
+  offered-told at true = told-with _ (received_at at r) refl (ap (λ (o : Option ℕ). Some (unwrap_or o at)) is.first_receive ∙ first-some at t.first_receive) refl (sym (and-false t.fresh)) (ap tried is.tries) is.returned is.standing
+  offered-told at false = told-with _ r refl (is.first_receive ∙ sym (first-none t.first_receive)) is.last_receive (is.fresh ∙ sym (and-true t.fresh)) is.tries is.returned is.standing
 
-  module _ (present : t.course.status ≡ Present) (kept : t.ran_out ≡ false) where
+  module _ (present : t.course.status ≡ Present) where
     rescheduled-told : (due : ℕ) (b : Bool) → IsTold m (record t { course = record t.course { due = cond b due t.course.due } }) (cond b (hidden_until due r) r)
-    rescheduled-told due true = told-with _ (hidden_until due r) refl is.first_receive is.last_receive is.fresh is.tries (present, refl, kept)
+    rescheduled-told due true = told-with _ (hidden_until due r) refl is.first_receive is.last_receive is.fresh is.tries is.returned (present, refl)
     rescheduled-told due false = is
 
     departed-told : (target : ℕ) (b : Bool)
         → IsTold m (record t { course = record t.course { status = cond b (Waiting target) Present } }) (cond b (with_stay (Left target false) r) r)
-    departed-told target true = told-with _ (with_stay (Left target false) r) refl is.first_receive is.last_receive is.fresh is.tries (refl, kept)
+    departed-told target true = told-with _ (with_stay (Left target false) r) refl is.first_receive is.last_receive is.fresh is.tries is.returned (refl, due_of r.slot.stay r.slot.due t.course is.standing)
     departed-told target false = subst (λ (s : Status). IsTold m (record t { course = record t.course { status = s } }) r) present is
 
 -- ---- one event, by the settings in force until then, at its time
 
 -- what is told of a message after it
-abbrev pub told_after : QueueSettings → ℕ → Event ContentText → Message → Told → Told
-told_after s at event m t = record {
+abbrev pub told_after : ℕ → Event ContentText → Message → Told → Told
+told_after at event m t = record {
   content = t.content;
   first_receive = first_of_both t.first_receive (cond (offers_number m.number event) (Some at) None);
   last_receive = cond (offers_number m.number event) at t.last_receive;
   fresh = (t.fresh && not (offers_number m.number event)) && not (returns t.course.status event);
   tries = cond (offers_number m.number event) (tried t.tries) t.tries;
   course = course_after m.number t.course (record { at = at; event = event });
-  ran_out = t.ran_out || (closes_period event && runs_out_by s at m);
 }
 
 -- what brings a message back closes no period
 lost-open : (target : ℕ) (event : Event ContentText) → loses target event ≡ true → closes_period event ≡ false
 lost-open target (Set settings) h = absurd (false≢true h)
 lost-open target event h = refl
+
+-- ---- whether a message has expired behind an event: it had before, or the event ends the period and it has by the retention behind it
+
+-- one that is there and had not
+ends-here : (expired closed by behind : Bool) → expired ≡ by → by ≡ false → (closed ≡ false → behind ≡ by) → (expired || (closed && behind)) ≡ behind
+ends-here expired true by behind e u k = ap (λ (b : Bool). b || behind) (e ∙ u)
+ends-here expired false by behind e u k = ap (λ (b : Bool). b || false) (e ∙ u) ∙ sym (k refl ∙ u)
+
+-- one that comes back
+ends-back : (expired closed by behind : Bool) → expired ≡ by → closed ≡ false → (closed ≡ false → behind ≡ by) → (expired || (closed && behind)) ≡ behind
+ends-back expired true by behind e c k = absurd (false≢true (sym c))
+ends-back expired false by behind e c k = ap (λ (b : Bool). b || false) e ∙ or_false by ∙ sym (k refl)
+
+-- one that stays away
+ends-left : (expired closed noted by behind : Bool) → expired ≡ (noted || by) → (closed ≡ false → behind ≡ by) → (expired || (closed && behind)) ≡ ((noted || (closed && by)) || behind)
+ends-left expired true noted by behind e k = ap (λ (b : Bool). b || behind) e
+ends-left expired false true by behind e k = ap (λ (b : Bool). b || false) e
+ends-left expired false false by behind e k = ap (λ (b : Bool). b || false) e ∙ or_false by ∙ sym (k refl)
 
 module _ (s : QueueSettings) (at : ℕ) (event : Event ContentText) (m : Message) (t : Told) where
   abbrev here_told : Told
@@ -133,14 +158,13 @@ module _ (s : QueueSettings) (at : ℕ) (event : Event ContentText) (m : Message
   }
 
   -- a message that is there and that the event does not remove
-  here-same : t.course.status ≡ Present → t.ran_out ≡ false → (effect_of event).removes m.number ≡ false → (closes_period event && runs_out_by s at m) ≡ false → here_told ≡ told_after s at event m t
-  here-same present kept unremoved retained =
+  here-same : t.course.status ≡ Present → (effect_of event).removes m.number ≡ false → here_told ≡ told_after at event m t
+  here-same present unremoved =
       let status : here_told.course.status ≡ status_after m.number t.course.status event = rw (present, unremoved) refl in
       let returned : returns t.course.status event ≡ false = rw present refl in
-      let fresh : (t.fresh && not (offers_number m.number event)) ≡ (told_after s at event m t).fresh = rw returned (sym (and-true (t.fresh && not (offers_number m.number event)))) in
-      let due : here_told.course.due ≡ (told_after s at event m t).course.due = rw returned refl in
-      let back : t.course.returned ≡ (told_after s at event m t).course.returned = rw returned refl in
-      let ran : t.ran_out ≡ (told_after s at event m t).ran_out = rw (kept, retained) refl in
+      let fresh : (t.fresh && not (offers_number m.number event)) ≡ (told_after at event m t).fresh = rw returned (sym (and-true (t.fresh && not (offers_number m.number event)))) in
+      let due : here_told.course.due ≡ (told_after at event m t).course.due = rw returned refl in
+      let back : t.course.returned ≡ (told_after at event m t).course.returned = rw returned refl in
       λ i. record {
         content = t.content;
         first_receive = here_told.first_receive;
@@ -148,7 +172,6 @@ module _ (s : QueueSettings) (at : ℕ) (event : Event ContentText) (m : Message
         fresh = fresh i;
         tries = here_told.tries;
         course = record { status = status i; due = due i; returned = back i };
-        ran_out = ran i;
       }
 
   module _ (r : Record) where
@@ -168,21 +191,36 @@ module _ (s : QueueSettings) (at : ℕ) (event : Event ContentText) (m : Message
     ran-same : has_run_out s.retention_seconds at r ≡ runs_out_by s at m
     ran-same = ap (λ sent. nat_le (sent + 1000 * s.retention_seconds) at) is.first_send_time
 
-    here-told : t.course.status ≡ Present → t.ran_out ≡ false → IsTold m here_told (here_record r)
-    here-told present kept =
-        let offered = offered-told m t r is at (offers_number m.number event) in
-        let rescheduled = rescheduled-told m _ _ offered present kept (at + 1000 * (effect_of event).timeout) ((effect_of event).reschedules m.number) in
-        departed-told m _ _ rescheduled present kept (effect_of event).target (contains_number m.number (effect_of event).departures)
+    offered-notes : (b : Bool) → notes_end (cond b (received_at at r) r).slot.stay ≡ notes_end r.slot.stay
+    offered-notes true = refl
+    offered-notes false = refl
 
-    here-next : (after : Record) → t.course.status ≡ Present → t.ran_out ≡ false → has_run_out s.retention_seconds at r ≡ false
-        → here_after at event m.number r ≡ Some after → IsTold m (told_after s at event m t) after
-    here-next after present kept unexpired h =
+    rescheduled-notes : (due : ℕ) (b : Bool) (x : Record) → notes_end x.slot.stay ≡ false → notes_end (cond b (hidden_until due x) x).slot.stay ≡ false
+    rescheduled-notes due true x h = refl
+    rescheduled-notes due false x h = h
+
+    departed-notes : (target : ℕ) (b : Bool) (x : Record) → notes_end x.slot.stay ≡ false → notes_end (cond b (with_stay (Left target false) x) x).slot.stay ≡ false
+    departed-notes target true x h = refl
+    departed-notes target false x h = h
+
+    here-notes : notes_end r.slot.stay ≡ false → notes_end (here_record r).slot.stay ≡ false
+    here-notes h =
+        departed-notes (effect_of event).target (contains_number m.number (effect_of event).departures) (kept_here r)
+        (rescheduled-notes (at + 1000 * (effect_of event).timeout) ((effect_of event).reschedules m.number) (offered_after at event m.number r) (offered-notes (offers_number m.number event) ∙ h))
+
+    here-told : t.course.status ≡ Present → IsTold m here_told (here_record r)
+    here-told present =
+        let offered = offered-told m t r is at (offers_number m.number event) in
+        let rescheduled = rescheduled-told m _ _ offered present (at + 1000 * (effect_of event).timeout) ((effect_of event).reschedules m.number) in
+        departed-told m _ _ rescheduled present (effect_of event).target (contains_number m.number (effect_of event).departures)
+
+    here-next : (after : Record) → t.course.status ≡ Present → here_after at event m.number r ≡ Some after → IsTold m (told_after at event m t) after
+    here-next after present h =
         let there = there_unless ((effect_of event).removes m.number) (here_record r) after h in
-        let retained : (closes_period event && runs_out_by s at m) ≡ false = rw (← ran-same, unexpired) (and-false (closes_period event)) in
-        subst (IsTold m (told_after s at event m t)) there.1 (subst (λ (u : Told). IsTold m u (here_record r)) (here-same present kept there.0 retained) (here-told present kept))
+        subst (IsTold m (told_after at event m t)) there.1 (subst (λ (u : Told). IsTold m u (here_record r)) (here-same present there.0) (here-told present))
 
     -- a message that has left
-    module _ (target : ℕ) (waiting : t.course.status ≡ Waiting target) (unoffered : offers_number m.number event ≡ false) where
+    module _ (target : ℕ) (waiting : t.course.status ≡ Waiting target) (unoffered : offers_number m.number event ≡ false) (unmoved : (effect_of event).reschedules m.number ≡ false) where
       left-first : r.first_receive ≡ first_of_both t.first_receive (cond (offers_number m.number event) (Some at) None)
       left-first = is.first_receive ∙ rw unoffered (sym (first-none t.first_receive))
 
@@ -192,72 +230,98 @@ module _ (s : QueueSettings) (at : ℕ) (event : Event ContentText) (m : Message
       left-tries : r.slot.tries ≡ cond (offers_number m.number event) (tried t.tries) t.tries
       left-tries = is.tries ∙ rw unoffered refl
 
-      back-told : t.ran_out ≡ false → loses target event ≡ true → IsTold m (told_after s at event m t) (back_at at r)
-      back-told kept lost =
-          told-with m t r is (told_after s at event m t) (back_at at r) refl left-first left-last (rw (waiting, lost) (sym (and-false (t.fresh && not (offers_number m.number event)))))
-          left-tries (rw (waiting, lost) refl, rw (waiting, lost) refl, rw (kept, lost-open target event lost) refl)
+      back-told : loses target event ≡ true → IsTold m (told_after at event m t) (back_at at r)
+      back-told lost =
+          told-with m t r is (told_after at event m t) (back_at at r) refl left-first left-last (rw (waiting, lost) (sym (and-false (t.fresh && not (offers_number m.number event)))))
+          left-tries (rw (waiting, lost) refl) (rw (waiting, lost) refl, rw (waiting, lost) refl)
 
-      stays-told : (ran_out : Bool) → t.ran_out ≡ ran_out → loses target event ≡ false → (effect_of event).confirms m.number ≡ false → closes event ≡ false
-          → IsTold m (told_after s at event m t) (left_record r target ran_out)
-      stays-told ran_out ran unlost unconfirmed unclosed =
-          told-with m t r is (told_after s at event m t) (left_record r target ran_out) refl left-first left-last
-          (is.fresh ∙ rw (waiting, unlost, unoffered) (sym (and-true (t.fresh && true) ∙ and-true t.fresh))) left-tries (rw (waiting, unlost, unconfirmed, unclosed) refl, rw (ran, ran-same) refl)
+      stays-told : (ran_out : Bool) → loses target event ≡ false → (effect_of event).confirms m.number ≡ false → closes event ≡ false
+          → IsTold m (told_after at event m t) (left_record r target ran_out)
+      stays-told ran_out unlost unconfirmed unclosed =
+          told-with m t r is (told_after at event m t) (left_record r target ran_out) refl left-first left-last
+          (is.fresh ∙ rw (waiting, unlost, unoffered) (sym (and-true (t.fresh && true) ∙ and-true t.fresh))) left-tries (is.returned ∙ rw (waiting, unlost) refl)
+          (rw (waiting, unlost, unconfirmed, unclosed) refl, rw (waiting, unlost, unmoved) (due_of r.slot.stay r.slot.due t.course is.standing))
 
-      left-next : (ran_out : Bool) (after : Record) → t.ran_out ≡ ran_out → left_after s at event m.number target ran_out r ≡ Some after → IsTold m (told_after s at event m t) after
-      left-next ran_out after ran h = by_tests (loses target event) ran_out ((effect_of event).confirms m.number) (closes event) refl ran refl refl h
+      left-next : (ran_out : Bool) (after : Record) → left_after s at event m.number target ran_out r ≡ Some after → IsTold m (told_after at event m t) after
+      left-next ran_out after h = by_tests (loses target event) ran_out ((effect_of event).confirms m.number) (closes event) refl refl refl h
         where
-          by_tests : (lost ran_out confirmed closed : Bool) → loses target event ≡ lost → t.ran_out ≡ ran_out → (effect_of event).confirms m.number ≡ confirmed → closes event ≡ closed
+          by_tests : (lost ran_out confirmed closed : Bool) → loses target event ≡ lost → (effect_of event).confirms m.number ≡ confirmed → closes event ≡ closed
               → left_by r target lost ran_out confirmed closed ≡ Some after
-              → IsTold m (told_after s at event m t) after
-          by_tests true true confirmed closed e f g k is_after = absurd (none-some after is_after)
-          by_tests true false confirmed closed e f g k is_after = subst (IsTold m (told_after s at event m t)) (same_Some _ after is_after) (back-told f e)
-          by_tests false ran_out true closed e f g k is_after = absurd (none-some after is_after)
-          by_tests false ran_out false true e f g k is_after = absurd (none-some after is_after)
-          by_tests false ran_out false false e f g k is_after = subst (IsTold m (told_after s at event m t)) (same_Some _ after is_after) (stays-told ran_out f e g k)
+              → IsTold m (told_after at event m t) after
+          by_tests true true confirmed closed e g k is_after = absurd (none-some after is_after)
+          by_tests true false confirmed closed e g k is_after = subst (IsTold m (told_after at event m t)) (same_Some _ after is_after) (back-told e)
+          by_tests false ran_out true closed e g k is_after = absurd (none-some after is_after)
+          by_tests false ran_out false true e g k is_after = absurd (none-some after is_after)
+          by_tests false ran_out false false e g k is_after = subst (IsTold m (told_after at event m t)) (same_Some _ after is_after) (stays-told ran_out e g k)
 
     -- the record after the event says what is told then
     pub told-next : (after : Record) → ((target : ℕ) → t.course.status ≡ Waiting target → offers_number m.number event ≡ false)
-        → (not (is_left_stay r.slot.stay) && has_run_out s.retention_seconds at r) ≡ false
-        → record_after s at event m.number r ≡ Some after → IsTold m (told_after s at event m t) after
-    told-next after unoffered settled h = by_stay r.slot.stay is.standing settled h
+        → ((target : ℕ) → t.course.status ≡ Waiting target → (effect_of event).reschedules m.number ≡ false)
+        → record_after s at event m.number r ≡ Some after → IsTold m (told_after at event m t) after
+    told-next after unoffered unmoved h = by_stay r.slot.stay is.standing h
       where
-        by_stay : (stay : Stay) → IsStanding stay r.slot.due t.course t.ran_out → (not (is_left_stay stay) && has_run_out s.retention_seconds at r) ≡ false
-            → record_after_stay s at event m.number stay r ≡ Some after → IsTold m (told_after s at event m t) after
-        by_stay Hidden stands unexpired k = here-next after stands.0 stands.2 unexpired k
-        by_stay Shown stands unexpired k = here-next after stands.0 stands.2 unexpired k
-        by_stay (Left target ran_out) stands unexpired k = left-next target stands.0 (unoffered target stands.0) ran_out after stands.1 k
+        by_stay : (stay : Stay) → IsStanding stay r.slot.due t.course → record_after_stay s at event m.number stay r ≡ Some after → IsTold m (told_after at event m t) after
+        by_stay Hidden stands k = here-next after stands.0 k
+        by_stay Shown stands k = here-next after stands.0 k
+        by_stay (Left target ran_out) stands k = left-next target stands.0 (unoffered target stands.0) (unmoved target stands.0) ran_out after k
 
-    -- and a message that loses its record is not there, or has run out in a period that is over, and does not wait
-    pub told-gone : record_after s at event m.number r ≡ None
-        → IsGone (told_after s at event m t).course.status (told_after s at event m t).ran_out
-    told-gone h = by_stay r.slot.stay is.standing h
+    -- and a message that loses its record is not there, or has expired, and does not wait
+    pub told-gone : (expired : Bool) → (notes_end r.slot.stay ≡ true → expired ≡ true) → record_after s at event m.number r ≡ None → IsGone (told_after at event m t).course.status expired
+    told-gone expired ended h = by_stay r.slot.stay is.standing ended h
       where
-        stands_as : (status : Status) (ran_out : Bool) → (told_after s at event m t).course.status ≡ status → (told_after s at event m t).ran_out ≡ ran_out
-            → IsGone status ran_out
-            → IsGone (told_after s at event m t).course.status (told_after s at event m t).ran_out
-        stands_as status ran_out e f k = rw (e, f) k
+        stands_as : (status : Status) → (told_after at event m t).course.status ≡ status → IsGone status expired → IsGone (told_after at event m t).course.status expired
+        stands_as status e k = rw e k
 
-        by_tests : (target : ℕ) → t.course.status ≡ Waiting target → (lost ran_out confirmed closed : Bool) → loses target event ≡ lost → t.ran_out ≡ ran_out → (effect_of event).confirms m.number ≡ confirmed
-            → closes event ≡ closed
-            → left_by r target lost ran_out confirmed closed ≡ None
-            → IsGone (told_after s at event m t).course.status (told_after s at event m t).ran_out
-        by_tests target waiting true true confirmed closed e f g k is_none = stands_as Present true (rw (waiting, e) refl) (rw f refl) (refl, refl)
+        by_tests : (target : ℕ) → t.course.status ≡ Waiting target → (lost ran_out confirmed closed : Bool) → loses target event ≡ lost → (ran_out ≡ true → expired ≡ true)
+            → (effect_of event).confirms m.number ≡ confirmed → closes event ≡ closed → left_by r target lost ran_out confirmed closed ≡ None
+            → IsGone (told_after at event m t).course.status expired
+        by_tests target waiting true true confirmed closed e f g k is_none = stands_as Present (rw (waiting, e) refl) (ap not (f refl), refl)
         by_tests target waiting true false confirmed closed e f g k is_none = absurd (none-some (back_at at r) (sym is_none))
-        by_tests target waiting false ran_out true closed e f g k is_none = stands_as Transferred (told_after s at event m t).ran_out (rw (waiting, e, g) refl) refl (refl, refl)
-        by_tests target waiting false ran_out false true e f g k is_none = stands_as Removed (told_after s at event m t).ran_out (rw (waiting, e, g, k) refl) refl (refl, refl)
+        by_tests target waiting false ran_out true closed e f g k is_none = stands_as Transferred (rw (waiting, e, g) refl) (refl, refl)
+        by_tests target waiting false ran_out false true e f g k is_none = stands_as Removed (rw (waiting, e, g, k) refl) (refl, refl)
         by_tests target waiting false ran_out false false e f g k is_none = absurd (none-some _ (sym is_none))
 
-        by_removal : t.course.status ≡ Present → here_after at event m.number r ≡ None
-            → IsGone (told_after s at event m t).course.status (told_after s at event m t).ran_out
+        by_removal : t.course.status ≡ Present → here_after at event m.number r ≡ None → IsGone (told_after at event m t).course.status expired
         by_removal present k =
             let removed = gone_if ((effect_of event).removes m.number) (here_record r) k in
-            stands_as Removed (told_after s at event m t).ran_out (rw (present, removed) refl) refl (refl, refl)
+            stands_as Removed (rw (present, removed) refl) (refl, refl)
 
-        by_stay : (stay : Stay) → IsStanding stay r.slot.due t.course t.ran_out → record_after_stay s at event m.number stay r ≡ None
-            → IsGone (told_after s at event m t).course.status (told_after s at event m t).ran_out
-        by_stay Hidden stands k = by_removal stands.0 k
-        by_stay Shown stands k = by_removal stands.0 k
-        by_stay (Left target ran_out) stands k = by_tests target stands.0 (loses target event) ran_out ((effect_of event).confirms m.number) (closes event) refl stands.1 refl refl k
+        by_stay : (stay : Stay) → IsStanding stay r.slot.due t.course → (notes_end stay ≡ true → expired ≡ true) → record_after_stay s at event m.number stay r ≡ None
+            → IsGone (told_after at event m t).course.status expired
+        by_stay Hidden stands f k = by_removal stands.0 k
+        by_stay Shown stands f k = by_removal stands.0 k
+        by_stay (Left target ran_out) stands f k = by_tests target stands.0 (loses target event) ran_out ((effect_of event).confirms m.number) (closes event) refl f refl refl k
+
+    -- and whether the message has expired: by the retention that was in force where that is over, or by the one behind the event
+    pub expired-next : (expired behind : Bool) → expired ≡ (notes_end r.slot.stay || runs_out_by s at m) → (not (is_left_stay r.slot.stay) && has_run_out s.retention_seconds at r) ≡ false
+        → (closes_period event ≡ false → behind ≡ runs_out_by s at m) → (after : Record) → record_after s at event m.number r ≡ Some after
+        → (expired || (closes_period event && behind)) ≡ (notes_end after.slot.stay || behind)
+    expired-next expired behind e u k after h = by_stay r.slot.stay refl e u h
+      where
+        here : notes_end r.slot.stay ≡ false → expired ≡ runs_out_by s at m → has_run_out s.retention_seconds at r ≡ false → here_after at event m.number r ≡ Some after
+            → (expired || (closes_period event && behind)) ≡ (notes_end after.slot.stay || behind)
+        here unnoted f unexpired is_after =
+            let there = there_unless ((effect_of event).removes m.number) (here_record r) after is_after in
+            let noted : notes_end after.slot.stay ≡ false = ap (λ (x : Record). notes_end x.slot.stay) (sym there.1) ∙ here-notes unnoted in
+            ends-here expired (closes_period event) (runs_out_by s at m) behind f (sym ran-same ∙ unexpired) k ∙ ap (λ (b : Bool). b || behind) (sym noted)
+
+        by_tests : (target : ℕ) (lost noted confirmed closed : Bool) → loses target event ≡ lost → expired ≡ (noted || runs_out_by s at m) → left_by r target lost noted confirmed closed ≡ Some after
+            → (expired || (closes_period event && behind)) ≡ (notes_end after.slot.stay || behind)
+        by_tests target true true confirmed closed lost f is_after = absurd (none-some after is_after)
+        by_tests target true false confirmed closed lost f is_after =
+            ends-back expired (closes_period event) (runs_out_by s at m) behind f (lost-open target event lost) k ∙ ap (λ (x : Record). notes_end x.slot.stay || behind) (same_Some (back_at at r) after is_after)
+        by_tests target false noted true closed lost f is_after = absurd (none-some after is_after)
+        by_tests target false noted false true lost f is_after = absurd (none-some after is_after)
+        by_tests target false noted false false lost f is_after =
+            ends-left expired (closes_period event) noted (runs_out_by s at m) behind f k ∙ ap (λ (b : Bool). (noted || (closes_period event && b)) || behind) (sym ran-same)
+            ∙ ap (λ (x : Record). notes_end x.slot.stay || behind) (same_Some (left_record r target noted) after is_after)
+
+        by_stay : (stay : Stay) → r.slot.stay ≡ stay → expired ≡ (notes_end stay || runs_out_by s at m) → (not (is_left_stay stay) && has_run_out s.retention_seconds at r) ≡ false
+            → record_after_stay s at event m.number stay r ≡ Some after → (expired || (closes_period event && behind)) ≡ (notes_end after.slot.stay || behind)
+        by_stay Hidden same f unexpired is_after = here (ap notes_end same) f unexpired is_after
+        by_stay Shown same f unexpired is_after = here (ap notes_end same) f unexpired is_after
+        by_stay (Left target ran_out) same f unexpired is_after =
+            by_tests target (loses target event) ran_out ((effect_of event).confirms m.number) (closes event) refl f is_after
 
 -- a message without a record, which neither is live nor waits, and does not leave by the event: it is so after it
 pub untold : (number : ℕ) (event : Event ContentText) (status : Status) (expired later : Bool) → IsGone status expired

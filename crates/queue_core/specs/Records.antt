@@ -34,7 +34,7 @@ received_at at r = record r { first_receive = Some (unwrap_or r.first_receive at
 
 -- brought back at a time
 abbrev pub back_at : ℕ → Record → Record
-back_at at r = record r { slot = record r.slot { stay = Hidden; due = at; is_fresh = false } }
+back_at at r = record r { slot = record r.slot { stay = Hidden; due = at; is_fresh = false; is_returned = true } }
 
 -- with another slot and other times of receives
 abbrev pub with_parts : Option ℕ → ℕ → Slot → Record → Record
@@ -149,7 +149,7 @@ born_record at event =
       origin = birth.origin;
       first_receive = None;
       last_receive = 0;
-      slot = record { stay = Hidden; due = at + 1000 * birth.delay; sent = option_map_or (λ origin. origin.sent) birth.origin at; is_fresh = true; tries = 0 };
+      slot = record { stay = Hidden; due = at + 1000 * birth.delay; sent = option_map_or (λ origin. origin.sent) birth.origin at; is_fresh = true; is_returned = false; tries = 0 };
     })
     (effect_of event).birth
 

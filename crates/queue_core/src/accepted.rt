@@ -1,10 +1,9 @@
 //! The transfers that a queue has accepted, kept for good.
 
-ghost use Rattle.std.specs.Prelude.{◌≡◌, ℕ, ◌≤◌, ◌==◌, ◌&&◌, ◌||◌, true, false, Ok, OnOk, IfErr, option_and_then};
+ghost use Rattle.std.specs.Prelude.{◌≡◌, ◌≤◌, ◌++◌, true, false, [], ◌∷◌, Ok, OnOk, IfErr, IfSome};
 ghost use Rattle.indexmap.specs.IndexSet.{spare};
 ghost use Rattle.message.specs.declared.fault.Fault.TheVariants.{OutOfMemory};
-ghost use Rattle.queue_core.specs.Messages.{effect_of, accepts};
-ghost use Rattle.queue_core.specs.Accepted.{holds, brings};
+ghost use Rattle.queue_core.specs.Accepted.{holds, origin_in, brings, keys_in};
 
 use crate::effect::effect_of;
 use indexmap::IndexSet;
@@ -19,7 +18,7 @@ pub(crate) struct TransferKey {
     pub number: u64,
 }
 
-/// The transfers that a queue has accepted.
+/// The transfers that a queue has accepted, in the order in which it accepted them.
 #[derive(Debug, Drop)]
 pub(crate) struct Accepted {
     pub keys: IndexSet<TransferKey>,
@@ -28,7 +27,7 @@ pub(crate) struct Accepted {
 impl Accepted {
     /// No transfers, which take no memory.
     pub(crate) fn new(alloc: Global) -> Accepted
-        ensures { (uid number : ℕ) → holds result uid number ≡ false }
+        ensures { result.keys.keys ≡ [] }
     {
         Accepted {
             keys: IndexSet::new(alloc),
@@ -45,7 +44,7 @@ impl Accepted {
     /// Makes room for the transfer by which an event begins a message, where it does; no other event wants memory.
     /// `OutOfMemory` is the only refusal.
     pub(crate) fn make_place(&mut self, event: &Event<Content>) -> Result<(), Fault>
-        ensures same { (uid number : ℕ) → holds self.new uid number ≡ holds self.old uid number }
+        ensures same { self.new.keys.keys ≡ self.old.keys.keys }
         ensures calm { brings event.now ≡ false → result ≡ Ok tt }
         ensures ok { OnOk result (brings event.now ≡ true → 1 ≤ spare self.new.keys) }
         ensures errors { IfErr result (λ fault. fault ≡ OutOfMemory) }
@@ -56,20 +55,23 @@ impl Accepted {
         Ok(())
     }
 
-    /// Adds the transfer by which an event begins a message, where it does, and where there is room for it.
+    /// Adds the transfer by which an event begins a message, where it does, behind those before it. It is not among them yet, and
+    /// there is room for it.
     pub(crate) fn note(&mut self, event: &Event<Content>)
-        requires { brings event.now ≡ true → 1 ≤ spare self.old.keys }
-        ensures { (uid number : ℕ) → holds self.new uid number ≡ (holds self.old uid number || accepts uid number event.now) }
+        requires room { brings event.now ≡ true → 1 ≤ spare self.old.keys }
+        requires first { IfSome (origin_in event.now) (λ origin. holds self.old origin.uid origin.number ≡ false) }
+        ensures { self.new.keys.keys ≡ self.old.keys.keys ++ keys_in event.now }
     {
         if let Some(origin) = origin_of(event) {
             self.add(origin.uid, origin.number);
         }
     }
 
-    /// Adds the transfer of the message of a number from the queue of a uid, for which there is room.
+    /// Adds the transfer of the message of a number from the queue of a uid at the end.
     fn add(&mut self, uid: u64, number: u64)
-        requires { 1 ≤ spare self.old.keys }
-        ensures { (u n : ℕ) → holds self.new u n ≡ (holds self.old u n || ((uid == u) && (number == n))) }
+        requires room { 1 ≤ spare self.old.keys }
+        requires first { holds self.old uid number ≡ false }
+        ensures { self.new.keys.keys ≡ self.old.keys.keys ++ record { uid = uid; number = number } ∷ [] }
     {
         self.keys.insert(TransferKey { uid, number }).unwrap();
     }
@@ -77,7 +79,7 @@ impl Accepted {
 
 /// Where the message that an event begins came from, where it begins one that was not sent here.
 fn origin_of(event: &Event<Content>) -> Option<Origin>
-    ensures { result ≡ option_and_then (λ birth. birth.origin) (effect_of event.now).birth }
+    ensures { result ≡ origin_in event.now }
 {
     effect_of(event).birth?.origin
 }

@@ -306,6 +306,7 @@ impl MessageIndex {
                         stay: Stay::Hidden,
                         due: at.milliseconds(),
                         is_fresh: false,
+                        is_returned: true,
                         ..slot
                     };
                     self.put_slot(number, back, ticks);

@@ -1,6 +1,6 @@
 //! What is kept of one message.
 
-ghost use Rattle.std.specs.Prelude.{◌≡◌, true, None, Ok, IfOk, IfErr};
+ghost use Rattle.std.specs.Prelude.{◌≡◌, true, false, None, Ok, IfOk, IfErr};
 ghost use Rattle.message.specs.declared.fault.Fault.TheVariants.{OutOfMemory};
 ghost use Rattle.queue_core.specs.declared.slot.Stay.TheVariants.{Hidden};
 ghost use Rattle.queue_core.specs.Records.{born_record};
@@ -60,7 +60,7 @@ fn new_record(
       origin = origin;
       first_receive = None;
       last_receive = 0;
-      slot = record { stay = Hidden; due = due; sent = first_send_time; is_fresh = true; tries = 0 };
+      slot = record { stay = Hidden; due = due; sent = first_send_time; is_fresh = true; is_returned = false; tries = 0 };
     } }
 {
     Record {
@@ -75,6 +75,7 @@ fn new_record(
             due,
             sent: first_send_time.milliseconds(),
             is_fresh: true,
+            is_returned: false,
             tries: 0,
         },
     }

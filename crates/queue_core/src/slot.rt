@@ -25,6 +25,8 @@ pub(crate) struct Slot {
     pub sent: u64,
     /// Whether it was never received here, nor brought back.
     pub is_fresh: bool,
+    /// Whether it left for a dead-letter queue and came back, since that queue was gone.
+    pub is_returned: bool,
     /// How often it was received here, counted up to three.
     pub tries: u8,
 }

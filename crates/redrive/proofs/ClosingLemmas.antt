@@ -15,6 +15,7 @@ use Rattle.queue_core.proofs.PushLemmas.{closed-push}
 use Rattle.redrive.specs.ByPlace.{closes_queue}
 
 unclosed-each : (q : QueueHistory) (command : Command) → closes_queue command ≡ false → IsSoOfAdded q (λ e. closes e ≡ false) command
+unclosed-each q (commands.Change handle timeout) h = λ unrefused. refl
 unclosed-each q (commands.Delete handle) h = (refl, refl)
 unclosed-each q (commands.Arrive parcel) h = λ first. refl
 unclosed-each q (commands.Settle number) h = λ pending. refl

@@ -54,6 +54,7 @@ if_some-at P o event h e = subst (λ (o : Option (Event ContentText)). IfSome o 
 
 own-each : (q : QueueHistory) (command : Command) → is_internal command ≡ false → IsSoOfAdded q (IsOwn q.lines) command
 own-each q (commands.Receive maximum timeout) h = leaving-present q maximum timeout
+own-each q (commands.Change handle timeout) h = λ unrefused. tt
 own-each q (commands.Delete handle) h = (tt, tt)
 own-each q (commands.Arrive parcel) h = absurd cc
 own-each q (commands.Settle number) h = absurd cc

@@ -67,6 +67,7 @@ module _ (q : QueueHistory) (u : ℕ) (h : names_uid u (settings_of q.lines).red
   Aims event = names_uid u (settings_after (settings_of q.lines) event).redrive_policy ≡ false
 
   aims-each : (command : Command) → Sets u command → IsSoOfAdded q Aims command
+  aims-each (commands.Change handle timeout) sets = λ unrefused. h
   aims-each (commands.Delete handle) sets = (h, h)
   aims-each (commands.Set wish target) sets = sets (settings_of q.lines).redrive_policy wish target refl h
   aims-each (commands.Arrive parcel) sets = λ first. h

@@ -16,7 +16,7 @@ use Rattle.queue_core.proofs.LegalLemmas.{place-left, IsKept-pushed}
 use Rattle.queue_core.proofs.TallyLemmas.{tallies-push, GoesOn}
 use Rattle.queue_core.proofs.IndexLemmas.{same-index, few_born, few-more, can_apply, event-index}
 use Rattle.queue_core.proofs.WatchLemmas.{watch-pushed}
-use Rattle.queue_core.proofs.AcceptedLemmas.{accepted-same, accepted-noted}
+use Rattle.queue_core.proofs.AcceptedLemmas.{accepted-same, accepted-noted, unheld-caused}
 use Rattle.queue_core.specs.Cost.{most_ticks}
 use Rattle.queue_core.specs.Spending.{event_adds, left_count, HasCome}
 use Rattle.queue_core.proofs.BoundLemmas.{bound-later, bound-added}
@@ -73,6 +73,13 @@ apply-requires-clause-about c =
     let index = same-index q.lines q.clock c.self.inside.index c.self.invariant.2 c.make_room.new.self c.make_room.ensures.same c.make_room.ensures.indexed in
     let lines = ap (λ (q : QueueHistory). length q.lines) c.self.view_is in
     can_apply q c.args.event caused c.make_room.new.self index (omega (arith, lines, c.messages_so_far.ensures.lines)) c.in_ok-make_room.ensures.room
+
+-- a transfer that the event brings was not accepted before
+pub note-requires-clause-first : goal.note-requires-clause-first
+note-requires-clause-first c =
+    let q : QueueHistory = record { uid = c.self.inside.uid; name = c.self.inside.name; limits = c.self.inside.limits; rules = c.self.inside.rules.items; clock = c.self.inside.clock; lines = c.self.inside.journal.lines } in
+    let caused = subst (λ (q : QueueHistory). IsCausedIn q c.args.event) (sym c.self.view_is) c.requires in
+    unheld-caused q c.args.event c.make_place.new.self caused (accepted-same q.lines c.self.inside.accepted c.make_place.new.self c.self.invariant.3 c.make_place.ensures.same)
 
 pub settle-requires-clause-few : goal.settle-requires-clause-few
 settle-requires-clause-few c =
