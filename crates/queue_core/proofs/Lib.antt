@@ -7,6 +7,7 @@ mod AlikeLemmas
 pub mod MarkLemmas
 pub mod MetricLemmas
 pub mod OfferLemmas
+mod StopLemmas
 pub mod PushLemmas
 mod AlongLemmas
 pub mod CauseLemmas

@@ -193,6 +193,13 @@ first_of_two_left_and_purged = first_of_two_left ++ entry 5001 Purged ∷ []
 abbrev pub first_of_two_back : List (Entry ContentText)
 first_of_two_back = first_of_two_left ++ entry 5002 (Orphaned 9) ∷ []
 
+-- the first message may not be received again, and is due behind the second
+abbrev pub spent_one_due_last : List (Entry ContentText)
+spent_one_due_last = opened_with with_policy ++ entry 1000 (Sent 0 letter_a) ∷ entry 3000 (Received 1 (0 ∷ []) [] 9) ∷ entry 3500 (Sent 0 letter_b) ∷ []
+
+abbrev pub spent_one_stays : List (Entry ContentText)
+spent_one_stays = spent_one_due_last ++ entry 5000 (Received 1 (1 ∷ []) [] 9) ∷ []
+
 abbrev pub origin_of_a : Origin
 origin_of_a = record { uid = 1; number = 0; name = 106 ∷ 111 ∷ 98 ∷ 115 ∷ []; id = record { uid = 1; number = 0 }; sent = 1000 }
 

@@ -18,6 +18,7 @@ pub mod Run
 pub mod Metrics
 pub mod Watched
 pub mod Turns
+pub mod Stops
 pub mod Lasting
 pub mod Cost
 pub mod Spending

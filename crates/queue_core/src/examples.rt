@@ -259,6 +259,19 @@ pub fn dead_letters_leave_and_come_back()
     ensures without_its_policy { settings_of example.first_of_two_back ≡ example.with_timeout 1 }
 {}
 
+/// A receive stops behind its last offer. A message behind that one stays where it is, also one that
+/// may not be received again, until a receive comes to it.
+pub fn receives_stop_behind_their_last_offer()
+    ensures order { numbers_of (receive_order example.spent_one_due_last 5000) ≡ 1 ∷ 0 ∷ [] }
+    ensures stays { (example.outcome example.spent_one_due_last 5000 (Receive 1 None)).event
+        ≡ Some (events.Received 1 (1 ∷ []) [] 9) }
+    ensures visible { example.counts_at 5000 example.spent_one_stays ≡ example.counts 1 0 1 }
+    ensures come_to { (example.outcome example.spent_one_due_last 5000 (Receive 2 None)).event
+        ≡ Some (events.Received 1 (1 ∷ []) (0 ∷ []) 9) }
+    ensures leaves_next { (example.outcome example.spent_one_stays 5000 (Receive 1 None)).event
+        ≡ Some (events.Received 1 [] (0 ∷ []) 9) }
+{}
+
 /// A dead letter is accepted once. Its age runs from its arrival, its retention from the first send.
 pub fn dead_letters_arrive()
     ensures accepted { (example.outcome (example.opened_with (example.with_retention 60)) 5000
@@ -322,6 +335,10 @@ pub fn journals_come_of_commands()
         ∷ example.step 3000 (Receive 1 None) ∷ example.step 3100 (Delete (example.handle 1))
         ∷ example.step 3200 (Delete (example.handle 2)) ∷ [])
         ≡ example.deleted_under_the_latest_handle }
+    ensures spent_one_stays { example.lines_after example.with_policy
+        (example.step 1000 (Send example.letter_a None) ∷ example.step 3000 (Receive 1 None)
+        ∷ example.step 3500 (Send example.letter_b None) ∷ example.step 5000 (Receive 1 None) ∷ [])
+        ≡ example.spent_one_stays }
     ensures twelve_hours { example.lines_after default_settings
         (example.step 1000 (Send example.hello None) ∷ example.step 3000 (Receive 1 None)
         ∷ example.step 3000 (Change (example.handle 1) 43200)
