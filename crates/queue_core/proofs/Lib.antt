@@ -8,6 +8,7 @@ pub mod MarkLemmas
 pub mod MetricLemmas
 pub mod OfferLemmas
 mod StopLemmas
+mod SumLemmas
 pub mod PushLemmas
 mod AlongLemmas
 pub mod CauseLemmas

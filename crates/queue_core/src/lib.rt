@@ -43,6 +43,7 @@ mod record;
 mod reply;
 mod slot;
 mod state;
+mod sum_laws;
 mod tally;
 #[cfg(test)]
 mod tests;
@@ -69,3 +70,4 @@ pub use reading::{closes, gives_settings, settings_after};
 pub use receive_laws::a_receive_stops_behind_its_last_offer;
 pub use reply::{Look, Posted, Reply};
 pub use state::QueueState;
+pub use sum_laws::no_number_of_a_row_is_cut;

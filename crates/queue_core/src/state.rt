@@ -5,6 +5,7 @@ ghost use Rattle.std.specs.Option.{ForSome, option_map_or};
 ghost use Rattle.message.specs.declared.fault.Fault.TheVariants.{OutOfMemory};
 ghost use Rattle.message.specs.Fault.{Meets, is_out_of_memory};
 ghost use Rattle.message.specs.Content.{content_size, is_content};
+ghost use Rattle.queue_config.specs.Limits.{max_lines_row};
 ghost use Rattle.queue_config.specs.Settings.{AreSettings, settings_with};
 
 use crate::accepted::Accepted;
@@ -224,7 +225,10 @@ impl QueueState {
     pub fn journal(&self) -> &Journal
         ensures lines { result.now.lines ≡ self.now.lines }
         ensures limit { result.now.limit ≡ self.now.limits.max_lines + 1 }
+        ensures within { length self.now.lines ≤ max_lines_row.most + 1 }
     {
+        // A number that is read tells the proof that it is in range.
+        let _most = self.limits.max_lines;
         &self.journal
     }
 
