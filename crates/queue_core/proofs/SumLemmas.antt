@@ -97,7 +97,7 @@ module _ (q : QueueHistory) (within : (settings_of q.lines).maximum_message_size
   small_outcome : (command : Command) → IsAllowedIn q command → IfSome (outcome_of q command).event (IsSmall q)
   small_outcome (commands.Send content delay) h = small_sent content delay
   small_outcome (commands.Receive maximum timeout) h = by_added (commands.Receive maximum timeout) (small_received maximum timeout h.0.1)
-  small_outcome (commands.Change handle timeout) h = by_added (commands.Change handle timeout) (small_other (Changed handle.number timeout) tt within)
+  small_outcome (commands.Change handle timeout) h = by_added (commands.Change handle timeout) (λ unrefused. small_other (Changed handle.number timeout) tt within)
   small_outcome (commands.Delete handle) h = by_added (commands.Delete handle) (small_other (Deleted handle.number) tt within, small_other DeletedAgain tt within)
   small_outcome commands.Purge h = by_added commands.Purge (small_other Purged tt within)
   small_outcome (commands.Set wish target) h =

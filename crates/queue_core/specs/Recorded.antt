@@ -8,7 +8,7 @@ use Rattle.queue_core.specs.declared.facts.Message.{Message}
 use Rattle.queue_core.specs.declared.facts.Course.{Course}
 use Rattle.queue_core.specs.declared.facts.Status.TheVariants.{Present, Waiting}
 use Rattle.queue_core.specs.Messages.{message_count, content_of, settings_of, settings_after, RetentionPeriod, closes_period, runs_out_in, is_expired, receive_count, first_receive_time, last_receive_time, course_of, is_returned, awaits_transfer, pending_transfers}
-use Rattle.queue_core.specs.States.{is_live, message_numbered}
+use Rattle.queue_core.specs.States.{is_live, failing_receives, message_numbered}
 use Rattle.queue_core.specs.declared.slot.Stay.{Stay}
 use Rattle.queue_core.specs.declared.slot.Stay.TheVariants.{Hidden, Shown, Left}
 use Rattle.queue_core.specs.declared.record.Record.{Record}
@@ -51,7 +51,7 @@ pub record IsRecordOf (lines : List (Entry ContentText)) (m : Message) (r : Reco
   pub last_receive : r.last_receive ≡ last_receive_time lines m.number
   pub fresh : r.slot.is_fresh ≡ ((receive_count lines m.number == 0) && not (is_returned lines m))
   pub returned : r.slot.is_returned ≡ is_returned lines m
-  pub tries : r.slot.tries ≡ min (receive_count lines m.number) 3
+  pub tries : r.slot.tries ≡ min (receive_count lines m.number) failing_receives
   pub standing : IsStanding r.slot.stay r.slot.due (course_of lines m)
 
 -- whether it notes that the message's retention ended in a period that is over

@@ -7,6 +7,7 @@ use Rattle.message.specs.Content.{ContentText}
 use Rattle.journal.specs.declared.entry.Event.{Event}
 use Rattle.queue_config.specs.Settings.{QueueSettings}
 use Rattle.queue_core.specs.Messages.{effect_of, contains_number, loses, closes_period, closes}
+use Rattle.queue_core.specs.States.{failing_receives}
 use Rattle.queue_core.specs.declared.slot.Stay.{Stay}
 use Rattle.queue_core.specs.declared.slot.Stay.TheVariants.{Hidden, Shown, Left}
 use Rattle.queue_core.specs.declared.slot.Slot.{Slot}
@@ -24,9 +25,9 @@ with_stay stay r = record r { slot = record r.slot { stay = stay } }
 abbrev pub hidden_until : ℕ → Record → Record
 hidden_until due r = record r { slot = record r.slot { stay = Hidden; due = due } }
 
--- how often it was received, once it is received again: up to three times
+-- how often it was received, once it is received again: up to as often as one that keeps failing
 abbrev pub tried : ℕ → ℕ
-tried tries = if nat_lt tries 3 then tries + 1 else tries
+tried tries = if nat_lt tries failing_receives then tries + 1 else tries
 
 -- received at a time
 abbrev pub received_at : ℕ → Record → Record

@@ -9,6 +9,7 @@ use Rattle.queue_core.specs.declared.slot.Stay.{Stay}
 use Rattle.queue_core.specs.declared.slot.Stay.TheVariants.{Hidden, Shown, Left}
 use Rattle.queue_core.specs.declared.slot.Slot.{Slot}
 use Rattle.queue_core.specs.declared.indices.Indices.{Indices}
+use Rattle.queue_core.specs.States.{failing_receives}
 use Rattle.queue_core.specs.Ages.{AreAges, CanList, IsListed}
 
 -- ---- what a slot says
@@ -60,11 +61,11 @@ is_in_flight o = option_map_or (λ s. is_hidden_stay s.stay && not s.is_fresh) o
 
 -- there, and its age is looked at
 abbrev pub has_age : Option Slot → Bool
-has_age o = option_map_or (λ s. not (is_left_stay s.stay) && nat_lt s.tries 3) o false
+has_age o = option_map_or (λ s. not (is_left_stay s.stay) && nat_lt s.tries failing_receives) o false
 
 -- there, and it was received so often that its age is not looked at
 abbrev pub is_failing : Option Slot → Bool
-is_failing o = option_map_or (λ s. not (is_left_stay s.stay) && not (nat_lt s.tries 3)) o false
+is_failing o = option_map_or (λ s. not (is_left_stay s.stay) && not (nat_lt s.tries failing_receives)) o false
 
 -- when it is due, where it is hidden
 abbrev pub due_in : Option Slot → Option ℕ

@@ -43,9 +43,13 @@ is_in_state state lines clock m = option_map_or (λ s. same_state state s) (stat
 abbrev pub count_in_state : {C : Type 0} → MessageState → List (Entry C) → ℕ → ℕ
 count_in_state state lines clock = count_by (λ m. is_in_state state lines clock m) (messages lines)
 
--- whether a message's age is looked at: not where it keeps failing, as one does that was received three times or more
+-- how often a message was received that keeps failing, at the least (Amazon SQS, of ApproximateAgeOfOldestMessage)
+abbrev pub failing_receives : ℕ
+failing_receives = 3
+
+-- whether a message's age is looked at: not where it keeps failing
 abbrev pub has_age : {C : Type 0} → List (Entry C) → ℕ → Message → Bool
-has_age lines clock m = is_live lines clock m && nat_lt (receive_count lines m.number) 3
+has_age lines clock m = is_live lines clock m && nat_lt (receive_count lines m.number) failing_receives
 
 -- whole seconds since the first of those messages came to the queue, 0 where there is none
 abbrev pub oldest_age : {C : Type 0} → List (Entry C) → ℕ → ℕ

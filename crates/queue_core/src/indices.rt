@@ -9,7 +9,7 @@ ghost use Rattle.queue_core.specs.Changes.{shown_in, is_at, IsReserved, HasRoom}
 ghost use Rattle.queue_core.specs.Spending.{spent, AreBelow, moved, added, KeepsSent};
 
 use crate::ages::Ages;
-use crate::slot::{Slot, Stay};
+use crate::slot::{FAILING_RECEIVES, Slot, Stay};
 use deadline_heap::DeadlineHeap;
 use journal::Ticks;
 use std::alloc::{AllocError, Global};
@@ -151,22 +151,24 @@ pub(crate) fn is_in_flight(slot: Option<Slot>) -> bool
     }
 }
 
-/// Whether it is there, and was received fewer than three times.
+/// Whether it is there, and does not keep failing.
 fn has_age(slot: Option<Slot>) -> bool
     ensures { result ≡ has_age slot }
 {
     match slot {
-        Some(slot) => matches!(slot.stay, Stay::Hidden | Stay::Shown) && slot.tries < 3,
+        Some(slot) => matches!(slot.stay, Stay::Hidden | Stay::Shown)
+            && slot.tries < FAILING_RECEIVES,
         None => false,
     }
 }
 
-/// Whether it is there, and was received three times or more.
+/// Whether it is there, and keeps failing.
 fn is_failing(slot: Option<Slot>) -> bool
     ensures { result ≡ is_failing slot }
 {
     match slot {
-        Some(slot) => matches!(slot.stay, Stay::Hidden | Stay::Shown) && slot.tries >= 3,
+        Some(slot) => matches!(slot.stay, Stay::Hidden | Stay::Shown)
+            && slot.tries >= FAILING_RECEIVES,
         None => false,
     }
 }

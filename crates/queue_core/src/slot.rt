@@ -31,10 +31,17 @@ pub(crate) struct Slot {
     pub tries: u8,
 }
 
-/// How often a message was received, once it is received again: counted up to three, from which on its age is not
-/// looked at (Amazon SQS, of ApproximateAgeOfOldestMessage).
+/// How often a message was received that keeps failing, at the least: its age is not looked at any more (Amazon SQS, of
+/// ApproximateAgeOfOldestMessage).
+pub(crate) const FAILING_RECEIVES: u8 = 3;
+
+/// How often a message was received, once it is received again: counted up to as often as one that keeps failing.
 pub(crate) fn tried(tries: u8) -> u8
     ensures { result ≡ tried tries }
 {
-    if tries < 3 { tries + 1 } else { tries }
+    if tries < FAILING_RECEIVES {
+        tries + 1
+    } else {
+        tries
+    }
 }
