@@ -109,6 +109,16 @@ impl Talk {
         Ok(())
     }
 
+    /// Performs each of these steps so many times, and gives how many operations that counted.
+    fn repeat_each(&mut self, steps: &str, count: u32) -> Result<u64, Fault> {
+        let before = self.ticks.count();
+        for text in steps.lines() {
+            let step = step(self.alloc, text)?;
+            self.repeat(&step, count)?;
+        }
+        Ok(self.ticks.count().saturating_sub(before))
+    }
+
     /// Receives so many messages at the time 1, one by one, and deletes each.
     fn take_many(&mut self, count: u32) -> Result<(), Fault> {
         let at = known_moment("1")?;
@@ -119,16 +129,39 @@ impl Talk {
     }
 }
 
+/// What is asked a hundred times each where 40,000 messages are there, of which the first was received.
+const OTHERS: &str = "1 look
+1 change 0.1 30
+1 set DelaySeconds 0
+1 arrive 0
+1 settle 0
+1 orphan 1
+1 parcel
+1 delete 0.1";
+
+/// What 900 calls may count at 40,000 messages, each of which touches one at most: 24 times 17 times 2.
+const MOST_OF_OTHERS: u64 = 734_400;
+
 /// 40,000 messages are sent, and 10,000 of them are received and deleted. A body that goes through the
-/// entries of the journal at each call reads over 10^9 of them.
+/// entries of the journal at each call reads over 10^9 of them. In between each other command comes a
+/// hundred times, but for purges, which come behind the one that removes what is left. A body that goes through
+/// 40,000 of what is counted in one of them alone counts 4,000,000.
 #[test]
 fn many_messages(rt: HostRuntime) -> Result<(), Fail> {
     let mut talk = Talk::new(&rt)?;
     talk.hold(&rt, "open 16777216 0 DelaySeconds 0")?;
     talk.send_many(40_000)?;
+    talk.repeat_each("1 receive 1 30", 1)?;
+    let others = talk.repeat_each(OTHERS, 100)?;
     talk.take_many(10_000)?;
-    talk.hold(&rt, TAKEN)
+    talk.hold(&rt, TAKEN)?;
+    talk.repeat_each("1 purge", 1)?;
+    let purges = talk.repeat_each("1 purge", 100)?;
+    if others.saturating_add(purges) <= MOST_OF_OTHERS {
+        return Ok(());
+    }
+    Err(Fail::new(format_args!("{others} and {purges} operations")))
 }
 
 const TAKEN: &str =
-    "1 look => (Gauges { visible: 30000, delayed: 0, in_flight: 0, age: 0 }, 60001, 1, (0, 0), None, false)";
+    "1 look => (Gauges { visible: 30000, delayed: 0, in_flight: 0, age: 0 }, 60403, 1, (0, 1), None, false)";
