@@ -57,10 +57,10 @@ module _ (at : ℕ) (arrived : Parcel) where
   first-arrival : (q : QueueHistory) (p : Parcel) → first_parcel_of q ≡ Some p → first_parcel_of (record q { lines = q.lines ++ arrival ∷ [] }) ≡ Some p
   first-arrival q p h = option_and_then_some _ (first_transfer q) p h (λ t first is. rw (pending-arrival q.lines, first) (transferred-arrival q t p is))
 
-abbrev again : QueueHistory → Outcome
+abbrev pub again : QueueHistory → Outcome
 again q = record { event = None; reply = Ok (replies.Arrived arrivals.Again) }
 
-abbrev new : QueueHistory → Parcel → Outcome
+abbrev pub new : QueueHistory → Parcel → Outcome
 new q p = record { event = Some (Arrived p.origin p.content); reply = Ok (replies.Arrived arrivals.New) }
 
 -- an arrival that is not refused leaves the parcel accepted
@@ -91,7 +91,7 @@ present : (o : Option QueueHistory) → is_some o ≡ true → (q : QueueHistory
 present None h = absurd cc
 present (Some q) h = (q, refl)
 
-abbrev delivery : World → ℕ → Parcel → Bool → Delivery
+abbrev pub delivery : World → ℕ → Parcel → Bool → Delivery
 delivery w source p there = cond there (record { uid = p.target; command = Arrive p }) (record { uid = source; command = Orphan p.target })
 
 module _ (w : World) (source at : ℕ) (m : Moved) (confirmed : needs_confirmation (Ok m) ≡ true) where
@@ -151,11 +151,11 @@ module _ (w : World) (source at : ℕ) (m : Moved) (confirmed : needs_confirmati
 
 -- ---- the whole move
 
-needs-Ok : (answer : Result Moved Fault) → needs_confirmation answer ≡ true → (m : Moved) × (answer ≡ Ok m)
+pub needs-Ok : (answer : Result Moved Fault) → needs_confirmation answer ≡ true → (m : Moved) × (answer ≡ Ok m)
 needs-Ok (Ok m) h = (m, refl)
 needs-Ok (Err fault) h = absurd cc
 
-handed-Ok : (old between : World) (source at : ℕ) (m : Moved) → IsHandedOver old source at (Ok m) between → between ≡ world_after_hand_over {T = Moved} old source at (Ok m)
+pub handed-Ok : (old between : World) (source at : ℕ) (m : Moved) → IsHandedOver old source at (Ok m) between → between ≡ world_after_hand_over {T = Moved} old source at (Ok m)
 handed-Ok old between source at m (inl h) = h.left
 handed-Ok old between source at m (inr h) = absurd (false≢true h.no_memory)
 

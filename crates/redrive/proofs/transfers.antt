@@ -10,3 +10,4 @@ pub mod Laws
 pub mod Answering
 pub mod Calls
 pub mod Targets
+pub mod Waiting

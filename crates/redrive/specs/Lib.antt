@@ -8,3 +8,4 @@ pub mod History
 pub mod WorldRun
 pub mod Places
 pub mod TransferExamples
+pub mod Waiting

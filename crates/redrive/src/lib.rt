@@ -32,6 +32,6 @@ pub use listing::{in_order, is_same_name};
 pub use moved::Moved;
 pub use steps::{HouseReply, HouseRun, HouseStep, QueueMetrics};
 pub use transfer_laws::{
-    each_departure_has_its_fate, each_message_has_one_place, moves_are_steps,
+    each_departure_has_its_fate, each_message_has_one_place, moves_are_steps, moves_leave_fewer,
     no_queue_is_its_own_target, transfers_are_accepted_once,
 };

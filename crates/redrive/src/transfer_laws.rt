@@ -1,15 +1,18 @@
 //! Laws about dead letters, over every list of steps of the registry. Nothing runs here: each
 //! function is empty, and its contract is the law.
 
-ghost use Rattle.std.specs.Prelude.{◌≡◌, ℕ, false, List, [], ◌∷◌, Result};
+ghost use Rattle.std.specs.Prelude.{◌≡◌, ◌≢◌, ℕ, ◌<◌, length, false, List, [], ◌∷◌, Result, Ok};
+ghost use Rattle.std.specs.Option.{ForSome};
 ghost use Rattle.std.specs.List.{All};
 ghost use Rattle.message.specs.declared.fault.Fault.{Fault};
 ghost use Rattle.message.specs.Fault.{Meets};
 ghost use Rattle.queue_config.specs.Config.{Configuration, AreConfigured};
+ghost use Rattle.queue_core.specs.Legal.{IsLegal};
 ghost use Rattle.redrive.specs.declared.steps.HouseStep.{HouseStep};
 ghost use Rattle.redrive.specs.declared.steps.HouseStep.TheVariants.{HandOver};
 ghost use Rattle.redrive.specs.declared.moved.Moved.{Moved};
-ghost use Rattle.redrive.specs.World.{World, new_world, arrive_answer, IsHandedOver, IsMoved, has_target};
+ghost use Rattle.redrive.specs.World.{World, new_world, queue_of_uid, arrive_answer, IsHandedOver, IsMoved, has_target};
+ghost use Rattle.redrive.specs.Waiting.{waiting_in};
 ghost use Rattle.redrive.specs.WorldRun.{Answer, AreHouseAnswers, AreStepsTo, steps_of_move, world_after_all, history_after};
 ghost use Rattle.redrive.specs.Places.{first_history, EachAcceptedOnce, EachHasItsFate, EachHasOnePlace, NoRelayDeleted};
 
@@ -52,6 +55,16 @@ pub fn moves_are_steps()
         → AreStepsTo old (HandOver at source ∷ []) new }
     ensures moved { (old new : World) (source at : ℕ) (answer : Result Moved Fault) (m : IsMoved old source at answer new)
         → AreStepsTo old (steps_of_move source at m.handed_over) new }
+{}
+
+/// Whoever moves one parcel after another comes to an end: a move that is not refused leaves fewer
+/// messages waiting in its source than there were, unless none waited. The source's journal is one that
+/// a queue can have, as each queue's is.
+pub fn moves_leave_fewer()
+    ensures { (old new : World) (source at : ℕ) (moved : Moved)
+        → moved ≢ Moved.None → ForSome (queue_of_uid old source) (λ q. IsLegal q)
+        → IsMoved old source at (Ok moved) new
+        → length (waiting_in new source) < length (waiting_in old source) }
 {}
 
 /// No queue is ever its own dead-letter queue: from configured queues of which none is, whatever the

@@ -13,7 +13,7 @@ either : (b : Bool) (P : Type 0) → P → MatchBool b ⊤ P
 either true P p = tt
 either false P p = p
 
-meets-itself : {T : Type 0} (r : Result T Fault) → Meets r r
+pub meets-itself : {T : Type 0} (r : Result T Fault) → Meets r r
 meets-itself r = either (is_out_of_memory r) (r ≡ r) refl
 
 answer-meets_itself : (answer : Answer) → MeetsAnswer answer answer

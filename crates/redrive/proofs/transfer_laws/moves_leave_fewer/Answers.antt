@@ -1,0 +1,5 @@
+use Rattle.redrive.proofs.transfers.Waiting.{waiting-fewer}
+use Rattle.redrive.proofs.transfer_laws.moves_leave_fewer.Goals as goal
+
+pub returns : goal.returns
+returns c = waiting-fewer
