@@ -2,6 +2,7 @@ pub mod KeyedLemmas
 pub mod ClosingLemmas
 pub mod ListingLemmas
 pub mod OpeningLemmas
+pub mod ConfiguredLemmas
 pub mod OrderLemmas
 pub mod RegistryLemmas
 pub mod PlaceLemmas

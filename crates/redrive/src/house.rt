@@ -4,7 +4,7 @@ ghost use Rattle.std.specs.Prelude.{◌≡◌, ◌≢◌, ℕ, ◌<◌, ◌≤�
 ghost use Rattle.std.specs.List.{position};
 ghost use Rattle.std.specs.Option.{option_copied, option_map};
 ghost use Rattle.message.specs.Fault.{Meets};
-ghost use Rattle.queue_config.specs.Config.{rules_of};
+ghost use Rattle.queue_config.specs.Config.{names_of, configured_uid, rules_of};
 ghost use Rattle.queue_core.specs.Queue.{QueueHistory};
 ghost use Rattle.redrive.specs.Listed.{items_of};
 ghost use Rattle.redrive.specs.WorldRun.{metrics_of};
@@ -128,10 +128,12 @@ impl House {
     }
 
     /// A registry with the configuration's limits and its queues, opened at a moment in the order of
-    /// the configuration. Uids begin at 1. `OutOfMemory` is the only refusal; where no queue is
-    /// configured, it takes no memory.
+    /// the configuration. Each is found by its name under the uid that the configuration gives it, its
+    /// place there counted from 1, and no other name is found. `OutOfMemory` is the only refusal; where no
+    /// queue is configured, it takes no memory.
     pub fn new(alloc: Global, config: &Config, at: Moment) -> Result<House, Fault>
         ensures world { Meets result (Ok (new_world config.now at)) }
+        ensures found { IfOk result (λ house. (name : List ℕ) → found_uid house name ≡ configured_uid name (names_of config.now.queues)) }
         ensures none { config.now.queues ≡ [] → result ≡ Ok (empty_world config.now.limits) }
     {
         let mut house = House::empty(alloc, config.limits);

@@ -1,9 +1,11 @@
-use Rattle.std.proofs.Common.{◌≡◌, ℕ, ◌<◌, List, ap, subst, ◌∙◌, length, get_or}
+use Rattle.std.proofs.Common.{◌≡◌, ℕ, ◌<◌, List, ap, subst, ◌∙◌, length, get_or, take, ◌≤◌}
+use Rattle.std.proofs.lemmas.List.{take_all}
 use Rattle.queue_config.specs.Config.{Configuration, AreConfigured, rules_of}
 use Rattle.queue_config.specs.AlarmRules.{Rule}
 use Rattle.queue_config.specs.declared.config.ConfiguredAlarm.{ConfiguredAlarm}
 use Rattle.queue_config.specs.declared.config.ConfiguredQueue.{ConfiguredQueue}
-use Rattle.redrive.specs.World.{World, with_queue, next_queue}
+use Rattle.redrive.specs.World.{World, new_world, with_queue, next_queue, found_uid}
+use Rattle.redrive.proofs.ConfiguredLemmas.{found-configured}
 use Rattle.redrive.proofs.OpeningLemmas.{next_name-new, next_name-place, opened-more}
 use Rattle.redrive.proofs.house.House.new.Goals as goal
 
@@ -37,3 +39,13 @@ loop-queue-preserved c =
     ∙ opened-more c.args.config.now.limits c.args.config.now.alarms c.args.at c.args.config.now.queues c.loop-queue.queue-index c.queue-item.result c.loop-queue.house c.loop-queue.invariant
     (subst (λ (qs : List ConfiguredQueue). c.loop-queue.queue-index < length qs) same c.loop-queue-test.true)
     (c.queue-item.is ∙ ap (λ (qs : List ConfiguredQueue). get_or qs c.loop-queue.queue-index c.queue-item.result) same)
+
+pub returns-clause-found : goal.returns-clause-found
+returns-clause-found c name =
+    let own = ap (λ (k : Configuration). k.queues) c.config.view_is in
+    let same : c.as_slice-queue-items.result.now ≡ c.args.config.now.queues = c.as_slice-queue-items.ensures.value ∙ own in
+    let over : length c.args.config.now.queues ≤ c.loop-queue.queue-index = subst (λ (qs : List ConfiguredQueue). length qs ≤ c.loop-queue.queue-index) same c.loop-queue-test.false in
+    let made : c.loop-queue.house ≡ new_world c.args.config.now c.args.at =
+    c.loop-queue.invariant
+    ∙ ap (λ (qs : List ConfiguredQueue). new_world (record { limits = c.args.config.now.limits; queues = qs; alarms = c.args.config.now.alarms }) c.args.at) (take_all c.loop-queue.queue-index c.args.config.now.queues over) in
+    ap (λ (w : World). found_uid w name) made ∙ found-configured c.args.config.now c.args.at name
