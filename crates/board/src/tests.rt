@@ -67,6 +67,27 @@ fn told(sheet: &Sheet) -> (u64, u64, u64) {
     )
 }
 
+/// The command that sends a body, and a look where it is empty.
+fn command(alloc: Global, body: &str) -> Result<Command, Fault> {
+    if body.is_empty() {
+        Ok(Command::Look)
+    } else {
+        send(alloc, body)
+    }
+}
+
+/// Whether two sheets show the same, with their clocks or without.
+fn shows_as(one: &Sheet, other: &Sheet, with_clock: bool) -> bool {
+    let is_clock_same = one.clock == other.clock || !with_clock;
+    let is_queue_same = one.lines == other.lines && one.gauges == other.gauges;
+    let are_rows_same = one.rows.as_slice() == other.rows.as_slice();
+    is_clock_same
+        && is_queue_same
+        && are_rows_same
+        && one.current == other.current
+        && alarm(one) == alarm(other)
+}
+
 /// The name and the state of the alarm of a sheet, where it has one alone.
 fn alarm(sheet: &Sheet) -> Option<(&str, AlarmState)> {
     match sheet.alarms.as_slice() {
@@ -109,10 +130,13 @@ impl<R: Wait + Copy + Drop> Talk<R> {
         Ok(Talk { desk, pass, reader })
     }
 
-    /// The same, begun once more where it finds no memory.
-    fn open_twice(host: &HostRuntime, rt: R) -> Result<Talk<R>, Fault> {
+    /// The same, begun once more where it finds no memory, which is counted.
+    fn open_twice(host: &HostRuntime, rt: R, refused: &mut u32) -> Result<Talk<R>, Fault> {
         match Talk::open(host, rt) {
-            Err(Fault::OutOfMemory) => Talk::open(host, rt),
+            Err(Fault::OutOfMemory) => {
+                *refused = refused.saturating_add(1);
+                Talk::open(host, rt)
+            }
             made => made,
         }
     }
@@ -139,25 +163,63 @@ impl<R: Wait + Copy + Drop> Talk<R> {
         Ok(true)
     }
 
-    /// Asks a command that the reader learns of, once more where it finds no memory.
+    /// What is read, once more where it finds no memory, which is counted.
+    fn read_twice(&mut self, alloc: Global, refused: &mut u32) -> Result<Sheet, Fault> {
+        match self.reader.read(alloc) {
+            Err(Fault::OutOfMemory) => {
+                *refused = refused.saturating_add(1);
+                self.reader.read(alloc)
+            }
+            sheet => sheet,
+        }
+    }
+
+    /// Asks a command that the reader learns of. Where it finds no memory, the reader reads what it read before, but for the
+    /// clock, and the command is asked again. Where its turn finds none, the reader reads the old sheet, and a look is
+    /// asked, with whose turn the other is printed. Both are counted.
     fn ask_twice<W: Wait>(
         &mut self,
         rt: &W,
         alloc: Global,
         command: &Command,
-    ) -> Result<bool, Fault> {
-        match self.ask(rt, alloc, command, true) {
-            Err(Fault::OutOfMemory) => self.ask(rt, alloc, command, true),
-            told => told,
+        refused: &mut u32,
+    ) -> Result<(), Fail> {
+        let before = self.read_twice(alloc, refused)?;
+        let answer = self.ask(rt, alloc, command, true);
+        if answer == Ok(true) {
+            return Ok(());
         }
+        *refused = refused.saturating_add(1);
+        let is_printed_later = answer == Ok(false);
+        let behind = self.read_twice(alloc, refused)?;
+        let next = if is_printed_later {
+            &Command::Look
+        } else {
+            command
+        };
+        let is_told = self.ask(rt, alloc, next, true)?;
+        if is_told && shows_as(&behind, &before, is_printed_later) {
+            return Ok(());
+        }
+        Err(Fail::new("it has changed what is read, or nothing is told"))
     }
 
-    /// What is read, once more where it finds no memory.
-    fn read_twice(&mut self, alloc: Global) -> Result<Sheet, Fault> {
-        match self.reader.read(alloc) {
-            Err(Fault::OutOfMemory) => self.reader.read(alloc),
-            sheet => sheet,
+    /// Asks for each text that it is sent, or a look where it is empty, and reads what stands beside it.
+    fn go_through<W: Wait>(
+        &mut self,
+        rt: &W,
+        alloc: Global,
+        refused: &mut u32,
+    ) -> Result<(), Fail> {
+        for (body, wanted) in [("a", (2, 1000, 1)), ("", (2, 1000, 1)), ("b", (3, 1000, 2))] {
+            let command = command(alloc, body).or_else(|_| command(alloc, body))?;
+            self.ask_twice(rt, alloc, &command, refused)?;
+            let read = told(&self.read_twice(alloc, refused)?);
+            if read != wanted {
+                return Err(Fail::new(format_args!("{body}: {read:?}, not {wanted:?}")));
+            }
         }
+        Ok(())
     }
 }
 
@@ -196,16 +258,18 @@ fn a_turn_is_read_that_nobody_was_told_of(rt: HostRuntime) -> Result<(), Fail> {
     Ok(())
 }
 
-/// What a reader learnt is what it reads, also where a turn could not be printed and comes with the next one.
-/// The gate runs this with ample memory; `rt try --test --fail-alloc N -- refused_memory` refuses the Nth
-/// allocation.
+/// What a reader learnt is what it reads, also where a turn could not be printed and comes with the next one. All is asked
+/// twice from the start, and forgiven once: with ample memory, as the gate runs this, a call that gave up would do so
+/// twice. `rt try --test --fail-alloc N -- refused_memory` refuses the Nth allocation.
 #[test]
 fn refused_memory(rt: HostRuntime) -> Result<(), Fail> {
     let alloc = rt.alloc();
-    let mut talk = Talk::open_twice(&rt, &rt)?;
-    let first = send(alloc, "a").or_else(|_| send(alloc, "a"))?;
-    let printed = talk.ask_twice(&rt, alloc, &first)?;
-    assert!(rt; printed || talk.ask(&rt, alloc, &Command::Look, true)?);
-    assert_eq!(rt; told(&talk.read_twice(alloc)?), (2, 1000, 1));
+    let mut refused: u32 = 0;
+    for _ in 0..2 {
+        let mut talk = Talk::open_twice(&rt, &rt, &mut refused)?;
+        assert_eq!(rt; told(&talk.read_twice(alloc, &mut refused)?), (1, 0, 0));
+        talk.go_through(&rt, alloc, &mut refused)?;
+    }
+    assert!(rt; refused <= 1);
     Ok(())
 }

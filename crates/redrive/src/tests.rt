@@ -7,8 +7,9 @@
 //! the clock, the entries of the journal, and how many messages are visible, delayed and in flight.
 
 mod talk;
+mod told;
 
-use crate::{Catalog, House, HouseReply, HouseRun, HouseStep, QueueMetrics};
+use crate::{Catalog, House, HouseReply, HouseRun, HouseStep, Moved, QueueMetrics};
 use journal::{Moment, Ticks};
 use message::{Content, Fault, QueueName};
 use queue_config::{Wish, config_from_text};
@@ -16,7 +17,7 @@ use queue_core::{Command, Look, Maximum, Reply};
 use std::alloc::Global;
 use std::fmt::Debug;
 use std::test::Fail;
-use talk::Talk;
+use talk::{Plan, Talk};
 
 /// A step reaches the queue of its uid alone, and time reaches all. A policy names a queue by its name
 /// and its uid. No step closes a queue or moves a dead letter, whether or not its queue is there.
@@ -79,16 +80,72 @@ hand 2 5 => None
 create jobs 5 RedrivePolicy= => created 2
 look 2 5 => 5 9 1 0 0"#;
 
-/// A source whose journal of four entries is full cannot confirm: the parcel waits, and is accepted once.
-const FULL: &str = r#"create dlq 0 => created 1
-create jobs 0 VisibilityTimeout=1 RedrivePolicy={"deadLetterTargetArn":"arn:aws:sqs:::dlq","maxReceiveCount":1} => created 2
-send 2 1000 => sent 0
+/// Two configured queues with journals of four entries.
+const SMALL: &str = r#"[limits]
+max_lines = 4
+
+[[queue]]
+name = "dead"
+
+[[queue]]
+name = "jobs"
+visibility_timeout = 1
+dead_letter_queue = "dead"
+max_receive_count = 1
+"#;
+
+/// A source whose journal is full cannot confirm: the parcel waits, and is accepted once.
+const FULL: &str = "send 2 1000 => sent 0
 receive 2 2000 => offered 1
 receive 2 3000 => offered 0
 move 2 3000 => JournalFull
+look 1 0 => 3000 2 1 0 0
 move 2 3000 => JournalFull
-look 1 3000 => 3000 2 1 0 0
-look 2 3000 => 3000 4 0 0 0"#;
+look 1 0 => 3000 2 1 0 0
+look 2 0 => 3000 4 0 0 0";
+
+/// Two configured queues, of which the first keeps messages for a minute.
+const PAIR: &str = r#"[[queue]]
+name = "dead"
+retention_seconds = 60
+
+[[queue]]
+name = "jobs"
+visibility_timeout = 1
+dead_letter_queue = "dead"
+max_receive_count = 1
+"#;
+
+/// The first of two messages is received again, and leaves.
+const LEAVES: &str = "send 2 1000 => sent 0
+receive 2 3000 => offered 1
+send 2 4500 => sent 1
+receive 2 5000 => offered 1";
+
+/// It arrives, is received there, and stays until a minute after it was sent first.
+const ARRIVED: &str = "move 2 5000 => Arrived or Again
+receive 1 6000 => offered 1
+look 1 60000 => 60000 3 1 0 0
+row 1 0 => Some(Row { minute: 0, flows: Flows { sent: 0, sent_size: 0, received: 1, empty_receives: 0, deleted: 0, refused: 0, dead_letters_arrived: 1 }, gauges: Gauges { visible: 1, delayed: 0, in_flight: 0, age: 54 } })
+look 1 60999 => 60999 3 1 0 0
+look 1 61000 => 61000 3 0 0 0";
+
+/// It arrives once, however often it is asked for. The question for a parcel moves no clock.
+const ONCE: &str = "hand 2 5000 => Arrived
+move 2 5001 => Again or Again
+move 2 5002 => None
+parcel 2 9000 => Performed(Parcel(None))
+look 1 0 => 5001 2 1 0 0
+look 2 0 => 5001 6 0 0 1";
+
+/// Where the queue that had accepted it is gone, it comes back, to a queue without a policy.
+const GONE: &str = "hand 2 5000 => Arrived
+drop 1 5001 => ()
+state 1 => false
+move 2 5002 => Orphaned
+look 2 0 => 5002 6 1 0 1
+create jobs 5002 VisibilityTimeout=1 RedrivePolicy= => created 2
+move 2 5002 => None";
 
 /// A queue beside two that are configured. Journals of four and of eight entries have no room left.
 const MADE: &str = "find dlq => Some(2)
@@ -134,7 +191,7 @@ const HANDED: &str = "hand 2 1900 => Arrived
 look 1 0 => 1900 5 4 0 0
 look 2 0 => 1000 4 0 0 0
 hand 2 1900 => Again
-move 2 1950 => Again
+move 2 1950 => Again or Again
 look 1 0 => 1950 5 4 0 0
 look 2 0 => 1950 5 0 0 0
 move 2 2000 => None
@@ -143,7 +200,7 @@ move 9 2000 => QueueDoesNotExist
 hand 9 2000 => QueueDoesNotExist";
 
 /// The dead-letter queue is gone, and the message comes back, to a queue without a policy.
-const BACK: &str = "delete 1 1900 => deleted 1: 1900 5 0 0 0
+const BACK: &str = "drop 1 1900 => ()
 create jobs 1900 RedrivePolicy= => QueueNameExists
 move 2 1900 => Orphaned
 look 2 0 => 1900 5 1 0 0
@@ -182,26 +239,36 @@ look 2 0 => 1900 5 0 0 0";
 /// Steps are answered alike one by one and in a list, and a list counts the queues at its end.
 #[test]
 fn answers_steps(rt: HostRuntime) -> Result<(), Fail> {
-    let small = "[limits]\nmax_lines = 3\n";
+    let (config, texts) = ("[limits]\nmax_lines = 3\n", ["", ""]);
     let mut refused: u32 = 0;
-    Talk::after(&rt, small, STEPS, &mut refused)?;
-    Talk::after(&rt, small, "", &mut refused)?.list(STEPS, "3 1:2 3:0 4:0", &mut refused)?;
-    Talk::after(&rt, "", "", &mut refused)?.list(HALVES, "1 2:1", &mut refused)?;
-    Talk::after(&rt, "[limits]\nmax_lines = 4\n", FULL, &mut refused)?;
+    let steps = [STEPS, ""];
+    Talk::after(
+        &rt,
+        Plan {
+            config,
+            texts: steps,
+        },
+        &mut refused,
+    )?;
+    for (config, text, counts) in [(config, STEPS, "3 1:2 3:0 4:0"), ("", HALVES, "1 2:1")] {
+        let plan = Plan { config, texts };
+        Talk::after(&rt, plan, &mut refused)?.list(&rt, plan, text, counts, &mut refused)?;
+    }
     assert!(rt; refused <= 1);
     Ok(())
 }
 
-/// Calls whose allocation is refused answer `OutOfMemory` and give their values when they are made again: a
-/// create that is refused uses up no uid, a queue whose deletion is refused is still there, and a parcel
-/// that is refused still waits. That they change nothing but clocks is said by clauses. All is held twice from the
-/// start, and forgiven once: with ample memory, as the gate runs this, a call that gave up would do so twice.
+/// Calls whose allocation is refused answer `OutOfMemory`. All queues tell then what they told before, but for the
+/// clock of the one that the call had come to, and the call gives its value when it is made again. A move that had
+/// handed its parcel over leaves it waiting, and is answered `Again`. All is held twice from the start, and
+/// forgiven once: with ample memory, as the gate runs this, a call that gave up would do so twice.
 /// `rt try --test --fail-alloc N -- refused_memory` refuses the Nth allocation.
 #[test]
 fn refused_memory(rt: HostRuntime) -> Result<(), Fail> {
     let mut refused: u32 = 0;
     for _ in 0..2 {
         hold_all(&rt, &mut refused)?;
+        run_all(&rt, &mut refused)?;
     }
     assert!(rt; refused <= 1);
     Ok(())
@@ -209,23 +276,41 @@ fn refused_memory(rt: HostRuntime) -> Result<(), Fail> {
 
 /// Has each conversation once, and counts the calls that were made again.
 fn hold_all(rt: &HostRuntime, refused: &mut u32) -> Result<(), Fail> {
-    let config = "[[queue]]\nname = \"jobs\"\n[[queue]]\nname = \"dlq\"\n";
-    Talk::after(rt, config, MADE, refused)?.hold(NAMES, refused)?;
-    for text in [TAKEN, HANDED, MOVED, BACK] {
-        Talk::after(rt, "", LEFT, refused)?.hold(text, refused)?;
+    let named = "[[queue]]\nname = \"jobs\"\n[[queue]]\nname = \"dlq\"\n";
+    for (config, texts) in [
+        (named, [MADE, NAMES]),
+        (SMALL, [FULL, ""]),
+        (PAIR, [LEAVES, ARRIVED]),
+        (PAIR, [LEAVES, ONCE]),
+        (PAIR, [LEAVES, GONE]),
+        ("", [LEFT, TAKEN]),
+        ("", [LEFT, HANDED]),
+        ("", [LEFT, MOVED]),
+        ("", [LEFT, BACK]),
+    ] {
+        Talk::after(rt, Plan { config, texts }, refused)?;
     }
+    Ok(())
+}
+
+/// The same of lists of steps, and what a look sees behind them.
+fn run_all(rt: &HostRuntime, refused: &mut u32) -> Result<(), Fail> {
     let steps =
         "send 1 1900 => sent 3\ncreate other 1900 => created 3\ndelete 2 1900 => deleted 2: 1900 5 0 0 0";
-    Talk::after(rt, "", LEFT, refused)?.list(steps, "2 1:4 3:0", refused)?;
-    let mut talk = Talk::after(rt, "", LEFT, refused)?;
-    talk.list("hand 2 1900 => Arrived", "2 1:4 2:0", refused)?;
-    talk.list(
-        "confirm 2 1900 => Confirmed(Settled(true))",
-        "2 1:4 2:0",
-        refused,
-    )?;
-    talk.hold(
-        "look 1 0 => 1900 5 4 0 0\nlook 2 0 => 1900 5 0 0 0",
-        refused,
-    )
+    let hand = "hand 2 1900 => Arrived";
+    let confirm = "confirm 2 1900 => Confirmed(Settled(true))";
+    for (before, text, counts, looks) in [
+        ("", steps, "2 1:4 3:0", "look 1 0 => 1900 5 4 0 0"),
+        ("", hand, "2 1:4 2:0", "look 2 0 => 1000 4 0 0 0"),
+        (hand, confirm, "2 1:4 2:0", "look 2 0 => 1900 5 0 0 0"),
+    ] {
+        let plan = Plan {
+            config: "",
+            texts: [LEFT, before],
+        };
+        let mut talk = Talk::after(rt, plan, refused)?;
+        talk.list(rt, plan, text, counts, refused)?;
+        talk.hold(rt, plan, looks, refused)?;
+    }
+    Ok(())
 }

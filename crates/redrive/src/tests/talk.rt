@@ -1,14 +1,23 @@
 //! Conversations with a registry and a name directory.
 
+use super::told::told_by;
 use super::*;
 
-/// A registry, a name directory, what their calls take, and what was told last.
+/// A registry, a name directory, what their calls take, what was told last, and how many lines were had.
 pub(super) struct Talk {
     alloc: Global,
     house: House,
     catalog: Catalog,
     ticks: Ticks,
     text: String,
+    had: usize,
+}
+
+/// The configuration of a registry, and two conversations, one behind the other.
+#[derive(Clone, Copy)]
+pub(super) struct Plan {
+    pub(super) config: &'static str,
+    pub(super) texts: [&'static str; 2],
 }
 
 /// Written out, so that a function which lets a conversation go has one step for all its parts in its proof.
@@ -20,6 +29,7 @@ impl Drop for Talk {
             catalog: _catalog,
             ticks: _ticks,
             text: _text,
+            had: _had,
         } = self;
     }
 }
@@ -81,6 +91,7 @@ fn command(alloc: Global, call: &str, number: u64, line: &str) -> Result<Command
         "settle" => Ok(Command::Settle { number }),
         "orphan" => Ok(Command::Orphan { target: number }),
         "close" => Ok(Command::Close),
+        "parcel" => Ok(Command::FirstParcel),
         _ => Ok(Command::Look),
     }
 }
@@ -105,7 +116,7 @@ fn step(alloc: Global, line: &str) -> Result<HouseStep, Fault> {
 }
 
 /// Tells a value as it prints itself.
-fn tell<T: Debug>(text: &mut String, value: &T) -> Result<(), Fault> {
+pub(super) fn tell<T: Debug>(text: &mut String, value: &T) -> Result<(), Fault> {
     Ok(write!(text, "{value:?}")?)
 }
 
@@ -167,7 +178,7 @@ impl Talk {
     /// A registry with the limits and the queues of a configuration, and an empty directory.
     fn open(rt: &HostRuntime, config: &str) -> Result<Talk, Fault> {
         let (alloc, ticks) = (rt.alloc(), Ticks::new(rt));
-        let text = String::with_capacity(alloc, 200)?;
+        let text = String::with_capacity(alloc, 300)?;
         let catalog = Catalog::new(alloc)?;
         let house = configured(alloc, config)?;
         Ok(Talk {
@@ -176,46 +187,69 @@ impl Talk {
             catalog,
             ticks,
             text,
+            had: 0,
         })
     }
 
-    /// The same after a conversation. One that finds no memory to begin with begins again, which is counted.
-    pub(super) fn after(
-        rt: &HostRuntime,
-        config: &str,
-        text: &str,
-        refused: &mut u32,
-    ) -> Result<Talk, Fail> {
-        let mut talk = match Talk::open(rt, config) {
+    /// The same after the conversations of a plan. One that finds no memory to begin with begins again, which is counted.
+    pub(super) fn after(rt: &HostRuntime, plan: Plan, refused: &mut u32) -> Result<Talk, Fail> {
+        let mut talk = match Talk::open(rt, plan.config) {
             Err(Fault::OutOfMemory) => {
                 *refused = refused.saturating_add(1);
-                Talk::open(rt, config)?
+                Talk::open(rt, plan.config)?
             }
             talk => talk?,
         };
-        talk.hold(text, refused)?;
+        for text in plan.texts {
+            talk.hold(rt, plan, text, refused)?;
+        }
         Ok(talk)
     }
 
+    /// A talk by the plan that has come to as many lines, and was refused nothing.
+    fn twin(&self, rt: &HostRuntime, plan: Plan) -> Result<Talk, Fault> {
+        let mut twin = Talk::open(rt, plan.config)?;
+        for text in plan.texts {
+            for line in text.lines().take(self.had.saturating_sub(twin.had)) {
+                let (call, _) = line.split_once(" => ").unwrap_or((line, ""));
+                let step = step(self.alloc, call)?;
+                drop(twin.call(call, &step));
+                twin.had = twin.had.saturating_add(1);
+            }
+        }
+        Ok(twin)
+    }
+
+    /// The step of a line, made once more where it finds no memory, which is counted.
+    fn step(&self, line: &str, refused: &mut u32) -> Result<HouseStep, Fault> {
+        match step(self.alloc, line) {
+            Err(Fault::OutOfMemory) => {
+                *refused = refused.saturating_add(1);
+                step(self.alloc, line)
+            }
+            step => step,
+        }
+    }
+
     /// Makes the call of a step.
-    fn make(&mut self, step: HouseStep) -> Result<HouseReply, Fault> {
+    fn make(&mut self, step: &HouseStep) -> Result<HouseReply, Fault> {
         let (alloc, house, ticks) = (self.alloc, &mut self.house, &mut self.ticks);
         match step {
             HouseStep::Create { at, name, wish } => {
-                Ok(HouseReply::Created(house.create(alloc, at, name, wish)?))
+                Ok(HouseReply::Created(house.create(alloc, *at, *name, *wish)?))
             }
             HouseStep::Delete { at, uid } => {
-                Ok(HouseReply::Deleted(house.take_queue(alloc, uid, at, ticks)?))
+                Ok(HouseReply::Deleted(house.take_queue(alloc, *uid, *at, ticks)?))
             }
             HouseStep::Perform { at, uid, command } => {
-                Ok(HouseReply::Performed(house.step(alloc, uid, at, &command, ticks)?))
+                Ok(HouseReply::Performed(house.step(alloc, *uid, *at, command, ticks)?))
             }
             HouseStep::HandOver { at, source } => {
-                Ok(HouseReply::HandedOver(Ok(house.arrive_one(alloc, source, at, ticks)?)))
+                Ok(HouseReply::HandedOver(Ok(house.arrive_one(alloc, *source, *at, ticks)?)))
             }
             HouseStep::Confirm { .. } => Err(Fault::UnsupportedOperation),
             HouseStep::Advance { at } => {
-                house.advance_all(at, ticks);
+                house.advance_all(*at, ticks);
                 Ok(HouseReply::Advanced)
             }
         }
@@ -239,9 +273,8 @@ impl Talk {
         }
     }
 
-    /// Makes the call of a line that is a step, and tells its answer.
-    fn act(&mut self, line: &str) -> Result<(), Fault> {
-        let step = step(self.alloc, line)?;
+    /// Makes the call of a step, and tells its answer.
+    fn act(&mut self, step: &HouseStep) -> Result<(), Fault> {
         let mut answer = self.make(step);
         match answer {
             Err(fault) => Err(fault),
@@ -249,21 +282,92 @@ impl Talk {
         }
     }
 
-    /// Makes the call of a line, and tells its answer.
-    fn call(&mut self, line: &str) -> Result<(), Fault> {
+    /// Makes the call of a line, which may be a step, and tells its answer.
+    fn call(&mut self, line: &str, step: &HouseStep) -> Result<(), Fault> {
         let (call, name, uid, at, _) = parts(line);
         let (alloc, house, text) = (self.alloc, &mut self.house, &mut self.text);
         text.clear();
         match call {
             "find" => tell(text, &house.find(&QueueName::read(name)?)),
             "state" => tell(text, &house.state(uid).is_some()),
+            "row" => tell(
+                text,
+                &house
+                    .state(uid)
+                    .and_then(|queue| queue.row(at.milliseconds())),
+            ),
             "list" => tell_names(text, &house.list(alloc, name)?),
             "sources" => tell_names(text, &house.sources(alloc, uid)?),
             "move" => tell(text, &house.move_one(alloc, uid, at, &mut self.ticks)?),
             "drop" => tell(text, &house.delete_queue(alloc, uid, at, &mut self.ticks)?),
             "entry" | "names" | "users" | "remove" | "target" | "add" => self.look_up(line),
-            _ => self.act(line),
+            _ => self.act(step),
         }
+    }
+
+    /// The uid of the queue whose clock moves where the call finds no memory for an entry, and 0 where there is none.
+    fn moved(&self, call: &str, uid: u64) -> u64 {
+        match call {
+            "send" | "receive" | "set" | "delete" | "drop" => uid,
+            "hand" | "move" => {
+                let first = self
+                    .house
+                    .state(uid)
+                    .and_then(|queue| queue.first_waiting());
+                match first {
+                    Some((_, target)) if self.house.state(target).is_some() => target,
+                    Some(_) => uid,
+                    None => 0,
+                }
+            }
+            _ => 0,
+        }
+    }
+
+    /// Moves the clock of the queue of a uid.
+    fn look(&mut self, uid: u64, at: Moment) {
+        let look = self
+            .house
+            .step(self.alloc, uid, at, &Command::Look, &mut self.ticks);
+        drop(look);
+    }
+
+    /// Whether a parcel was handed over.
+    fn hand(&mut self, uid: u64, at: Moment) -> bool {
+        let (alloc, house, ticks) = (self.alloc, &mut self.house, &mut self.ticks);
+        let moved = house.arrive_one(alloc, uid, at, ticks);
+        moved == Ok(Moved::Arrived) || moved == Ok(Moved::Again)
+    }
+
+    /// All that the queues tell.
+    fn told(&mut self) -> Result<String, Fault> {
+        let (alloc, house, ticks) = (self.alloc, &mut self.house, &mut self.ticks);
+        told_by(alloc, house, ticks)
+    }
+
+    /// Whether two registries tell the same.
+    fn tells_as(&mut self, other: &mut Talk) -> Result<bool, Fault> {
+        let (told, wanted) = (self.told()?, other.told()?);
+        Ok(told.as_str() == wanted.as_str())
+    }
+
+    /// Whether the call of a line, which found no memory, has done the first half of a move. It has done no more:
+    /// the queues tell what they told before, at the moment of the call; or what they tell where a parcel was handed
+    /// over, and its source then looked at.
+    fn is_half_done(&mut self, rt: &HostRuntime, plan: Plan, line: &str) -> Result<bool, Fail> {
+        let (call, _, uid, at, _) = parts(line);
+        let mut twin = self.twin(rt, plan)?;
+        let moved = twin.moved(call, uid);
+        twin.look(moved, at);
+        if self.tells_as(&mut twin)? {
+            return Ok(false);
+        }
+        let is_move = call == "move" && twin.hand(uid, at);
+        twin.look(uid, at);
+        if is_move && self.tells_as(&mut twin)? {
+            return Ok(true);
+        }
+        Err(Fail::new(format_args!("{line}: it has changed what is told")))
     }
 
     /// Makes the call of a line at the name directory, and tells its answer.
@@ -287,25 +391,34 @@ impl Talk {
         }
     }
 
-    /// Has a conversation, in which each call has to answer what its line says. One that finds no memory
-    /// is made again, which is counted, and may then answer what stands behind `or`.
-    pub(super) fn hold(&mut self, text: &str, refused: &mut u32) -> Result<(), Fail> {
+    /// Has a conversation, in which each call has to answer what its line says. One that finds no memory is made
+    /// again, which is counted, and answers what stands behind `or` where its first half was done.
+    pub(super) fn hold(
+        &mut self,
+        rt: &HostRuntime,
+        plan: Plan,
+        text: &str,
+        refused: &mut u32,
+    ) -> Result<(), Fail> {
         for line in text.lines() {
             let (call, wanted) = line.split_once(" => ").ok_or("an answer")?;
-            let (wanted, or) = wanted.split_once(" or ").unwrap_or((wanted, wanted));
-            let mut answer = self.call(call);
-            let is_again = answer == Err(Fault::OutOfMemory);
-            if is_again {
+            let (mut wanted, or) = wanted.split_once(" or ").unwrap_or((wanted, ""));
+            let step = self.step(call, refused)?;
+            let mut answer = self.call(call, &step);
+            if answer == Err(Fault::OutOfMemory) {
                 *refused = refused.saturating_add(1);
-                answer = self.call(call);
+                wanted = if self.is_half_done(rt, plan, call)? {
+                    or
+                } else {
+                    wanted
+                };
+                answer = self.call(call, &step);
             }
             if let Err(fault) = answer {
                 self.tell(&mut Err(fault))?;
             }
-            let told = self.text.as_str();
-            if !is_again || told != or {
-                same(line, told, wanted)?;
-            }
+            same(line, self.text.as_str(), wanted)?;
+            self.had = self.had.saturating_add(1);
         }
         Ok(())
     }
@@ -366,10 +479,18 @@ impl Talk {
     /// Runs a list of steps, each of which has to answer what its line says, and counts the queues after
     /// it: how many there are, and each by its uid and its visible messages. A list that finds no memory for what
     /// it gives is run again, which is counted.
-    pub(super) fn list(&mut self, text: &str, counts: &str, refused: &mut u32) -> Result<(), Fail> {
+    pub(super) fn list(
+        &mut self,
+        rt: &HostRuntime,
+        plan: Plan,
+        text: &str,
+        counts: &str,
+        refused: &mut u32,
+    ) -> Result<(), Fail> {
         let mut run = match self.run(text) {
             Err(Fault::OutOfMemory) => {
                 *refused = refused.saturating_add(1);
+                same(text, self.is_half_done(rt, plan, "")?, false)?;
                 self.run(text)?
             }
             run => run?,
