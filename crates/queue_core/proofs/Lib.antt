@@ -21,6 +21,7 @@ mod PairLemmas
 mod IndexedLemmas
 mod StateLemmas
 mod RefusalLemmas
+pub mod OwnRefusalLemmas
 pub mod LastingLemmas
 mod CountedLemmas
 mod WindowLemmas

@@ -20,6 +20,7 @@ pub mod Watched
 pub mod Turns
 pub mod Stops
 pub mod Lasting
+pub mod Refusals
 pub mod Cost
 pub mod Spending
 pub mod Effects

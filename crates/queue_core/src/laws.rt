@@ -1,12 +1,13 @@
 //! Laws about the definitions in `specs/`, for every journal and every queue. Nothing runs here:
 //! each function is empty, and its contract is the law.
 
-ghost use Rattle.std.specs.Prelude.{◌≡◌, ◌≢◌, ℕ, ◌+◌, ◌-◌, ◌*◌, ◌≤◌, ◌<◌, min, true, count_by, List, [], ◌∷◌, ◌++◌, map, length, Option, Some, None, Result, Ok, Err, IsTrue};
+ghost use Rattle.std.specs.Prelude.{◌≡◌, ◌≢◌, ℕ, ◌+◌, ◌-◌, ◌*◌, ◌≤◌, ◌<◌, min, true, false, count_by, List, [], ◌∷◌, ◌++◌, map, length, Option, Some, None, Result, Ok, Err, IsTrue};
 ghost use Rattle.std.specs.List.{All, AllPairs, Contains};
 ghost use Rattle.message.specs.declared.fault.Fault.{Fault};
 ghost use Rattle.message.specs.Fault.{Meets};
 ghost use Rattle.message.specs.Content.{ContentText, content_size};
 ghost use Rattle.journal.specs.declared.entry.Entry.{Entry};
+ghost use Rattle.journal.specs.declared.entry.Event.TheVariants.{Refused};
 ghost use Rattle.queue_core.specs.declared.command.Command.{Command};
 ghost use Rattle.queue_core.specs.declared.command.Command.TheVariants.{Send, Look};
 ghost use Rattle.queue_core.specs.declared.command.Step.{Step};
@@ -20,6 +21,7 @@ ghost use Rattle.queue_core.specs.Messages.{messages, settings_of, receive_count
 ghost use Rattle.queue_core.specs.States.{is_live, is_in_state, count_in_state, gauges_of, candidate_of, receive_order};
 ghost use Rattle.queue_core.specs.Queue.{QueueHistory, at_moment, reached, outcome_at, with_event, after_answer, look_of, in_flight_count, scanned_candidates, offered_candidates, leaving_candidates, received_event, offers_of, numbers_of};
 ghost use Rattle.queue_core.specs.Lasting.{StandsAs, content_numbered};
+ghost use Rattle.queue_core.specs.Refusals.{is_own_refusal, LastsAs};
 ghost use Rattle.queue_core.specs.Run.{AreExact, after_all};
 ghost use Rattle.journal.specs.Mark.{mark_of};
 ghost use Rattle.queue_core.specs.Turns.{ComesBefore, remaining_candidates, IsVisibleCandidate};
@@ -116,6 +118,20 @@ pub fn refused_calls_change_nothing()
     ensures stands { (q : QueueHistory) (at : ℕ) (command : Command) (fault : Fault)
         → Meets {T = Reply} (Err fault) (outcome_at q at command).reply
         → StandsAs (after_answer {T = Reply} q at command (Err fault)) (reached q at command) }
+{}
+
+/// A queue's own refusals are `InvalidParameterValue`, `ReceiptHandleIsInvalid`, `MessageNotInflight` and
+/// `OverLimit`: each adds the one entry that records it, and no other refusal adds an entry. That entry
+/// changes nothing but the count of refused calls: at every later moment the queue stands as the queue
+/// that never got the call, with the same messages due at the same times and expired.
+pub fn own_refusals_change_nothing_later()
+    ensures entry { (q : QueueHistory) (at : ℕ) (command : Command) (fault : Fault)
+        → (outcome_at q at command).reply ≡ Err fault → is_own_refusal fault ≡ true
+        → after_answer {T = Reply} q at command (Err fault) ≡ with_event (reached q at command) (Refused fault) }
+    ensures no_other { (q : QueueHistory) (at : ℕ) (command : Command) (fault : Fault)
+        → (outcome_at q at command).reply ≡ Err fault → is_own_refusal fault ≡ false
+        → after_answer {T = Reply} q at command (Err fault) ≡ reached q at command }
+    ensures lasts { (q : QueueHistory) (fault : Fault) → LastsAs (with_event q (Refused fault)) q }
 {}
 
 /// A message that is gone stays so, whatever commands follow, at whatever moments and with whatever

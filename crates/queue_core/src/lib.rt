@@ -56,8 +56,8 @@ pub use laws::{
     as_many_are_offered_as_may_be, each_live_message_is_in_one_state,
     each_visible_message_has_its_turn, gauges_need_no_content, looks_tell_what_the_journal_says,
     messages_need_no_content, no_message_is_offered_early, numbers_name_contents,
-    offers_are_the_first_in_order, refused_calls_change_nothing, replies_offer_what_lines_record,
-    what_is_gone_stays_gone,
+    offers_are_the_first_in_order, own_refusals_change_nothing_later, refused_calls_change_nothing,
+    replies_offer_what_lines_record, what_is_gone_stays_gone,
 };
 pub use metric_laws::{
     alarms_look_at_rows_of_the_window, refused_calls_count_once, rows_add_up_to_the_journal,

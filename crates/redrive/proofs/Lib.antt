@@ -16,3 +16,4 @@ pub mod HistoryLemmas
 pub mod ToldLemmas
 pub mod RunLemmas
 pub mod transfers
+pub mod RefusedLemmas

@@ -9,3 +9,4 @@ pub mod WorldRun
 pub mod Places
 pub mod TransferExamples
 pub mod Waiting
+pub mod Refused

@@ -1,13 +1,21 @@
 //! Laws about the definitions in `specs/`. Nothing runs here: each function is empty, and its
 //! contract is the law.
 
-ghost use Rattle.std.specs.Prelude.{ℕ, List, [], nat_eq, IsTrue};
+ghost use Rattle.std.specs.Prelude.{◌≡◌, ℕ, true, false, List, [], ◌∷◌, ◌++◌, length, nat_eq, Err, IsTrue};
 ghost use Rattle.std.specs.List.{All, Contains, IsDistinct, starts_with};
+ghost use Rattle.std.specs.Option.{option_map};
 ghost use Rattle.std.specs.Str.{bytes_eq};
+ghost use Rattle.message.specs.declared.fault.Fault.{Fault};
 ghost use Rattle.message.specs.Order.{is_ascending, text_before};
+ghost use Rattle.queue_core.specs.declared.command.Command.{Command};
+ghost use Rattle.queue_core.specs.Refusals.{is_own_refusal};
+ghost use Rattle.redrive.specs.declared.steps.HouseStep.{HouseStep};
+ghost use Rattle.redrive.specs.declared.steps.HouseStep.TheVariants.{Perform};
 ghost use Rattle.redrive.specs.History.{IsWholeHistory};
 ghost use Rattle.redrive.specs.Listing.{listed_names};
-ghost use Rattle.redrive.specs.World.{World, IsRegistry};
+ghost use Rattle.redrive.specs.Refused.{IsRefusedBy};
+ghost use Rattle.redrive.specs.World.{World, IsRegistry, queue_of_uid};
+ghost use Rattle.redrive.specs.WorldRun.{Answer, AreHouseAnswers, world_after, world_after_all};
 
 /// Of names that differ, each that is listed stands before the next in the order of their bytes, and
 /// the names listed are those that begin with the prefix.
@@ -26,4 +34,23 @@ pub fn listed_names_ascend()
 /// [`House::run`](crate::House::run) keep it one.
 pub fn histories_begin()
     ensures { (w : World) → IsRegistry w → IsWholeHistory (record { world = w; deleted = [] }) }
+{}
+
+/// Wherever it stands in a list of steps, as [`House::run`](crate::House::run) answers them, a command
+/// that its queue itself refuses leaves one entry there, which records that, and nothing else in the
+/// whole registry: at every later moment the queue stands as if the call had not been made. A command
+/// that is refused in any other way, or finds no memory, leaves every journal as it was.
+pub fn refused_steps_change_nothing()
+    ensures own { (w : World) (steps later : List HouseStep) (answers rest : List Answer) (at uid : ℕ) (command : Command) (fault : Fault)
+        → length steps ≡ length answers
+        → AreHouseAnswers w (steps ++ Perform at uid command ∷ later) (answers ++ Err fault ∷ rest)
+        → is_own_refusal fault ≡ true
+        → IsRefusedBy (world_after_all w steps answers) uid at command fault
+        (world_after (world_after_all w steps answers) (Perform at uid command) (Err fault)) }
+    ensures no_other { (w : World) (steps later : List HouseStep) (answers rest : List Answer) (at uid : ℕ) (command : Command) (fault : Fault)
+        → length steps ≡ length answers
+        → AreHouseAnswers w (steps ++ Perform at uid command ∷ later) (answers ++ Err fault ∷ rest)
+        → is_own_refusal fault ≡ false
+        → (other : ℕ) → option_map (λ q. q.lines) (queue_of_uid (world_after (world_after_all w steps answers) (Perform at uid command) (Err fault)) other)
+        ≡ option_map (λ q. q.lines) (queue_of_uid (world_after_all w steps answers) other) }
 {}

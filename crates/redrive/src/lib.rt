@@ -27,7 +27,7 @@ mod transfer_laws;
 
 pub use catalog::{Catalog, Registered, UID_LIMIT};
 pub use house::House;
-pub use laws::{histories_begin, listed_names_ascend};
+pub use laws::{histories_begin, listed_names_ascend, refused_steps_change_nothing};
 pub use listing::{in_order, is_same_name};
 pub use moved::Moved;
 pub use steps::{HouseReply, HouseRun, HouseStep, QueueMetrics};

@@ -193,7 +193,7 @@ record LeavesSame (s : QueueHistory) (new : World) (source : ℕ) : Type 0 where
   as_much : Same s.lines queue.lines
 
 -- what a command leaves of the queue of the uid that it comes to
-left-own : {T : Type 0} → (w : World) (uid at : ℕ) (command : Command) (answer : Result T Fault) (s : QueueHistory) → queue_of_uid w uid ≡ Some s
+pub left-own : {T : Type 0} → (w : World) (uid at : ℕ) (command : Command) (answer : Result T Fault) (s : QueueHistory) → queue_of_uid w uid ≡ Some s
     → queue_of_uid (world_after_command w uid at command answer) uid ≡ Some (after_answer s at command answer)
 left-own w uid at command answer s here =
     changed-queue w uid uid (λ q. after_answer q at command answer) true (λ q. after_answer-uid at command answer q) (eq-eqb uid uid refl)

@@ -1,0 +1,132 @@
+-- What a step leaves that a queue refuses, in a run of the registry.
+use Rattle.std.proofs.Common.{◌≡◌, ◌≢◌, ℕ, Bool, true, false, cond, nat_eq, List, [], ◌∷◌, ◌++◌, length, Option, Some, None, Result, Ok, Err, MatchBool, refl, sym, ap, subst, ◌∙◌, arith}
+use Rattle.std.specs.Prelude.{⊤}
+use Rattle.std.specs.Option.{option_map, option_map_or}
+use Rattle.std.proofs.lemmas.Bool.{eq-eqb, eqb-true, false≢true, ne_eqb}
+use Rattle.message.specs.declared.fault.Fault.{Fault}
+use Rattle.message.specs.declared.fault.Fault.TheVariants.{QueueDoesNotExist, InvalidAttributeValue, UnsupportedOperation}
+use Rattle.message.specs.Fault.{is_out_of_memory}
+use Rattle.queue_core.specs.declared.command.Command.{Command}
+use Rattle.queue_core.specs.declared.reply.Reply.{Reply}
+use Rattle.queue_core.specs.Queue.{QueueHistory, reached, outcome_at, with_optional_event, after_answer}
+use Rattle.queue_core.specs.Refusals.{is_own_refusal}
+use Rattle.queue_core.proofs.OwnRefusalLemmas.{own-answered, own-entry, no-entry, lasts}
+use Rattle.redrive.specs.declared.steps.HouseReply.{HouseReply}
+use Rattle.redrive.specs.declared.steps.HouseReply.TheVariants.{Performed}
+use Rattle.redrive.specs.declared.steps.HouseStep.{HouseStep}
+use Rattle.redrive.specs.declared.steps.HouseStep.TheVariants.{Perform}
+use Rattle.redrive.specs.Refused.{IsRefusedBy}
+use Rattle.redrive.specs.World.{World, queue_of_uid, has_queue, is_internal, may_set, step_refusal, queue_answer, step_answer, world_after_command}
+use Rattle.redrive.specs.WorldRun.{Answer, as_house_reply, world_after, IsAnswerOf, AreHouseAnswers, world_after_all}
+use Rattle.redrive.proofs.RegistryLemmas.{after_answer-uid, changed-queue}
+use Rattle.redrive.proofs.transfers.Commands.{reached-lines}
+use Rattle.redrive.proofs.transfers.Journals.{Lines}
+use Rattle.redrive.proofs.transfers.Waiting.{left-own}
+
+-- ---- one step
+
+-- what refuses a command before it comes to a queue is none of a queue's own refusals
+before-other : (there internal may : Bool) (fault : Fault)
+    → cond there (cond internal (Some UnsupportedOperation) (cond may None (Some InvalidAttributeValue))) (Some QueueDoesNotExist) ≡ Some fault → is_own_refusal fault ≡ false
+before-other false internal may fault h = let same : QueueDoesNotExist ≡ fault = cc in ap is_own_refusal (sym same)
+before-other true true may fault h = let same : UnsupportedOperation ≡ fault = cc in ap is_own_refusal (sym same)
+before-other true false true fault h = absurd cc
+before-other true false false fault h = let same : InvalidAttributeValue ≡ fault = cc in ap is_own_refusal (sym same)
+
+performed-refused : (fault : Fault) (r : Result Reply Fault) → ◌≡◌ {A = Answer} (Err fault) (as_house_reply Performed r) → r ≡ Err fault
+performed-refused fault (Ok reply) h = absurd cc
+performed-refused fault (Err other) h = let same : fault ≡ other = cc in ap (λ (f : Fault). Err f) (sym same)
+
+absent-refused : (fault : Fault) → ◌≡◌ {A = Result Reply Fault} (Err QueueDoesNotExist) (Err fault) → is_own_refusal fault ≡ false
+absent-refused fault h = let same : QueueDoesNotExist ≡ fault = cc in ap is_own_refusal (sym same)
+
+module _ (w : World) (at uid : ℕ) (command : Command) (fault : Fault) where
+  abbrev answer : Answer
+  answer = Err fault
+
+  abbrev left : QueueHistory → QueueHistory
+  left q = after_answer q at command answer
+
+  abbrev new : Option Fault → World
+  new refused = option_map_or (λ fault. w) refused (world_after_command w uid at command answer)
+
+  -- a queue's own refusal
+  module _ (own : is_own_refusal fault ≡ true) where
+    by_queue : (o : Option QueueHistory) → queue_of_uid w uid ≡ o → option_map_or (λ q. (outcome_at q at command).reply) o (Err QueueDoesNotExist) ≡ Err fault
+        → IsRefusedBy w uid at command fault (world_after_command w uid at command answer)
+    by_queue None is h = absurd (false≢true (sym (absent-refused fault h) ∙ own))
+    by_queue (Some q) is h = record {
+      queue = reached q at command;
+      there = ap (λ (o : Option QueueHistory). option_map (λ q. reached q at command) o) is;
+      entry = left-own w uid at command answer q is ∙ ap (λ (r : QueueHistory). Some r) (own-entry HouseReply q at command fault h own);
+      lasts = lasts (reached q at command) fault;
+      others = λ other differs. changed-queue w uid other left false (λ q. after_answer-uid at command answer q) (ne_eqb uid other (λ e. differs (sym e)));
+    }
+
+    by_refusal : (o : Option Fault) → step_refusal w uid command ≡ o → option_map_or (λ fault. Err fault) o (queue_answer w uid at command) ≡ Err fault → IsRefusedBy w uid at command fault (new o)
+    by_refusal (Some first) is h =
+        let same : first ≡ fault = cc in
+        absurd (false≢true (sym (before-other (has_queue w uid) (is_internal command) (may_set w uid command) fault (is ∙ ap (λ (f : Fault). Some f) same)) ∙ own))
+    by_refusal None is h = by_queue (queue_of_uid w uid) refl h
+
+    step-refused : IsAnswerOf w (Perform at uid command) answer → IsRefusedBy w uid at command fault (world_after w (Perform at uid command) answer)
+    step-refused h =
+        by_refusal (step_refusal w uid command) refl
+        (performed-refused fault (step_answer w uid at command)
+        (subst (λ (b : Bool). MatchBool b ⊤ (answer ≡ as_house_reply Performed (step_answer w uid at command))) (own-answered HouseReply fault own) h.meets))
+
+  -- any other
+  module _ (other : is_own_refusal fault ≡ false) where
+    lines-left : (q : QueueHistory) (b : Bool) → is_out_of_memory answer ≡ b → MatchBool b ⊤ ((outcome_at q at command).reply ≡ Err fault) → (left q).lines ≡ q.lines
+    lines-left q true e h =
+        ap (λ (b : Bool). let r : QueueHistory = cond b (reached q at command) (with_optional_event (reached q at command) (outcome_at q at command).event) in r.lines) e ∙ reached-lines q at command
+    lines-left q false e h = ap (λ (r : QueueHistory). r.lines) (no-entry HouseReply q at command fault h other) ∙ reached-lines q at command
+
+    lines-there : (o : Option QueueHistory) (b : Bool) → is_out_of_memory answer ≡ b → MatchBool b ⊤ (option_map_or (λ q. (outcome_at q at command).reply) o (Err QueueDoesNotExist) ≡ Err fault)
+        → option_map (λ q. q.lines) (option_map left o) ≡ option_map (λ q. q.lines) o
+    lines-there None b e h = refl
+    lines-there (Some q) b e h = ap (λ (ls : Lines). Some ls) (lines-left q b e h)
+
+    abbrev lines_of : World → ℕ → Option Lines
+    lines_of v u = option_map (λ q. q.lines) (queue_of_uid v u)
+
+    lines-by : (u : ℕ) (b : Bool) → nat_eq uid u ≡ b → option_map (λ q. q.lines) (option_map left (queue_of_uid w uid)) ≡ lines_of w uid → lines_of (world_after_command w uid at command answer) u ≡ lines_of w u
+    lines-by u false e h = ap (λ (o : Option QueueHistory). option_map (λ q. q.lines) o) (changed-queue w uid u left false (λ q. after_answer-uid at command answer q) e)
+    lines-by u true e h =
+        subst (λ (v : ℕ). lines_of (world_after_command w uid at command answer) v ≡ lines_of w v) (eqb-true uid u e)
+        (ap (λ (o : Option QueueHistory). option_map (λ q. q.lines) o) (changed-queue w uid uid left true (λ q. after_answer-uid at command answer q) (itself uid)) ∙ h)
+      where
+        itself : (n : ℕ) → nat_eq n n ≡ true
+        itself n = eq-eqb n n refl
+
+    lines-after : (u : ℕ) (o : Option Fault) (b : Bool) → is_out_of_memory answer ≡ b → MatchBool b ⊤ (option_map_or (λ fault. Err fault) o (queue_answer w uid at command) ≡ Err fault) → lines_of (new o) u ≡ lines_of w u
+    lines-after u (Some first) b e h = refl
+    lines-after u None b e h = lines-by u (nat_eq uid u) refl (lines-there (queue_of_uid w uid) b e h)
+
+    said : (b : Bool) → MatchBool b ⊤ (answer ≡ as_house_reply Performed (step_answer w uid at command)) → MatchBool b ⊤ (step_answer w uid at command ≡ Err fault)
+    said true h = tt
+    said false h = performed-refused fault (step_answer w uid at command) h
+
+    step-unrecorded : IsAnswerOf w (Perform at uid command) answer → (u : ℕ) → lines_of (world_after w (Perform at uid command) answer) u ≡ lines_of w u
+    step-unrecorded h u = lines-after u (step_refusal w uid command) (is_out_of_memory answer) refl (said (is_out_of_memory answer) h.meets)
+
+-- ---- a step of a run
+
+answered-at : (w : World) (steps : List HouseStep) (answers : List Answer) (step : HouseStep) (answer : Answer) (later : List HouseStep) (rest : List Answer) → length steps ≡ length answers
+    → AreHouseAnswers w (steps ++ step ∷ later) (answers ++ answer ∷ rest) → IsAnswerOf (world_after_all w steps answers) step answer
+answered-at w [] [] step answer later rest e h = h.0
+answered-at w [] (a ∷ answers) step answer later rest e h = absurd (omega arith)
+answered-at w (s ∷ steps) [] step answer later rest e h = absurd (omega arith)
+answered-at w (s ∷ steps) (a ∷ answers) step answer later rest e h = answered-at (world_after w s a) steps answers step answer later rest (omega arith) h.1
+
+module _ (w : World) (steps later : List HouseStep) (answers rest : List Answer) (at uid : ℕ) (command : Command) (fault : Fault) (counted : length steps ≡ length answers)
+    (answered : AreHouseAnswers w (steps ++ Perform at uid command ∷ later) (answers ++ Err fault ∷ rest)) where
+  abbrev before : World
+  before = world_after_all w steps answers
+
+  pub run-refused : is_own_refusal fault ≡ true → IsRefusedBy before uid at command fault (world_after before (Perform at uid command) (Err fault))
+  run-refused own = step-refused before at uid command fault own (answered-at w steps answers (Perform at uid command) (Err fault) later rest counted answered)
+
+  pub run-unrecorded : is_own_refusal fault ≡ false
+      → (other : ℕ) → option_map (λ q. q.lines) (queue_of_uid (world_after before (Perform at uid command) (Err fault)) other) ≡ option_map (λ q. q.lines) (queue_of_uid before other)
+  run-unrecorded none other = step-unrecorded before at uid command fault none (answered-at w steps answers (Perform at uid command) (Err fault) later rest counted answered) other
