@@ -46,7 +46,7 @@ class Checks:
         """Counts one check, and prints it where it failed."""
         self.passed, self.failed = self.passed + (found == wanted), self.failed + (found != wanted)
         if found != wanted:
-            print(f"hostile.py: {what}: found {found!r}, and {wanted!r} is wanted", flush=True)
+            print(f"{os.path.basename(sys.argv[0])}: {what}: found {found!r}, and {wanted!r} is wanted", flush=True)
 
 
 class Server:
@@ -61,7 +61,7 @@ class Server:
         ports = [int(it) for it in re.findall(r"http://localhost:(\d+)", line)]
         if len(ports) != 2:
             self.process.kill()
-            sys.exit(f"hostile.py: the server does not name its ports: {line}")
+            sys.exit(f"{os.path.basename(sys.argv[0])}: the server does not name its ports: {line}")
         self.port, self.statistics = ports
 
     def __enter__(self):
