@@ -1,16 +1,18 @@
 #!/usr/bin/env python3
 """Shows what becomes of large bodies that come together, of connections that stand still, and of want of memory, by a server of its own.
 
-usage: clients/limits.py [PROGRAM]
+usage: clients/limits.py [--quick] [PROGRAM]
 
 The program is the one that `make run` starts, unless another is named. It takes a minute and a half: what is given up after 30 to 40 seconds has to be
-waited for. Each line of what it prints names a check; the status is 1 where one fails.
+waited for. With --quick it does not look at connections that stand still, and takes some seconds. Each line of what it prints names a check, and the last
+says 'N passed, M failed'; the status is 1 where one fails.
 
   - Bodies of 8 MB are announced over more connections than all threads together may take. Some are answered 503, and each of these is closed. A small
     request is answered all the same, over each of many connections. Once the large ones are cut, one more is taken, and answered.
   - A body of which no byte comes any more, and a reply of which none is taken, end their connection between 30 and 45 seconds later. A receive that
     waits for 20 seconds does not: it is answered, and so is what is asked next over its connection.
   - Under a limit of its memory the proved server tells that it has none, in one line, goes on, and answers what is asked once the memory is there again.
+    A program that is compiled without a proof has an address sanitizer, which takes terabytes of addresses at its start: it does not start under such a limit.
 """
 import json
 import os
@@ -116,12 +118,12 @@ class Checks:
     """What was found, told line by line."""
 
     def __init__(self):
-        self.failed = 0
+        self.passed = self.failed = 0
 
     def see(self, what, holds, found=""):
         """Tells of a check."""
-        print(f"{'ok' if holds else 'FAILED'}: {what}{'' if holds else f': {found}'}", flush=True)
-        self.failed += not holds
+        print(f"{'ok' if holds else 'FAILED'}: {what}{'' if holds else f': {found!s:.300}'}", flush=True)
+        self.passed, self.failed = self.passed + bool(holds), self.failed + (not holds)
 
 
 def bodies(checks, program):
@@ -149,7 +151,7 @@ def bodies(checks, program):
     for it in many:
         it.close()
     time.sleep(0.5)
-    body = json.dumps({"QueueUrl": "jobs", "MessageBody": "x" * 1_000_000}).encode()
+    body = json.dumps({"QueueUrl": "jobs", "MessageBody": "x" * 200_000}).encode()
     statuses = set()
     for _ in range(8):
         it = server.connect()
@@ -175,9 +177,10 @@ def stillness(checks, program):
             ask(it, "SendMessage", QueueUrl="jobs", MessageBody="x" * 800_000)
         body = json.dumps({"QueueUrl": "jobs", "MaxNumberOfMessages": 10}).encode()
         it.sendall(head("ReceiveMessage", len(body)) + body)
-        asked = time.monotonic()
+        # a program that is not proved writes long at the reply
+        it.recv(1, socket.MSG_PEEK)
         time.sleep(46)
-        ends["reply"] = (reply(it), asked - begun)
+        ends["reply"] = reply(it)
 
     def receive_waits():
         it = server.connect()
@@ -192,7 +195,7 @@ def stillness(checks, program):
         it.join()
     came, after = ends.get("body", ("nothing", 60))
     checks.see("a body that stops ends its connection after 30 to 45 seconds", came is None and 30 <= after <= 45, ends)
-    checks.see("a reply that nobody takes is cut", ends.get("reply", ("nothing", 0))[0] is None, ends)
+    checks.see("a reply that nobody takes is cut", ends.get("reply", "nothing") is None, ends)
     first, after, second = ends.get("receive", (None, 0, None))
     checks.see("a receive that waits is answered", first == (200, "{}") and 19 <= after <= 25 and second == 200, ends)
     checks.see("the server goes on", server.end())
@@ -228,14 +231,18 @@ def shortage(checks, program):
 
 
 def main():
-    """Does all of it."""
-    if len(sys.argv) > 2:
-        raise SystemExit("usage: clients/limits.py [PROGRAM]")
-    program = sys.argv[1] if len(sys.argv) == 2 else subprocess.run([f"{ROOT}/tools/run", "--which", "sqs_server"], stdout=subprocess.PIPE, text=True, check=True).stdout.strip()
+    """Does all of it, or what is quick."""
+    is_quick, words = sys.argv[1:2] == ["--quick"], sys.argv[1:]
+    words = words[is_quick:]
+    if len(words) > 1 or words[:1] and words[0].startswith("-"):
+        raise SystemExit("usage: clients/limits.py [--quick] [PROGRAM]")
+    program = words[0] if words else subprocess.run([f"{ROOT}/tools/run", "--which", "sqs_server"], stdout=subprocess.PIPE, text=True, check=True).stdout.strip()
     checks = Checks()
     bodies(checks, program)
     shortage(checks, program)
-    stillness(checks, program)
+    if not is_quick:
+        stillness(checks, program)
+    print(f"{checks.passed} passed, {checks.failed} failed")
     raise SystemExit(1 if checks.failed else 0)
 
 
