@@ -1,7 +1,8 @@
-/* Put before the C library by LD_PRELOAD: a program that the kit has linked is refused memory. REFUSE has the number of the allocation that finds none (1 is
-   the first), or 5.. for the fifth and all behind it. An allocation is a call of rattle_alloc or rattle_realloc, by which all code of Rattle takes memory;
-   both are led here, for x86-64. The file of the name in REFUSE_COUNTS, 16 bytes at first 0, has how many were asked for and how many were refused, also
-   where the program is killed. They stay 0 where it has no such functions. */
+/* Put before the C library by LD_PRELOAD: a program that the kit has linked is refused memory. An allocation is a call of rattle_alloc or rattle_realloc, by
+   which all code of Rattle takes memory; both are led here, for x86-64. The file of the name in REFUSE_COUNTS, 32 bytes at first 0, is shared with whoever started
+   the program, and has four numbers: how many were asked for, how many were refused, and the first and the last that find no memory (1 is the first of all). All
+   stay 0 where the program has no such functions. REFUSE sets the last two at the start: to the number that it has, or by 5.. to the fifth and all behind it.
+   They may be changed while the program goes, and so may the first, from which the next ones are counted. */
 #define _GNU_SOURCE
 #include <elf.h>
 #include <fcntl.h>
@@ -21,9 +22,8 @@ struct given {
 };
 
 static struct {
-    atomic_long asked, refused;
+    atomic_long asked, refused, first, last;
 } *counts;
-static long first = 0, last = 0;
 
 /* The program's own, where an address sanitizer is linked into it. */
 static void *(*own_malloc)(size_t) = malloc;
@@ -31,7 +31,7 @@ static void *(*own_realloc)(void *, size_t) = realloc;
 
 static int is_refused(void) {
     long number = atomic_fetch_add(&counts->asked, 1) + 1;
-    if (number < first || number > last) {
+    if (number < atomic_load(&counts->first) || number > atomic_load(&counts->last)) {
         return 0;
     }
     atomic_fetch_add(&counts->refused, 1);
@@ -105,16 +105,22 @@ static void *mapped(const char *path, int access, int way, size_t least) {
     return place == MAP_FAILED ? NULL : place;
 }
 
+/* Sets which allocations are refused from the start on. */
+static void set(const char *number) {
+    char *rest;
+    long first = strtol(number, &rest, 10);
+    atomic_store(&counts->first, first);
+    atomic_store(&counts->last, *rest ? INT64_MAX : first);
+}
+
 __attribute__((constructor)) static void begin(void) {
-    const char *number = getenv("REFUSE");
-    char *rest = NULL;
-    if (number) {
-        first = strtol(number, &rest, 10);
-        last = *rest ? INT64_MAX : first;
-    }
     counts = mapped(getenv("REFUSE_COUNTS"), O_RDWR, MAP_SHARED, sizeof *counts);
-    const char *image = mapped("/proc/self/exe", O_RDONLY, MAP_PRIVATE, sizeof(Elf64_Ehdr));
-    if (counts && image) {
-        find(image);
+    const char *number = getenv("REFUSE"), *image = mapped("/proc/self/exe", O_RDONLY, MAP_PRIVATE, sizeof(Elf64_Ehdr));
+    if (!counts || !image) {
+        return;
     }
+    if (number) {
+        set(number);
+    }
+    find(image);
 }
