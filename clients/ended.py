@@ -19,6 +19,7 @@ import sys
 import tempfile
 import time
 
+sys.dont_write_bytecode = True
 from hostile import ABSENT, LIMIT, ROOT, Checks, Server
 
 GONE = '{"__type":"com.amazonaws.sqs#ActorGone","message":"The queue has stopped."}'

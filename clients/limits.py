@@ -3,9 +3,9 @@
 
 usage: clients/limits.py [--quick] [PROGRAM]
 
-The program is the one that `make run` starts, unless another is named. It takes a minute and a half: what is given up after 30 to 40 seconds has to be
-waited for. With --quick it does not look at connections that stand still, and takes some seconds. Each line of what it prints names a check, and the last
-says 'N passed, M failed'; the status is 1 where one fails.
+The program is the one that `make run` starts, unless another is named. It takes a minute and a half, and one that is not proved two to four: what is given up
+after 30 to 40 seconds has to be waited for. With --quick it does not look at connections that stand still, and takes 4 to 12 seconds. Each line of what it
+prints names a check, and the last says 'N passed, M failed'; the status is 1 where one fails.
 
   - Bodies of 8 MB are announced over more connections than all threads together may take. Some are answered 503, and each of these is closed. A small
     request is answered all the same, over each of many connections. Once the large ones are cut, one more is taken, and answered.
