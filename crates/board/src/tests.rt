@@ -192,11 +192,8 @@ impl<R: Wait + Copy + Drop> Talk<R> {
         *refused = refused.saturating_add(1);
         let is_printed_later = answer == Ok(false);
         let behind = self.read_twice(alloc, refused)?;
-        let next = if is_printed_later {
-            &Command::Look
-        } else {
-            command
-        };
+        let look = Command::Look;
+        let next = if is_printed_later { &look } else { command };
         let is_told = self.ask(rt, alloc, next, true)?;
         if is_told && shows_as(&behind, &before, is_printed_later) {
             return Ok(());

@@ -165,12 +165,19 @@ impl Left {
         self.tell(alloc, &receive)
     }
 
-    /// Performs a command at the clock, and tells the answer.
+    /// Performs a command at the clock, once more where it finds no memory, and tells the answer.
     fn tell(&mut self, alloc: Global, command: &Command) -> Result<(), Fault> {
-        let answer = self
-            .queue
-            .perform(alloc, Moment::zero(), command, &mut self.ticks);
+        let mut answer = self.perform(alloc, command);
+        if matches!(&answer, Err(Fault::OutOfMemory)) {
+            answer = self.perform(alloc, command);
+        }
         tell(&mut self.text, &answer)
+    }
+
+    /// Performs a command at the clock.
+    fn perform(&mut self, alloc: Global, command: &Command) -> Result<Reply, Fault> {
+        let (at, ticks) = (Moment::zero(), &mut self.ticks);
+        self.queue.perform(alloc, at, command, ticks)
     }
 
     /// Tells how many messages there ever were, how many are in flight, and what a look sees.
