@@ -38,8 +38,9 @@ from hostile import MEMORY, ROOT, Checks
 SHORT = "sqs_server: out of memory"
 # How long memory is refused to a request that gets no answer, and how long an answer may take besides, in seconds.
 HOLD, LIMIT = 0.3, 20
-# How far apart two lines about a shortage are at the least, as they are read, and how long threads of queues that are gone may stay, in seconds.
-APART, STAYS = 0.9, 20
+# How far apart two lines about a shortage are at the least, as they are read, which on a busy machine may be late, and how long threads of queues that are
+# gone may stay, in seconds.
+APART, STAYS = 0.5, 20
 # How long a queue may be in the making whose client is gone, and how long the server takes to start, in seconds.
 SETTLES = 2
 # How many faults of a step are told.
@@ -154,6 +155,10 @@ class Step(NamedTuple):
     def name(self):
         """Returns in a word or two what is asked."""
         return f"GET {self.asked}" if self.action == "GET" else self.action
+
+    def is_change(self):
+        """Returns whether it changes the queue."""
+        return self.before != self.after[-1] or self.action == "SetQueueAttributes"
 
     def is_batch(self):
         """Returns whether it has entries, each of which is done by itself."""
@@ -333,8 +338,7 @@ class Refusals:
     def begin(self, place):
         """Brings the queue to where a step begins. Returns a fault in words, or None."""
         self.other.call("DeleteQueue", '{"QueueUrl":"jobs"}')
-        own = [it for it in self.steps[:place] if it.action != "GET"]
-        return next((fault for it in own if (fault := self.goes_right(it, self.other))), None)
+        return next((fault for it in self.steps[:place] if it.is_change() and (fault := self.goes_right(it, self.other))), None)
 
     def counts(self, line):
         """Returns the counts of the queue."""
@@ -458,6 +462,7 @@ def refused(it, program, library, room):
             print("".join(f"refused.py: it told last: {line}\n" for _, line in server.told[-TOLD:]), end="")
         at = [when for when, line in server.told if line == SHORT]
         it.equal(f"times below {APART} s between two of its lines about a shortage", [one for one in (b - a for a, b in zip(at, at[1:])) if one < APART], [])
+        it.equal("lines about a shortage that are too many", max(0, len(at) - int(at[-1] - at[0] + 2) if at else 0), 0)
         print(f"It took {(time.monotonic() - begun) / 60:.1f} minutes. The server told {len(server.told):,} lines, of which {len(at)} are of a shortage.")
 
 
