@@ -24,16 +24,16 @@ use Rattle.queue_core.specs.declared.facts.Transfer.{Transfer}
 use Rattle.queue_core.specs.declared.parcel.Parcel.{Parcel}
 use Rattle.queue_core.specs.declared.reply.Reply.{Reply}
 use Rattle.queue_core.specs.declared.reply.Reply.TheVariants as replies
-use Rattle.queue_core.specs.Messages.{message_count, course_of, content_of, awaits_status, awaits_transfer, status_after, departures, ends_transfer, pending_transfers, has_accepted}
+use Rattle.queue_core.specs.Messages.{message_count, content_of, awaits_status, awaits_transfer, status_after, departures, ends_transfer, pending_transfers, has_accepted}
 use Rattle.queue_core.specs.States.{message_numbered}
-use Rattle.queue_core.specs.Queue.{QueueHistory, Outcome, at_moment, first_refusal, unless_refused, is_pending, waiting_count, outcome_at, with_optional_event, after_answer, parcel_of, transferred_parcel, first_parcel_of}
+use Rattle.queue_core.specs.Queue.{QueueHistory, at_moment, first_refusal, unless_refused, is_pending, waiting_count, outcome_at, with_optional_event, after_answer, parcel_of, transferred_parcel, first_parcel_of}
 use Rattle.queue_core.specs.Legal.{IsLegal}
 use Rattle.queue_core.proofs.OfferLemmas.{Contains-from_filter}
 use Rattle.queue_core.proofs.PushLemmas.{numbered-below, numbered-kept, numbered-number}
 use Rattle.queue_core.proofs.PendingLemmas.{Stands, filter_all, pending_transfers-push, status-push, status-kept, pending_legal}
 use Rattle.redrive.specs.declared.moved.Moved.{Moved}
 use Rattle.redrive.specs.declared.moved.Moved.TheVariants as moved
-use Rattle.redrive.specs.World.{World, queue_of_uid, has_queue, first_parcel_in, Delivery, delivery_of, as_moved, queue_answer, delivered_answer, arrive_answer, world_after_command, world_after_hand_over, needs_confirmation, accepted_number, confirm_answer, world_after_confirm, answer_of_halves, IsHandedOver, IsConfirmed, IsMoved}
+use Rattle.redrive.specs.World.{World, queue_of_uid, has_queue, first_parcel_in, delivery_of, as_moved, queue_answer, delivered_answer, arrive_answer, world_after_command, needs_confirmation, accepted_number, confirm_answer, world_after_confirm, answer_of_halves, IsHandedOver, IsConfirmed, IsMoved}
 use Rattle.redrive.specs.Waiting.{waiting_in}
 use Rattle.redrive.proofs.RegistryLemmas.{after_answer-uid, changed-queue}
 use Rattle.redrive.proofs.MovingLemmas.{again, new, delivery, needs-Ok, handed-Ok}
@@ -86,8 +86,7 @@ module _ (lines : Lines) (e : Line) (none : departures e.event ≡ []) where
   await-left : AllAwait lines → AllAwait (more lines e)
   await-left h t k =
       let parts = Contains-from_filter kept (pending_transfers lines) t (subst (λ (ts : List Transfer). Contains ts t) pending-left k) in
-      let was : Stands lines t.number (Waiting t.target) = h t parts.0 in
-      (
+      let was : Stands lines t.number (Waiting t.target) = h t parts.0 in (
         was.0,
         numbered-kept lines e t.number was.0 was.1,
         status-push lines e t.number was.0 was.1 ∙ ap (λ (s : Status). status_after t.number s e.event) was.2 ∙ status-kept t e.event (not-true (ends_transfer t e.event) parts.1),
@@ -333,6 +332,7 @@ absent-moved : (old new : World) (source at : ℕ) (x : Moved) → queue_of_uid 
 absent-moved old new source at x none m = by_half m.handed_over refl where
   refused : arrive_answer old source at ≡ Err QueueDoesNotExist
   refused = rw none refl
+
   by_half : (a : Result Moved Fault) → m.handed_over ≡ a → ⊥
   by_half (Ok y) is =
       let e : Ok y ≡ Err QueueDoesNotExist = subst (λ (a : Result Moved Fault). Meets a (arrive_answer old source at)) is m.meets ∙ refused in cc
