@@ -139,8 +139,8 @@ impl Talk {
             .ask(rt, alloc, p, Moment::zero(), &Command::Look, &NoGate);
         let Asked { reply, told } = asked;
         self.add_marks(&told)?;
-        match reply? {
-            Reply::Looked(look) => Ok(look),
+        match &reply {
+            Ok(Reply::Looked(look)) => Ok(*look),
             _ => Err(Fault::UnsupportedOperation),
         }
     }
