@@ -9,5 +9,6 @@ pub mod Counts
 pub mod ReadFaults
 pub mod StepLemmas
 pub mod MoveLemmas
+pub mod AllMovedLemmas
 pub mod SheetLemmas
 pub mod ByNameLemmas

@@ -1,5 +1,5 @@
 -- The dead letters of a queue, which move on after a line that names it.
-use Rattle.std.specs.Prelude.{ℕ, suc, zero, Bool, true, false, if◌then◌else◌, Result, Ok, Err}
+use Rattle.std.specs.Prelude.{◌≡◌, ℕ, suc, zero, Bool, true, false, if◌then◌else◌, Result, Ok, Err}
 use Rattle.std.specs.Option.{option_map_or}
 use Rattle.message.specs.declared.fault.Fault.{Fault}
 use Rattle.queue_core.specs.Messages.{message_count}
@@ -42,3 +42,10 @@ message_count_in w uid = option_map_or (λ q. message_count q.lines) (queue_of_u
 -- what every parcel of the queue of a uid leaves
 abbrev pub all_moves : World → ℕ → ℕ → World
 all_moves w source at = some_moves (message_count_in w source) w source at
+
+-- one of the moves, behind so many others, was refused, and left this world
+pub record WasRefused (w : World) (source at : ℕ) (left : World) : Type 0 where
+  pub moved : ℕ
+  pub fault : Fault
+  pub refused : move_answer (some_moves moved w source at) source at ≡ Err fault
+  pub last : left ≡ world_after_move (some_moves moved w source at) source at

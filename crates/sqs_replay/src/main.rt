@@ -36,6 +36,7 @@ pub use fault::ReplayFault;
 pub use input_line::{InputLine, line_form, read_line};
 use journal::Ticks;
 pub use lines::{LINE_LIMIT, Lines, one_return_is_dropped, pieces_join_to_the_bytes};
+pub use moves::all_parcels_move;
 pub use program::Refusal;
 use program::{Ending, Wanted, arguments_among, configuration_in, default_configuration, finish};
 use queue_config::Config;

@@ -1,10 +1,12 @@
 //! Dead letters move on after a line that names their queue.
 
-ghost use Rattle.std.specs.Prelude.{◌≡◌, false, IfErr, OnOk, Ok, Err};
+ghost use Rattle.std.specs.Prelude.{◌≡◌, ◌⊎◌, ℕ, false, IfErr, OnOk, None, Ok, Err};
+ghost use Rattle.std.specs.Option.{ForSome};
 ghost use Rattle.message.specs.declared.fault.Fault.TheVariants.{OutOfMemory};
 ghost use Rattle.message.specs.Fault.{Meets, is_out_of_memory};
-ghost use Rattle.redrive.specs.World.{move_answer};
-ghost use Rattle.sqs_replay.specs.Moves.{world_after_move, goes_on, message_count_in, some_moves, all_moves};
+ghost use Rattle.queue_core.specs.Legal.{IsLegal};
+ghost use Rattle.redrive.specs.World.{World, queue_of_uid, first_parcel_in, move_answer};
+ghost use Rattle.sqs_replay.specs.Moves.{world_after_move, goes_on, message_count_in, some_moves, all_moves, WasRefused};
 ghost use Rattle.sqs_replay.specs.Served.{moves_after, Leaves};
 
 use journal::{Moment, Ticks};
@@ -91,3 +93,12 @@ pub(crate) fn move_dead_letters(
     let most = message_count_in(house, source);
     some_moves(alloc, house, at, source, most, ticks)
 }
+
+/// That as many moves are tried as the queue ever had messages is enough: after all of them no parcel
+/// waits there, or one of them was refused, and it was the last. The queue's journal is one that a
+/// queue can have, as each queue's is.
+pub fn all_parcels_move()
+    ensures { (w : World) (source at : ℕ)
+        → ForSome (queue_of_uid w source) (λ q. IsLegal q)
+        → (first_parcel_in (all_moves w source at) source ≡ None) ⊎ WasRefused w source at (all_moves w source at) }
+{}
