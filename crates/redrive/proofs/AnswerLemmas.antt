@@ -11,6 +11,14 @@ use Rattle.redrive.specs.World.{World, has_queue, hand_over_answer, hand_over_ta
 use Rattle.redrive.specs.Halves.{handed_over, MeetsHandOver}
 use Rattle.redrive.specs.WorldRun.{Answer, as_house_reply, if_there, MeetsAnswer}
 
+either : (b : Bool) (P : Type 0) → P → MatchBool b ⊤ P
+either true P p = tt
+either false P p = p
+
+-- an answer meets what it is
+pub meets-itself : {T : Type 0} (r : Result T Fault) → Meets r r
+meets-itself r = either (is_out_of_memory r) (r ≡ r) refl
+
 handed-there : (there : Bool) (answer wanted : Result Moved Fault) → MeetsHandOver (Ok answer) (cond there (Ok wanted) (Err QueueDoesNotExist))
     → MeetsAnswer (Ok (HandedOver answer)) (cond there (Ok (HandedOver wanted)) (Err QueueDoesNotExist))
 handed-there true answer wanted h = h

@@ -16,4 +16,5 @@ pub mod HistoryLemmas
 pub mod ToldLemmas
 pub mod RunLemmas
 pub mod transfers
+pub mod WaitingLemmas
 pub mod RefusedLemmas

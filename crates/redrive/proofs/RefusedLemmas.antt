@@ -21,7 +21,7 @@ use Rattle.redrive.specs.WorldRun.{Answer, as_house_reply, world_after, IsAnswer
 use Rattle.redrive.proofs.RegistryLemmas.{after_answer-uid, changed-queue}
 use Rattle.redrive.proofs.transfers.Commands.{reached-lines}
 use Rattle.redrive.proofs.transfers.Journals.{Lines}
-use Rattle.redrive.proofs.transfers.Waiting.{left-own}
+use Rattle.redrive.proofs.WaitingLemmas.{left-own}
 
 -- ---- one step
 

@@ -10,4 +10,3 @@ pub mod Laws
 pub mod Answering
 pub mod Calls
 pub mod Targets
-pub mod Waiting

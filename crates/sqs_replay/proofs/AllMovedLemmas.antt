@@ -13,8 +13,8 @@ use Rattle.redrive.specs.declared.moved.Moved.{Moved}
 use Rattle.redrive.specs.declared.moved.Moved.TheVariants as moved
 use Rattle.redrive.specs.World.{World, queue_of_uid, first_parcel_in, delivery_of, arrive_answer, world_after_command, needs_confirmation, answer_of_halves, confirm_answer, move_answer, IsMoved}
 use Rattle.redrive.proofs.MovingLemmas.{needs-Ok, IsMoved-confirmed}
-use Rattle.redrive.proofs.transfers.Answering.{meets-itself}
-use Rattle.redrive.proofs.transfers.Waiting.{AllAwait, await-legal, moved-fewer, waiting-count, none-handed, none-waiting}
+use Rattle.redrive.proofs.AnswerLemmas.{meets-itself}
+use Rattle.redrive.proofs.WaitingLemmas.{AllAwait, await-legal, moved-fewer, waiting-count, none-handed, none-waiting}
 use Rattle.sqs_replay.specs.Moves.{world_between, world_after_move, goes_on, some_moves, message_count_in, all_moves, WasRefused}
 
 -- ---- one move that is answered exactly

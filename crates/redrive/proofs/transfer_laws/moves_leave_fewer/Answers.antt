@@ -1,4 +1,4 @@
-use Rattle.redrive.proofs.transfers.Waiting.{waiting-fewer}
+use Rattle.redrive.proofs.WaitingLemmas.{waiting-fewer}
 use Rattle.redrive.proofs.transfer_laws.moves_leave_fewer.Goals as goal
 
 pub returns : goal.returns
