@@ -1,6 +1,6 @@
 //! The list of lines.
 
-ghost use Rattle.std.specs.Prelude.{◌≡◌, ◌<◌, ◌≤◌, ◌↔◌, ◌⊎◌, [], ◌∷◌, ◌++◌, length, drop, map, slice_get, Ok, IfOk, IfErr, OnOk, OnErr, IsErrOf};
+ghost use Rattle.std.specs.Prelude.{◌≡◌, max, ◌<◌, ◌≤◌, ◌↔◌, ◌⊎◌, [], ◌∷◌, ◌++◌, length, drop, map, slice_get, Ok, IfOk, IfErr, OnOk, OnErr, IsErrOf};
 ghost use Rattle.std.specs.Option.{option_copied};
 ghost use Rattle.message.specs.Content.{content_size};
 ghost use Rattle.message.specs.declared.fault.Fault.TheVariants.{JournalFull, OutOfMemory};
@@ -83,6 +83,7 @@ impl Journal {
     pub fn reserve(&mut self, _alloc: Global, additional: usize) -> Result<(), Fault>
         ensures lines { self.new ≡ record self.old { spare = self.new.spare } }
         ensures ok { OnOk result (additional ≤ self.new.spare) }
+        ensures exact { OnOk result (self.new.spare ≡ max self.old.spare additional) }
         ensures not_less { self.old.spare ≤ self.new.spare }
         ensures errors { IfErr result (λ fault. fault ≡ OutOfMemory) }
         ensures err { OnErr result (self.new ≡ self.old) }

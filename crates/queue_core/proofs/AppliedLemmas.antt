@@ -1,19 +1,25 @@
 -- What each event makes of an index of messages, from what its changes make of the records.
-use Rattle.std.proofs.Common.{◌≡◌, ℕ, zero, suc, ◌+◌, ◌-◌, ◌*◌, Bool, true, false, not, cond, ◌||◌, ◌&&◌, ◌==◌, List, [], ◌∷◌, ◌++◌, length, refl, sym, ap, ◌∙◌, subst, inl, inr, ◌⊎◌, eqb, arith, nat_eq, filter, slice_index, is_some, Option, Some, None, option_map, option_and_then, append-nil, length-append}
+use Rattle.std.proofs.Common.{◌≡◌, ℕ, zero, suc, ◌+◌, ◌-◌, ◌*◌, ◌≤◌, Bool, true, false, not, cond, ◌||◌, ◌&&◌, ◌==◌, List, [], ◌∷◌, ◌++◌, length, refl, sym, ap, ◌∙◌, subst, inl, inr, ◌⊎◌, eqb, arith, nat_eq, filter, slice_index, Option, Some, None, option_map, option_and_then, append-nil, length-append}
+use Rattle.std.specs.Prelude.{nat_lt, slice_get}
+use Rattle.std.specs.VecDeque.{deque_capacity}
 use Rattle.std.proofs.lemmas.List.{get_or_append_left, get_or-append_right, get_or_past}
-use Rattle.std.proofs.lemmas.Bool.{eqb-true, eq-eqb, ne_eqb, cases_eq, true≢false, both_ways, and_parts, false_from_ne_true}
+use Rattle.std.proofs.lemmas.Option.{slice_get_past}
+use Rattle.std.proofs.lemmas.Bool.{ltb-false, lt-ltb, le-ltb, cases_lt, eqb-true, eq-eqb, ne_eqb, cases_eq, true≢false, both_ways, and_parts, false_from_ne_true}
 use Rattle.std.proofs.lemmas.List.Kept.{AllPairs-filter}
 use Rattle.message.specs.Content.{ContentText}
 use Rattle.queue_config.specs.Settings.{QueueSettings}
 use Rattle.journal.specs.declared.entry.Event.{Event}
 use Rattle.journal.specs.declared.entry.Event.TheVariants.{Received, Changed, Deleted, DeletedAgain, Purged, Set, Settled, Orphaned, Closed}
-use Rattle.queue_core.specs.Messages.{Birth, Effect, no_effect, effect_of, contains_number, offers_number, loses, closes, closes_period}
+use Rattle.queue_core.specs.declared.effect.Change.TheVariants.{Nothing}
+use Rattle.queue_core.specs.Effects.{changed_by}
+use Rattle.queue_core.specs.Tally.{births}
+use Rattle.queue_core.specs.Messages.{Birth, Effect, effect_of, contains_number, offers_number, loses, closes, closes_period}
 use Rattle.queue_core.specs.declared.slot.Stay.{Stay}
 use Rattle.queue_core.specs.declared.slot.Stay.TheVariants.{Hidden, Shown, Left}
 use Rattle.queue_core.specs.declared.record.Record.{Record}
 use Rattle.queue_core.specs.declared.index.MessageIndex.{MessageIndex}
 use Rattle.queue_core.specs.Slots.{is_here, is_left, is_left_stay, one_if}
-use Rattle.queue_core.specs.Records.{records_in, slots_in, born_in, with_stay, hidden_until, received_at, back_at, is_left_record, offered_after, rescheduled_after, here_after, left_after, record_after, record_after_stay, born_record, records_after, Records, HasIndices, IsIndexed}
+use Rattle.queue_core.specs.Records.{records_in, slots_in, born_in, with_stay, hidden_until, received_at, back_at, is_left_record, offered_after, rescheduled_after, here_after, left_after, record_after, record_after_stay, born_record, record_begun, records_after, Records, HasIndices, IsIndexed}
 use Rattle.queue_core.specs.Applying.{CanApply, HaveReceived, HaveCounted, HasChanged, among, where_here, where_left, where_left_stay, ended_by, returned_from}
 use Rattle.queue_core.proofs.NumberLemmas.{AreOnce, or-false, contains-append, contains-filter, filter_same, filter_alike, filter_none, once-append}
 use Rattle.queue_core.proofs.ChangeLemmas.{and_then-some, and_then-same, left_stay-none, changed-then, changed-same, outside}
@@ -50,26 +56,16 @@ no-record : (o : Option Record) → option_map (λ r. r.slot) o ≡ None → o �
 no-record None h = refl
 no-record (Some r) h = absurd cc
 
-born-none : (at : ℕ) (event : Event ContentText) → (effect_of event).birth ≡ None → born_record at event ≡ None
-born-none at event none = rw none
-
-pub born-of-none : (at : ℕ) (event : Event ContentText) → born_record at event ≡ None → (effect_of event).birth ≡ None
-born-of-none at event none =
-    elim (effect_of event).birth as (λ (o : Option (Birth ContentText)). (effect_of event).birth ≡ o → o ≡ None) [
-      | None ↦ λ e. refl
-      | Some birth ↦ λ e. let some = ap (λ (o : Option (Birth ContentText)). is_some o) e in let no : is_some (born_record at event) ≡ false = ap is_some none in absurd (true≢false (sym (rw e refl) ∙ no))
-    ] refl
-
 -- where none begins
-unborn : (s : QueueSettings) (at : ℕ) (event : Event ContentText) (x : MessageIndex) → HasIndices x → (effect_of event).birth ≡ None
+unborn : (s : QueueSettings) (at : ℕ) (event : Event ContentText) (x : MessageIndex) → HasIndices x → (effect_of event).births ≡ []
     → (n : ℕ) → records_after s at event (born_in x) (records_in x) n ≡ option_and_then (λ r. record_after s at event n r) (records_in x n)
 unborn s at event x is none n =
-    elim (nat_eq n (born_in x)) as (λ (b : Bool). nat_eq n (born_in x) ≡ b
-    → cond b (born_record at event) (option_and_then (λ r. record_after s at event n r) (records_in x n)) ≡ option_and_then (λ r. record_after s at event n r) (records_in x n)) [
-      | true ↦ λ e. let same : n ≡ born_in x = eqb-true n (born_in x) e in
-          let past : records_in x n ≡ None = no-record (records_in x n) (is.indices.few n (omega arith)) in
-          born-none at event none ∙ sym (ap (λ (o : Option Record). option_and_then (λ r. record_after s at event n r) o) past)
-      | false ↦ λ e. refl
+    elim (nat_lt n (born_in x)) as (λ (b : Bool). nat_lt n (born_in x) ≡ b
+    → cond b (option_and_then (λ r. record_after s at event n r) (records_in x n)) (record_begun at event (born_in x) n) ≡ option_and_then (λ r. record_after s at event n r) (records_in x n)) [
+      | true ↦ λ e. refl
+      | false ↦ λ e. let past : records_in x n ≡ None = no-record (records_in x n) (is.indices.few n (ltb-false n (born_in x) e)) in
+          ap (λ (bs : List (Birth ContentText)). option_map (born_record at) (slice_get bs (n - born_in x))) none
+          ∙ sym (ap (λ (o : Option Record). option_and_then (λ r. record_after s at event n r) o) past)
     ] refl
 
 -- what has left after an event had left before it or leaves with it
@@ -91,7 +87,7 @@ left-before s at event n r =
     let stays : Record = rescheduled_after at event n (offered_after at event n r) in
     let there : is_left_record r ≡ false → is_left (option_map (λ x. x.slot) (here_after at event n r)) ≡ true → contains_number n (effect_of event).departures ≡ true =
     λ h. here-left ((effect_of event).removes n) (contains_number n (effect_of event).departures) (with_stay (Left (effect_of event).target false) stays) stays
-    (moved (at + 1000 * (effect_of event).timeout) at ((effect_of event).offers n) ((effect_of event).reschedules n) r h) in
+    (moved (at + 1000 * (effect_of event).timeout) at (offers_number n event) (contains_number n (effect_of event).rescheduled) r h) in
     elim r.slot.stay as (λ (stay : Stay). r.slot.stay ≡ stay → is_left (option_map (λ x. x.slot) (record_after_stay s at event n stay r)) ≡ true
     → (is_left_record r ≡ true) ⊎ (contains_number n (effect_of event).departures ≡ true)) [
       | Hidden ↦ λ e h. inr (there (ap is_left_stay e) h)
@@ -118,7 +114,7 @@ both false before false f g = refl
 
 -- ---- an event that begins no message
 
-module _ (s : QueueSettings) (at : ℕ) (event : Event ContentText) (f : ℕ → Record → Option Record) (x y : MessageIndex) (is : IsIndexed x) (none : (effect_of event).birth ≡ None) (changed : HasChanged f x y)
+module _ (s : QueueSettings) (at : ℕ) (event : Event ContentText) (f : ℕ → Record → Option Record) (x y : MessageIndex) (is : IsIndexed x) (none : (effect_of event).births ≡ []) (changed : HasChanged f x y)
     (after : (n : ℕ) (r : Record) → records_in x n ≡ Some r → f n r ≡ record_after s at event n r) where
   records-are : (n : ℕ) → records_in y n ≡ option_and_then (λ r. record_after s at event n r) (records_in x n)
   records-are n = (changed-same f (λ n r. record_after s at event n r) x y after changed).records n
@@ -148,10 +144,10 @@ module _ (s : QueueSettings) (at : ℕ) (event : Event ContentText) (f : ℕ →
 
 -- ---- what stays
 
-unreceived : (event : Event ContentText) (old new : List ℕ) → (effect_of event).birth ≡ None → ((n : ℕ) → offers_number n event ≡ false) → new ≡ old → HaveReceived event old new
+unreceived : (event : Event ContentText) (old new : List ℕ) → (effect_of event).births ≡ [] → ((n : ℕ) → offers_number n event ≡ false) → new ≡ old → HaveReceived event old new
 unreceived event old new none offers same =
     let n : length new ≡ length old = ap length same in
-    let b : one_if (is_some (effect_of event).birth) ≡ 0 = ap (λ (o : Option (Birth ContentText)). one_if (is_some o)) none in
+    let b : births event ≡ 0 = ap (λ (bs : List (Birth ContentText)). length bs) none in
     record {
       len = omega arith;
       counts = λ k h. let at : slice_index new k ≡ slice_index old k = ap (λ (xs : List ℕ). slice_index xs k) same in
@@ -186,7 +182,7 @@ slot-left : (o : Option Record) (r : Record) → o ≡ Some r → is_left_record
 slot-left o r is left = ap (λ (p : Option Record). is_left (option_map (λ x. x.slot) p)) is ∙ left
 
 -- an event that leaves what has left where it is, and lets nothing leave
-module _ (s : QueueSettings) (at : ℕ) (event : Event ContentText) (f : ℕ → Record → Option Record) (x y : MessageIndex) (is : IsIndexed x) (none : (effect_of event).birth ≡ None)
+module _ (s : QueueSettings) (at : ℕ) (event : Event ContentText) (f : ℕ → Record → Option Record) (x y : MessageIndex) (is : IsIndexed x) (none : (effect_of event).births ≡ [])
     (offers : (n : ℕ) → offers_number n event ≡ false) (departures : (effect_of event).departures ≡ []) (changed : HasChanged f x y)
     (after : (n : ℕ) (r : Record) → records_in x n ≡ Some r → f n r ≡ record_after s at event n r) (receives : y.receives.items ≡ x.receives.items) where
   pub applied-leaving : y.leaving.items ≡ filter (λ n. is_left (slots_in y n)) x.leaving.items → IsApplied s at event x y
@@ -205,8 +201,8 @@ module _ (s : QueueSettings) (at : ℕ) (x y : MessageIndex) (is : IsIndexed x) 
   after-changed : (number timeout n : ℕ) (r : Record) → among (number ∷ []) (where_here (λ r. Some (hidden_until (at + 1000 * timeout) r))) n r ≡ record_after s at (Changed number timeout) n r
   after-changed number timeout n r =
       let f = among (number ∷ []) (where_here (λ r. Some (hidden_until (at + 1000 * timeout) r))) n r in
-      let there : (b l : Bool) → l ≡ false → Some (cond b (hidden_until (at + 1000 * timeout) r) r) ≡ cond (b || false) (cond l (Some r) (Some (hidden_until (at + 1000 * timeout) r))) (Some r) =
-      λ b l. elim b as (λ (v : Bool). l ≡ false → Some (cond v (hidden_until (at + 1000 * timeout) r) r) ≡ cond (v || false) (cond l (Some r) (Some (hidden_until (at + 1000 * timeout) r))) (Some r)) [
+      let there : (b l : Bool) → l ≡ false → Some (cond (b || false) (hidden_until (at + 1000 * timeout) r) r) ≡ cond (b || false) (cond l (Some r) (Some (hidden_until (at + 1000 * timeout) r))) (Some r) =
+      λ b l. elim b as (λ (v : Bool). l ≡ false → Some (cond (v || false) (hidden_until (at + 1000 * timeout) r) r) ≡ cond (v || false) (cond l (Some r) (Some (hidden_until (at + 1000 * timeout) r))) (Some r)) [
         | true ↦ λ h. ap (λ v. cond v (Some r) (Some (hidden_until (at + 1000 * timeout) r))) (sym h)
         | false ↦ λ h. refl
       ] in
@@ -329,10 +325,9 @@ zero-alone : (k : ℕ) → slice_index (0 ∷ []) k ≡ 0
 zero-alone zero = refl
 zero-alone (suc k) = refl
 
-begun-receives : (event : Event ContentText) (old new : List ℕ) → is_some (effect_of event).birth ≡ true → ((n : ℕ) → offers_number n event ≡ false) → new ≡ old ++ 0 ∷ [] → HaveReceived event old new
-begun-receives event old new some offers is =
+begun-receives : (event : Event ContentText) (old new : List ℕ) → births event ≡ 1 → ((n : ℕ) → offers_number n event ≡ false) → new ≡ old ++ 0 ∷ [] → HaveReceived event old new
+begun-receives event old new one offers is =
     let n : length new ≡ length old + 1 = ap length is ∙ length-append old (0 ∷ []) in
-    let b : one_if (is_some (effect_of event).birth) ≡ 1 = ap one_if some in
     record {
       len = omega arith;
       counts = λ k h. let at : slice_index new k ≡ slice_index old k = ap (λ (xs : List ℕ). slice_index xs k) is ∙ get_or_append_left old (0 ∷ []) 0 k h in
@@ -341,26 +336,34 @@ begun-receives event old new some offers is =
       begun = λ k h. ap (λ (xs : List ℕ). slice_index xs k) is ∙ get_or-append_right old (0 ∷ []) (length old) k 0 refl h ∙ zero-alone (k - length old);
     }
 
-born-some : (at : ℕ) (event : Event ContentText) (kept : Record) → born_record at event ≡ Some kept → (is_some (effect_of event).birth ≡ true) × (is_left_record kept ≡ false)
-born-some at event kept born =
-    elim (effect_of event).birth as (λ (o : Option (Birth ContentText)). (effect_of event).birth ≡ o → (is_some o ≡ true) × (is_left_record kept ≡ false)) [
-      | None ↦ λ e. let none = sym (born-none at event e) ∙ born in absurd cc
-      | Some birth ↦ λ e. (refl, sym (ap (λ (o : Option Record). is_left (option_map (λ r. r.slot) o)) born) ∙ rw e refl)
-    ] refl
+-- what is there behind a birth, by number
+begun-alone : (count n : ℕ) (kept : Record) (old : Option Record) → (count ≤ n → old ≡ None)
+    → cond (nat_eq n count) (Some kept) old ≡ cond (nat_lt n count) old (option_map (λ (k : Record). k) (slice_get (kept ∷ []) (n - count)))
+begun-alone count n kept old past = elim (cases_lt n count) [
+  | inl before ↦ rw (ne_eqb n count (λ e. omega arith), lt-ltb n count before) refl
+  | inr behind ↦ rw (le-ltb n count behind) (elim (cases_eq n count) [
+    | inl same ↦ let first : n - count ≡ 0 = omega arith in rw (eq-eqb n count same, first) refl
+    | inr other ↦ rw (ne_eqb n count other) (past behind ∙ ap (option_map (λ (k : Record). k)) (sym (slice_get_past (kept ∷ []) (n - count) (omega arith))))
+  ])
+]
 
-module _ (s : QueueSettings) (at : ℕ) (event : Event ContentText) (birth : Option (Birth ContentText)) (settings : Option QueueSettings) (opens : Bool) (kept : Record) (x y : MessageIndex) (is : IsIndexed x)
-    (told : effect_of event ≡ record no_effect { birth = birth; settings = settings; opens = opens }) (born : born_record at event ≡ Some kept) where
+module _ (s : QueueSettings) (at : ℕ) (event : Event ContentText) (birth : Birth ContentText) (settings : Option QueueSettings) (opens : Bool) (kept : Record) (x y : MessageIndex) (is : IsIndexed x)
+    (told : effect_of event ≡ record (changed_by Nothing (Some birth)) { settings = settings; opens = opens }) (born : born_record at birth ≡ kept) where
   pub birth-applied : HasIndices y → ((n : ℕ) → records_in y n ≡ cond (nat_eq n (born_in x)) (Some kept) (records_in x n)) → y.receives.items ≡ x.receives.items ++ 0 ∷ []
       → y.leaving.items ≡ x.leaving.items → IsApplied s at event x y
   birth-applied indices records receives leaving =
       let after : (n : ℕ) (r : Record) → Some r ≡ record_after s at event n r =
-      λ n r. sym (by-stay s at event n r (Some r) (λ h. rw told refl) (λ target ran_out e. rw (told, loses, closes, closes_period) (left-kept r target ran_out e))) in
+      λ n r. sym (by-stay s at event n r (Some r) (λ h. rw (told, offers_number) refl) (λ target ran_out e. rw (told, loses, closes, closes_period) (left-kept r target ran_out e))) in
       let left : (n : ℕ) → is_left (slots_in y n) ≡ is_left (slots_in x n) =
       λ n. ap (λ (o : Option Record). is_left (option_map (λ r. r.slot) o)) (records n)
       ∙ elim (nat_eq n (born_in x)) as (λ (b : Bool). nat_eq n (born_in x) ≡ b → is_left (option_map (λ r. r.slot) (cond b (Some kept) (records_in x n))) ≡ is_left (slots_in x n)) [
-        | true ↦ λ e. let same : n ≡ born_in x = eqb-true n (born_in x) e in (born-some at event kept born).1 ∙ sym (ap is_left (is.indices.indices.few n (omega arith)))
+        | true ↦ λ e. let same : n ≡ born_in x = eqb-true n (born_in x) e in ap is_left_record (sym born) ∙ sym (ap is_left (is.indices.indices.few n (omega arith)))
         | false ↦ λ e. refl
       ] refl in
+      let begun : (n : ℕ) → option_map (λ (k : Record). k) (slice_get (kept ∷ []) (n - born_in x)) ≡ record_begun at event (born_in x) n =
+      λ n. ap (λ (ks : List Record). option_map (λ (k : Record). k) (slice_get ks (n - born_in x))) (ap (λ (k : Record). k ∷ []) (sym born))
+      ∙ one-begun (n - born_in x)
+      ∙ sym (ap (λ (e : Effect ContentText). option_map (born_record at) (slice_get e.births (n - born_in x))) told) in
       record {
         indexed = record {
           indices = indices;
@@ -368,12 +371,17 @@ module _ (s : QueueSettings) (at : ℕ) (event : Event ContentText) (birth : Opt
           once = subst AreOnce (sym leaving) is.once;
         };
         records = λ n. records n
-            ∙ ap (λ (o : Option Record). cond (nat_eq n (born_in x)) o (records_in x n)) (sym born)
-            ∙ ap (λ (o : Option Record). cond (nat_eq n (born_in x)) (born_record at event) o) (sym (and_then-some (records_in x n)) ∙ and_then-same (λ r. Some r) (λ r. record_after s at event n r) (records_in x n) (λ r e. after n r));
-        receives = begun-receives event x.receives.items y.receives.items (born-some at event kept born).0 (λ n. ap (λ (e : Effect ContentText). e.offers n) told) receives;
+            ∙ begun-alone (born_in x) n kept (records_in x n) (λ past. no-record (records_in x n) (is.indices.indices.few n past))
+            ∙ ap (λ (o : Option Record). cond (nat_lt n (born_in x)) (records_in x n) o) (begun n)
+            ∙ ap (λ (o : Option Record). cond (nat_lt n (born_in x)) o (record_begun at event (born_in x) n)) (sym (and_then-some (records_in x n)) ∙ and_then-same (λ r. Some r) (λ r. record_after s at event n r) (records_in x n) (λ r e. after n r));
+        receives = begun-receives event x.receives.items y.receives.items (ap (λ (e : Effect ContentText). length e.births) told) (λ n. ap (λ (e : Effect ContentText). contains_number n e.offered) told) receives;
         leaving = leaving ∙ sym (filter_same (λ n. is_left (slots_in y n)) x.leaving.items (λ n h. left n ∙ sym (is.leaving n) ∙ h))
             ∙ sym (append-nil (filter (λ n. is_left (slots_in y n)) x.leaving.items)) ∙ ap (λ (xs : List ℕ). filter (λ n. is_left (slots_in y n)) x.leaving.items ++ xs) (sym (ap (λ (e : Effect ContentText). e.departures) told));
       }
+    where
+      one-begun : (i : ℕ) → option_map (λ (k : Record). k) (slice_get (born_record at birth ∷ []) i) ≡ option_map (born_record at) (slice_get (birth ∷ []) i)
+      one-begun zero = refl
+      one-begun (suc i) = refl
 
 -- ---- messages that are received
 
@@ -445,18 +453,25 @@ module _ (s : QueueSettings) (at timeout target : ℕ) (offered leaving : List �
 -- an event whose effect is another's, but for settings and opening
 module _ (s : QueueSettings) (at : ℕ) (event other : Event ContentText) (settings : Option QueueSettings) (opens : Bool) (all : effect_of event ≡ record (effect_of other) { settings = settings; opens = opens }) where
   stay-alike : (n : ℕ) (stay : Stay) (r : Record) → record_after_stay s at other n stay r ≡ record_after_stay s at event n stay r
-  stay-alike n Hidden r = rw all refl
-  stay-alike n Shown r = rw all refl
+  stay-alike n Hidden r = rw (all, offers_number) refl
+  stay-alike n Shown r = rw (all, offers_number) refl
   stay-alike n (Left target ran_out) r = rw (all, loses, closes, closes_period) refl
-
-  born-alike : born_record at other ≡ born_record at event
-  born-alike = rw all refl
 
   records-alike : (count n : ℕ) (records : Records) → records_after s at other count records n ≡ records_after s at event count records n
   records-alike count n records =
-      ap (λ (o : Option Record). cond (nat_eq n count) o (option_and_then (λ r. record_after s at other n r) (records n))) born-alike
-      ∙ ap (λ (o : Option Record). cond (nat_eq n count) (born_record at event) o)
-      (and_then-same (λ r. record_after s at other n r) (λ r. record_after s at event n r) (records n) (λ r e. stay-alike n r.slot.stay r))
+      ap (λ (o : Option Record). cond (nat_lt n count) o (record_begun at other count n)) (and_then-same (λ r. record_after s at other n r) (λ r. record_after s at event n r) (records n) (λ r e. stay-alike n r.slot.stay r))
+      ∙ ap (λ (e : Effect ContentText). cond (nat_lt n count) (option_and_then (λ r. record_after s at event n r) (records n)) (option_map (born_record at) (slice_get e.births (n - count)))) (sym all)
+
+  pub can_apply-alike : (x : MessageIndex) → CanApply event x → CanApply other x
+  can_apply-alike x can = record {
+    offered = λ n h. can.offered n (ap (λ (e : Effect ContentText). contains_number n e.offered) all ∙ h);
+    departing = λ n h. can.departing n (ap (λ (e : Effect ContentText). contains_number n e.departures) all ∙ h);
+    apart = λ n h. sym (ap (λ (e : Effect ContentText). contains_number n e.departures) all) ∙ can.apart n (ap (λ (e : Effect ContentText). contains_number n e.offered) all ∙ h);
+    departing_once = subst (λ (e : Effect ContentText). AreOnce e.departures) all can.departing_once;
+    offered_once = subst (λ (e : Effect ContentText). AreOnce e.offered) all can.offered_once;
+    few_receives = can.few_receives;
+    room = subst (λ (e : Effect ContentText). length x.leaving.items + length e.departures ≤ deque_capacity x.leaving) all can.room;
+  }
 
   pub alike-applied : (x y : MessageIndex) → IsApplied s at other x y → IsApplied s at event x y
   alike-applied x y done = record {

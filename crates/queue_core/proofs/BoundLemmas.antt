@@ -34,13 +34,15 @@ use Rattle.queue_core.specs.declared.facts.MessageState.TheVariants.{Visible, De
 use Rattle.queue_core.specs.declared.slot.Slot.{Slot}
 use Rattle.queue_core.specs.declared.record.Record.{Record}
 use Rattle.queue_core.specs.declared.index.MessageIndex.{MessageIndex}
-use Rattle.queue_core.specs.Messages.{effect_of, messages, message_count, receive_count, awaits_transfer}
+use Rattle.queue_core.specs.Messages.{messages, message_count, receive_count, awaits_transfer}
 use Rattle.queue_core.specs.States.{is_live, state_of, same_state, is_in_state, is_numbered, message_numbered}
 use Rattle.queue_core.specs.Queue.{QueueHistory, at_moment, waiting_count, with_event}
 use Rattle.queue_core.specs.Legal.{IsLegal, IsCausedIn}
 use Rattle.queue_core.specs.Slots.{one_if, is_shown_stay, is_left_stay, is_here, is_left, due_in, sent_in, shows, count_slots, AreIndexed}
 use Rattle.queue_core.specs.Records.{records_in, slots_in, born_in, HasIndices}
 use Rattle.queue_core.specs.Indexed.{IsIndexOf}
+use Rattle.queue_core.proofs.Scans.{births_few}
+use Rattle.queue_core.proofs.SummaryLemmas.{records-kept}
 use Rattle.queue_core.specs.Cost.{binary_digits, touched_count, most_ticks}
 use Rattle.queue_core.specs.Spending.{weight, AreBelow, event_adds, state_weight, queue_weight, queue_kept, HasCome, HasAdded}
 use Rattle.queue_core.proofs.AgeLemmas.{len_below}
@@ -92,17 +94,13 @@ bound-later ticks ticks' q r come =
     subst (λ (x : QueueHistory). ((c : ℕ) → queue_kept q < 2 ^ c → ticks' + 2 * (c + 1) * queue_weight x ≤ ticks + 2 * (c + 1) * queue_weight q) → ticks' ≤ ticks + most_ticks q x)
     (sym come.later) (later-by ticks ticks' q come.at) come.spent
 
-one_if-upto : (b : Bool) → cond b 1 0 ≤ 1
-one_if-upto true = omega arith
-one_if-upto false = omega arith
-
 added-by : (ticks ticks' ticks'' : ℕ) (p : QueueHistory) (at : ℕ) (event : Event ContentText) → IsCausedIn (at_moment p at) event → queue_kept (at_moment p at) ≤ queue_kept p
     → ((c : ℕ) → queue_kept p < 2 ^ c → ticks' + 2 * (c + 1) * queue_weight (at_moment p at) ≤ ticks + 2 * (c + 1) * queue_weight p)
     → HasAdded event ticks' (at_moment p at) ticks'' (with_event (at_moment p at) event) → ticks'' ≤ ticks + most_ticks p (with_event (at_moment p at) event)
 added-by ticks ticks' ticks'' p at event caused kept spent has =
     let digits = binary_digits (queue_kept p + 1) in
     let enough = below_digits (queue_kept p + 1) in
-    let few = one_if-upto (is_some (effect_of event).birth) in
+    let few = births_few event in
     let q = at_moment p at in
     let r = with_event q event in
     let touched = touched_count p r + 1 in
@@ -348,15 +346,15 @@ or-same a b c d h k = rw (h, k) refl
 
 module _ (q : QueueHistory) (x : MessageIndex) (is : IsIndexOf q.lines q.clock x) where
   born-count : born_in x ≡ message_count q.lines
-  born-count = ap length is.recorded.receives ∙ length-map-range_with_len (λ n. receive_count q.lines n) 0 (message_count q.lines)
+  born-count = ap length is.receives ∙ length-map-range_with_len (λ n. receive_count q.lines n) 0 (message_count q.lines)
 
   pub weight-is : weight x.indices ≡ queue_weight q
   weight-is =
       let indices = is.indexed.indices.indices in
       let counted : AreIndexed (slots_in x) (message_count q.lines) x.indices = subst (λ (n : ℕ). AreIndexed (slots_in x) n x.indices) born-count indices in
-      let delayed = delayed_count q.lines q.clock (records_in x) is.recorded.records is.settled in
-      let in_flight = in_flight_count q.lines q.clock (records_in x) is.recorded.records is.settled in
-      let visible = visible_count q.lines q.clock (records_in x) is.recorded.records is.settled x.indices counted in
+      let delayed = delayed_count q.lines q.clock (records_in x) (records-kept q.lines q.clock x is) is.settled in
+      let in_flight = in_flight_count q.lines q.clock (records_in x) (records-kept q.lines q.clock x is) is.settled in
+      let visible = visible_count q.lines q.clock (records_in x) (records-kept q.lines q.clock x is) is.settled x.indices counted in
       let all = weights (λ m. state_weight (state_of q.lines q.clock m)) (λ m. is_in_state Delayed q.lines q.clock m) (λ m. is_in_state InFlight q.lines q.clock m)
       (λ m. is_in_state Visible q.lines q.clock m) (messages q.lines) (λ m. weight-parts (state_of q.lines q.clock m)) in
       omega (arith, counted.delayed, counted.in_flight)
@@ -365,7 +363,7 @@ module _ (q : QueueHistory) (x : MessageIndex) (is : IsIndexOf q.lines q.clock x
   kept-at n =
       numbered-or (λ m. is_live q.lines q.clock m) (λ m. awaits_transfer q.lines m) (message_numbered q.lines n)
       ∙ (or-same (is_numbered (λ m. is_live q.lines q.clock m) q.lines n) (is_numbered (λ m. awaits_transfer q.lines m) q.lines n) (is_here (slots_in x n)) (is_left (slots_in x n))
-      (here_is q.lines q.clock (records_in x) is.recorded.records is.settled n) (left_is q.lines q.clock (records_in x) is.recorded.records is.settled n)
+      (here_is q.lines q.clock (records_in x) (records-kept q.lines q.clock x is) is.settled n) (left_is q.lines q.clock (records_in x) (records-kept q.lines q.clock x is) is.settled n)
       ∙ here-or_left (slots_in x n))
 
   pub kept_slots-is : count_slots is_some (slots_in x) (born_in x) ≡ queue_kept q

@@ -26,18 +26,19 @@ use Rattle.queue_core.specs.States.{is_live, waiting_state, same_state, is_in_st
 use Rattle.queue_core.specs.Queue.{QueueHistory, Outcome, refusal, unless_refused, first_refusal, refused_or, done, send_outcome, receive_outcome, change_outcome, delete_outcome, change_refusal, is_valid_handle, is_latest_handle, holds_in_flight, passes_twelve_hours, holds_live, arrive_outcome, is_pending, settle_outcome, orphan_outcome, in_flight_count, is_exhausted, scanned_candidates, offered_candidates, leaving_candidates, received_event, numbers_of, policy_target, outcome_of}
 use Rattle.queue_core.specs.Turns.{IsVisibleCandidate}
 use Rattle.queue_core.specs.Legal.{IsCausedIn}
+use Rattle.queue_core.proofs.NumberLemmas.{or-false}
 use Rattle.queue_core.proofs.OfferLemmas.{comes_to, scanned-take, scanned_once, order_visible, offered_visible}
 use Rattle.queue_core.proofs.PushLemmas.{numbered-number}
 
 -- what the event of a command is about
 pub record IsAbout (q : QueueHistory) (event : Event ContentText) : Type 0 where
   pub unopened : opens event ≡ false
-  pub rescheduled : (n : ℕ) → (effect_of event).reschedules n ≡ true → is_numbered (λ m. is_live q.lines q.clock m) q.lines n ≡ true
+  pub rescheduled : (n : ℕ) → contains_number n (effect_of event).rescheduled ≡ true → is_numbered (λ m. is_live q.lines q.clock m) q.lines n ≡ true
   pub offered : (n : ℕ) → offers_number n event ≡ true → is_numbered (λ m. is_in_state Visible q.lines q.clock m) q.lines n ≡ true
   pub departing : (n : ℕ) → contains_number n (effect_of event).departures ≡ true → is_numbered (λ m. is_in_state Visible q.lines q.clock m) q.lines n ≡ true
   pub apart : (n : ℕ) → offers_number n event ≡ true → contains_number n (effect_of event).departures ≡ false
   pub departing_once : AllPairs (λ a b. nat_eq a b ≡ false) (effect_of event).departures
-  pub offered_once : (timeout target : ℕ) (offered leaving : List ℕ) → event ≡ Received timeout offered leaving target → AllPairs (λ a b. nat_eq a b ≡ false) offered
+  pub offered_once : AllPairs (λ a b. nat_eq a b ≡ false) (effect_of event).offered
   pub confirmed : (n : ℕ) → (effect_of event).confirms n ≡ true → is_numbered (λ m. awaits_transfer q.lines m) q.lines n ≡ true
 
 -- ---- numbers that differ
@@ -171,10 +172,6 @@ module _ (q : QueueHistory) (maximum : ℕ) where
   leaving_apart : AllPairs (λ a b. nat_eq a b ≡ false) (numbers_of (leaving_candidates q maximum))
   leaving_apart = pairs_from_AreApart (numbers_of (leaving_candidates q maximum)) (AreApart-kept (λ c. is_exhausted q c) (scanned_candidates q maximum) scanned_apart)
 
-same_offered : (timeout timeout' target target' : ℕ) (offered offered' leaving leaving' : List ℕ)
-    → ◌≡◌ {A = Event ContentText} (Received timeout offered leaving target) (Received timeout' offered' leaving' target') → offered ≡ offered'
-same_offered timeout timeout' target target' offered offered' leaving leaving' h = cc
-
 about-parts : (q : QueueHistory) (timeout target : ℕ) (offered leaving : List ℕ)
     → ((n : ℕ) → contains_number n offered ≡ true → is_numbered (λ m. is_in_state Visible q.lines q.clock m) q.lines n ≡ true)
     → ((n : ℕ) → contains_number n leaving ≡ true → is_numbered (λ m. is_in_state Visible q.lines q.clock m) q.lines n ≡ true)
@@ -188,7 +185,7 @@ about-parts q timeout target offered leaving there departing apart once leaving_
   departing = departing;
   apart = apart;
   departing_once = leaving_once;
-  offered_once = λ t g o l e. subst (λ (ns : List ℕ). AllPairs (λ a b. nat_eq a b ≡ false) ns) (same_offered timeout t target g offered o leaving l e) once;
+  offered_once = once;
   confirmed = λ n is. absurd (false≢true is);
 }
 
@@ -221,7 +218,7 @@ about-plain q event h k = record {
   departing = λ n is. absurd (false≢true is);
   apart = λ n is. refl;
   departing_once = AllPairs-nil (λ a b. nat_eq a b ≡ false);
-  offered_once = λ timeout target offered leaving e. absurd cc;
+  offered_once = AllPairs-nil (λ a b. nat_eq a b ≡ false);
   confirmed = k;
 }
 
@@ -232,12 +229,12 @@ about-idle q event h none = about-plain q event h (λ n is. absurd (false≢true
 about-changed : (q : QueueHistory) (number timeout : ℕ) → is_numbered (λ m. is_live q.lines q.clock m) q.lines number ≡ true → IsAbout q (Changed number timeout)
 about-changed q number timeout live = record {
   unopened = refl;
-  rescheduled = λ n is. subst (λ (i : ℕ). is_numbered (λ m. is_live q.lines q.clock m) q.lines i ≡ true) (eqb-true number n is) live;
+  rescheduled = λ n is. subst (λ (i : ℕ). is_numbered (λ m. is_live q.lines q.clock m) q.lines i ≡ true) (eqb-true number n (sym (or-false (eqb number n)) ∙ is)) live;
   offered = λ n is. absurd (false≢true is);
   departing = λ n is. absurd (false≢true is);
   apart = λ n is. refl;
   departing_once = AllPairs-nil (λ a b. nat_eq a b ≡ false);
-  offered_once = λ timeout target offered leaving e. absurd cc;
+  offered_once = AllPairs-nil (λ a b. nat_eq a b ≡ false);
   confirmed = λ n is. absurd (false≢true is);
 }
 

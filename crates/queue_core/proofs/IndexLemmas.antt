@@ -1,8 +1,9 @@
 -- A queue's index is that of its journal, and stays so: where room is made in it, as time passes, and behind an event.
 use Rattle.std.proofs.Common.{◌≡◌, ℕ, ◌+◌, ◌*◌, ◌≤◌, ◌<◌, ◌^◌, Bool, true, false, not, cond, ◌&&◌, ◌||◌, ◌++◌, List, [], ◌∷◌, map, length, Option, Some, None, inl, inr, refl, sym, ap, subst, ◌∙◌, arith}
-use Rattle.std.specs.Prelude.{nat_eq, nat_le, filter, slice_index, option_map, option_and_then, is_some}
+use Rattle.std.specs.Prelude.{◌-◌, nat_eq, nat_lt, nat_le, filter, slice_index, slice_get, option_map, option_and_then, is_some}
 use Rattle.std.specs.Option.{option_map_or}
 use Rattle.std.specs.List.{AllPairs, Contains, range_with_len}
+use Rattle.std.specs.FinMap as finite
 use Rattle.std.specs.VecDeque.{deque_capacity}
 use Rattle.std.proofs.lemmas.Bool.{false≢true, false_from_ne_true, cases_lt}
 use Rattle.std.proofs.lemmas.List.{get_or_past, map-append}
@@ -19,51 +20,51 @@ use Rattle.queue_core.specs.declared.facts.Course.{Course}
 use Rattle.queue_core.specs.declared.facts.Status.{Status}
 use Rattle.queue_core.specs.declared.facts.Status.TheVariants.{Present, Removed, Waiting, Transferred}
 use Rattle.queue_core.specs.declared.facts.Transfer.{Transfer}
-use Rattle.queue_core.specs.declared.facts.MessageState.TheVariants.{Visible}
+use Rattle.queue_core.specs.declared.facts.MessageState.TheVariants.{Visible, Delayed, InFlight}
 use Rattle.queue_core.specs.declared.slot.Stay.{Stay}
 use Rattle.queue_core.specs.declared.slot.Stay.TheVariants.{Hidden, Shown, Left}
 use Rattle.queue_core.specs.declared.slot.Slot.{Slot}
 use Rattle.queue_core.specs.declared.record.Record.{Record}
 use Rattle.queue_core.specs.declared.index.MessageIndex.{MessageIndex}
 use Rattle.queue_core.specs.Messages.{Birth, effect_of, contains_number, message_count, settings_of, offers_number, receive_count, loses, closes, closes_period, status_after, awaits_status, awaits_transfer, departures, ends_transfer, pending_transfers}
-use Rattle.queue_core.specs.States.{is_in_state, is_numbered}
+use Rattle.queue_core.specs.States.{has_age, is_in_state, count_in_state, is_numbered}
 use Rattle.queue_core.specs.Queue.{QueueHistory, with_event}
 use Rattle.queue_core.specs.Legal.{IsLegal, IsCausedIn}
-use Rattle.queue_core.specs.Slots.{is_here, is_shown, is_left, is_left_stay, one_if}
-use Rattle.queue_core.specs.Records.{records_in, slots_in, born_in, with_stay, hidden_until, received_at, back_at, has_run_out, stay_at, is_left_record, settled_record, offered_after, rescheduled_after, here_after, record_after, record_after_stay, born_record, records_after, records_settled, HasIndices, IsIndexed, HasSame, IsSettled}
+use Rattle.queue_core.specs.Ages.{place_if}
+use Rattle.queue_core.specs.Heaps.{next_time, sent_time, visible_pairs}
+use Rattle.queue_core.specs.Slots.{is_here, is_shown, is_left, is_left_stay, has_age as slot_has_age, one_if, AreIndexed}
+use Rattle.queue_core.specs.Records.{records_in, slots_in, born_in, with_stay, hidden_until, received_at, back_at, has_run_out, stay_at, is_left_record, settled_record, offered_after, rescheduled_after, here_after, record_after, record_after_stay, born_record, record_begun, records_after, records_settled, HasIndices, IsIndexed, HasSame, IsSettled}
 use Rattle.queue_core.specs.Recorded.{AreRecorded}
 use Rattle.queue_core.specs.Applying.{CanApply, HaveReceived}
-use Rattle.queue_core.specs.Indexed.{IsIndexOf}
-use Rattle.queue_core.proofs.Scans.{length-messages_from}
+use Rattle.queue_core.specs.Indexed.{known_record, IsIndexOf}
+use Rattle.queue_core.proofs.Scans.{births_few, length-messages_from}
 use Rattle.queue_core.proofs.PushLemmas.{count-push, numbered-kept}
 use Rattle.queue_core.proofs.FactLemmas.{Line, course-push, receives-push, numbered-number, numbered-place, numbered-past, unborn, about, pending-push, pending_of}
 use Rattle.queue_core.proofs.RecordLemmas.{left_at, recorded-later, recorded-settled, settled_is, recorded-event}
-use Rattle.queue_core.proofs.IndexedLemmas.{shown_is, left_is}
+use Rattle.queue_core.proofs.IndexedLemmas.{age_is, shown_is, left_is, delayed_count, in_flight_count, order_is, visible_count, next_is, sent_is}
+use Rattle.queue_core.proofs.SummaryLemmas.{keeps-records, records-kept}
 use Rattle.queue_core.proofs.AppliedLemmas.{IsApplied}
 
 -- ---- a queue as it is opened
 
 pub opened-index : (at uid : ℕ) (settings : QueueSettings) (x : MessageIndex) → HasIndices x → ((n : ℕ) → records_in x n ≡ None) → x.receives.items ≡ [] → x.leaving.items ≡ []
     → IsIndexOf (record { at = at; event = Opened uid settings } ∷ []) at x
-opened-index at uid settings x indices records receives leaving = record {
-  indexed = record {
-    indices = indices;
-    leaving = λ n. ap (contains_number n) leaving ∙ sym (ap (λ (o : Option Record). is_left (option_map (λ r. r.slot) o)) (records n));
-    once = subst (λ (numbers : List ℕ). AllPairs (λ a b. nat_eq a b ≡ false) numbers) (sym leaving) (λ i j d lt below. absurd (omega arith));
-  };
-  recorded = record {
-    records = record { some = λ n r is. absurd (none-some r (sym (records n) ∙ is)); none = λ n m numbered is. absurd cc };
-    receives = receives;
-    leaving = leaving;
-  };
-  settled = record { settled = λ n r is. absurd (none-some r (sym (records n) ∙ is)); shown = λ n r is. absurd (none-some r (sym (records n) ∙ is)) };
-}
+opened-index at uid settings x indices records receives leaving =
+    keeps-records (record { at = at; event = Opened uid settings } ∷ []) at x
+    (record {
+      indices = indices;
+      leaving = λ n. ap (contains_number n) leaving ∙ sym (ap (λ (o : Option Record). is_left (option_map (λ r. r.slot) o)) (records n));
+      once = subst (λ (numbers : List ℕ). AllPairs (λ a b. nat_eq a b ≡ false) numbers) (sym leaving) (λ i j d lt below. absurd (omega arith));
+    })
+    (record { some = λ n r is. absurd (none-some r (sym (records n) ∙ is)); none = λ n m numbered is. absurd cc })
+    (record { settled = λ n r is. absurd (none-some r (sym (records n) ∙ is)); shown = λ n r is. absurd (none-some r (sym (records n) ∙ is)) })
+    receives leaving
 
 -- ---- room
 
 module _ (lines : List Line) (clock : ℕ) (x : MessageIndex) (is : IsIndexOf lines clock x) where
   pub born_is : born_in x ≡ message_count lines
-  born_is = ap length is.recorded.receives ∙ length-map-range_with_len (λ n. receive_count lines n) 0 (message_count lines)
+  born_is = ap length is.receives ∙ length-map-range_with_len (λ n. receive_count lines n) 0 (message_count lines)
 
   -- no more messages than entries, and none was received at more of them
   pub few_born : born_in x ≤ length lines
@@ -71,7 +72,7 @@ module _ (lines : List Line) (clock : ℕ) (x : MessageIndex) (is : IsIndexOf li
 
   receives_at : (n : ℕ) → n < born_in x → slice_index x.receives.items n ≡ receive_count lines n
   receives_at n h =
-      ap (λ (counts : List ℕ). slice_index counts n) is.recorded.receives
+      ap (λ (counts : List ℕ). slice_index counts n) is.receives
       ∙ get_or-map-range_with_len (λ n. receive_count lines n) 0 (message_count lines) n n 0 (omega (arith, born_is)) (omega arith)
 
   few_received : (n : ℕ) → slice_index x.receives.items n ≤ length lines
@@ -80,17 +81,49 @@ module _ (lines : List Line) (clock : ℕ) (x : MessageIndex) (is : IsIndexOf li
     | inr past ↦ let none : slice_index x.receives.items n ≡ 0 = get_or_past x.receives.items n 0 past in omega arith
   ]
 
+  -- ---- what each index is of the journal
+
+  abbrev own_records : AreRecorded lines clock (records_in x)
+  own_records = records-kept lines clock x is
+
+  indices_are : AreIndexed (slots_in x) (message_count lines) x.indices
+  indices_are = subst (λ (count : ℕ). AreIndexed (slots_in x) count x.indices) born_is is.indexed.indices.indices
+
+  pub index_due : (n : ℕ) → finite.get x.indices.due.moments n ≡ next_time lines clock n
+  index_due n = indices_are.due n ∙ sym (next_is lines clock (records_in x) own_records is.settled n)
+
+  pub index_sent : (n : ℕ) → finite.get x.indices.sent.moments n ≡ sent_time lines clock n
+  index_sent n = indices_are.sent n ∙ sym (sent_is lines clock (records_in x) own_records is.settled is.indexed.indices.sent n)
+
+  pub index_visible : x.indices.visible.pairs ≡ visible_pairs lines clock
+  index_visible = order_is lines clock (records_in x) own_records is.settled x.indices indices_are
+
+  listed : (here : Bool) (n : ℕ) → is_some (place_if here x.indices.ages n) ≡ here
+  listed true n = refl
+  listed false n = refl
+
+  pub index_ages : (n : ℕ) → is_some (finite.get x.indices.ages.list.slots n) ≡ is_numbered (λ m. has_age lines clock m) lines n
+  index_ages n =
+      ap (λ (o : Option ℕ). is_some o) (indices_are.ages.found n)
+      ∙ listed (slot_has_age (slots_in x n)) n
+      ∙ sym (age_is lines clock (records_in x) own_records is.settled n)
+
+  pub index_shown : length x.indices.visible.pairs ≡ count_in_state Visible lines clock
+  index_shown = visible_count lines clock (records_in x) own_records is.settled x.indices indices_are
+
+  pub index_delayed : x.indices.delayed ≡ count_in_state Delayed lines clock
+  index_delayed = indices_are.delayed ∙ sym (delayed_count lines clock (records_in x) own_records is.settled)
+
+  pub index_in_flight : x.indices.in_flight ≡ count_in_state InFlight lines clock
+  index_in_flight = indices_are.in_flight ∙ sym (in_flight_count lines clock (records_in x) own_records is.settled)
+
   pub same-index : (y : MessageIndex) → HasSame x y → IsIndexed y → IsIndexOf lines clock y
   same-index y same indexed = record {
     indexed = indexed;
-    recorded = record {
-      records = record {
-        some = λ n r at. is.recorded.records.some n r (sym (same.records n) ∙ at);
-        none = λ n m numbered at. is.recorded.records.none n m numbered (sym (same.records n) ∙ at);
-      };
-      receives = same.receives ∙ is.recorded.receives;
-      leaving = same.leaving ∙ is.recorded.leaving;
-    };
+    known = λ n. is.known n ∙ ap (option_map (known_record (settings_of lines).retention_seconds clock n)) (sym (same.records n));
+    counted = λ n r at. is.counted n r (sym (same.records n) ∙ at);
+    receives = same.receives ∙ is.receives;
+    leaving = same.leaving ∙ is.leaving;
     settled = record {
       settled = λ n r at. is.settled.settled n r (sym (same.records n) ∙ at);
       shown = λ n r at. is.settled.shown n r (sym (same.records n) ∙ at);
@@ -140,15 +173,10 @@ pub later-index : (lines : List Line) (clock later retention : ℕ) (x y : Messa
     → IsSettling retention later x y → IsIndexOf lines later y
 later-index lines clock later retention x y rises is same settling =
     let own : IsSettling (settings_of lines).retention_seconds later x y = subst (λ (seconds : ℕ). IsSettling seconds later x y) same settling in
-    record {
-      indexed = indexed-settled retention later x y settling is.indexed;
-      recorded = record {
-        records = recorded-settled lines later (records_in x) (records_in y) (recorded-later lines clock later (records_in x) rises is.recorded.records) own.records;
-        receives = settling.receives ∙ is.recorded.receives;
-        leaving = settling.leaving ∙ is.recorded.leaving;
-      };
-      settled = settled_is (settings_of lines).retention_seconds later (records_in x) (records_in y) (λ n r at shown. let due = is.settled.shown n r at shown in omega arith) own.records;
-    }
+    keeps-records lines later y (indexed-settled retention later x y settling is.indexed)
+    (recorded-settled lines later (records_in x) (records_in y) (recorded-later lines clock later (records_in x) rises (records-kept lines clock x is)) own.records)
+    (settled_is (settings_of lines).retention_seconds later (records_in x) (records_in y) (λ n r at shown. let due = is.settled.shown n r at shown in omega arith) own.records)
+    (settling.receives ∙ is.receives) (settling.leaving ∙ is.leaving)
 
 -- ---- an event
 
@@ -163,7 +191,7 @@ shown-here (Some s) h = by_stay s.stay h
 
 module _ (q : QueueHistory) (event : Event ContentText) (caused : IsCausedIn q event) (x : MessageIndex) (is : IsIndexOf q.lines q.clock x) where
   visible_here : (n : ℕ) → is_numbered (λ m. is_in_state Visible q.lines q.clock m) q.lines n ≡ true → is_here (slots_in x n) ≡ true
-  visible_here n h = shown-here (slots_in x n) (sym (shown_is q.lines q.clock (records_in x) is.recorded.records is.settled n) ∙ h)
+  visible_here n h = shown-here (slots_in x n) (sym (shown_is q.lines q.clock (records_in x) (records-kept q.lines q.clock x is) is.settled n) ∙ h)
 
   pub can_apply : length q.lines < 2 ^ 31 → length x.leaving.items + length (effect_of event).departures ≤ deque_capacity x.leaving → CanApply event x
   can_apply few room =
@@ -181,11 +209,11 @@ module _ (q : QueueHistory) (event : Event ContentText) (caused : IsCausedIn q e
 -- ---- what an event shows
 
 -- where it is shown, it was due by a time
-abbrev IsDueBy : ℕ → Option Record → Type 0
+abbrev pub IsDueBy : ℕ → Option Record → Type 0
 IsDueBy clock None = Unit {0}
 IsDueBy clock (Some r) = r.slot.stay ≡ Shown → r.slot.due ≤ clock
 
-due-all : (clock : ℕ) (o : Option Record) → ((r : Record) → o ≡ Some r → r.slot.stay ≡ Shown → r.slot.due ≤ clock) → IsDueBy clock o
+pub due-all : (clock : ℕ) (o : Option Record) → ((r : Record) → o ≡ Some r → r.slot.stay ≡ Shown → r.slot.due ≤ clock) → IsDueBy clock o
 due-all clock None h = tt
 due-all clock (Some r) h = h r refl
 
@@ -217,7 +245,7 @@ module _ (s : QueueSettings) (clock at : ℕ) (event : Event ContentText) where
       by_here : IsDueBy clock (here_after at event n r)
       by_here =
           due-here clock (effect_of event).target ((effect_of event).removes n) (contains_number n (effect_of event).departures) (rescheduled_after at event n (offered_after at event n r))
-          (due-rescheduled clock (at + 1000 * (effect_of event).timeout) ((effect_of event).reschedules n) (offered_after at event n r) (due-offered clock at ((effect_of event).offers n) r h))
+          (due-rescheduled clock (at + 1000 * (effect_of event).timeout) (contains_number n (effect_of event).rescheduled) (offered_after at event n r) (due-offered clock at (offers_number n event) r h))
 
       by_stay : (stay : Stay) → IsDueBy clock (record_after_stay s at event n stay r)
       by_stay Hidden = by_here
@@ -230,24 +258,13 @@ module _ (s : QueueSettings) (clock at : ℕ) (event : Event ContentText) where
   due-each n (Some r) h = due-after n r h
 
   -- what begins is hidden
-  due-born : IsDueBy clock (born_record at event)
-  due-born = by_birth (effect_of event).birth
-    where
-      by_birth : (birth : Option (Birth ContentText)) → IsDueBy clock (option_map (λ birth. record {
-        content = birth.content;
-        enqueue_time = at;
-        first_send_time = option_map_or (λ origin. origin.sent) birth.origin at;
-        origin = birth.origin;
-        first_receive = None;
-        last_receive = 0;
-        slot = record { stay = Hidden; due = at + 1000 * birth.delay; sent = option_map_or (λ origin. origin.sent) birth.origin at; is_fresh = true; is_returned = false; tries = 0 };
-      }) birth)
-      by_birth None = tt
-      by_birth (Some birth) = λ shown. absurd cc
+  due-born : (birth : Option (Birth ContentText)) → IsDueBy clock (option_map (born_record at) birth)
+  due-born None = tt
+  due-born (Some birth) = λ shown. absurd cc
 
-  due-behind : (born : Bool) (n : ℕ) (o : Option Record) → IsDueBy clock o → IsDueBy clock (cond born (born_record at event) (option_and_then (λ r. record_after s at event n r) o))
-  due-behind true n o h = due-born
-  due-behind false n o h = due-each n o h
+  pub due-behind : (before : Bool) (n count : ℕ) (o : Option Record) → IsDueBy clock o → IsDueBy clock (cond before (option_and_then (λ r. record_after s at event n r) o) (record_begun at event count n))
+  due-behind true n count o h = due-each n o h
+  due-behind false n count o h = due-born (slice_get (effect_of event).births (n - count))
 
 -- ---- what waits behind an event
 
@@ -277,12 +294,8 @@ awaits_if target false false false = refl
 -- ---- behind an event, and settled then
 
 -- an event begins one message at most
-one_at_most : (b : Bool) → one_if b ≤ 1
-one_at_most true = omega arith
-one_at_most false = omega arith
-
 pub few-more : (event : Event ContentText) (x y : MessageIndex) → HaveReceived event x.receives.items y.receives.items → born_in y ≤ born_in x + 1
-few-more event x y received = let one = one_at_most (is_some (effect_of event).birth) in omega (arith, received.len)
+few-more event x y received = omega (arith, births_few event, received.len)
 
 module _ (q : QueueHistory) (event : Event ContentText) (legal : IsLegal q) (caused : IsCausedIn q event) (x y : MessageIndex) (is : IsIndexOf q.lines q.clock x)
     (applied : IsApplied (settings_of q.lines) q.clock event x y) where
@@ -297,12 +310,12 @@ module _ (q : QueueHistory) (event : Event ContentText) (legal : IsLegal q) (cau
       subst (λ (count : ℕ). records_in y n ≡ records_after (settings_of q.lines) q.clock event count (records_in x) n) (born_is q.lines q.clock x is) (applied.records n)
 
   recorded-behind : AreRecorded more q.clock (records_in y)
-  recorded-behind = recorded-event q event (records_in x) (records_in y) legal caused is.recorded.records is.settled records-behind
+  recorded-behind = recorded-event q event (records_in x) (records_in y) legal caused (records-kept q.lines q.clock x is) is.settled records-behind
 
   shown-behind : IsShownBy q.clock y
   shown-behind n r at =
       subst (λ (o : Option Record). IsDueBy q.clock o) (sym (records-behind n) ∙ at)
-      (due-behind (settings_of q.lines) q.clock q.clock event (nat_eq n (message_count q.lines)) n (records_in x n) (due-all q.clock (records_in x n) (is.settled.shown n)))
+      (due-behind (settings_of q.lines) q.clock q.clock event (nat_lt n (message_count q.lines)) n (message_count q.lines) (records_in x n) (due-all q.clock (records_in x n) (is.settled.shown n)))
 
   -- ---- receives
 
@@ -353,7 +366,7 @@ module _ (q : QueueHistory) (event : Event ContentText) (legal : IsLegal q) (cau
     leaving-behind : y.leaving.items ≡ map (λ t. t.number) (pending_transfers more)
     leaving-behind =
         applied.leaving
-        ∙ ap (λ (ns : List ℕ). filter (λ n. is_left (slots_in y n)) ns ++ (effect_of event).departures) is.recorded.leaving
+        ∙ ap (λ (ns : List ℕ). filter (λ n. is_left (slots_in y n)) ns ++ (effect_of event).departures) is.leaving
         ∙ ap (λ (ns : List ℕ). ns ++ (effect_of event).departures)
         (filter-numbers (λ n. is_left (slots_in y n)) (λ t. not (ends_transfer t event)) (pending_transfers q.lines) left-kept)
         ∙ ap (λ (ns : List ℕ). map (λ t. t.number) (filter (λ t. not (ends_transfer t event)) (pending_transfers q.lines)) ++ ns) (sym (numbers-map (effect_of event).target (effect_of event).departures))
@@ -361,11 +374,9 @@ module _ (q : QueueHistory) (event : Event ContentText) (legal : IsLegal q) (cau
         ∙ ap (λ (ts : List Transfer). map (λ t. t.number) ts) (sym (pending-push q.lines entry))
 
     index-behind : IsIndexOf more q.clock z
-    index-behind = record {
-      indexed = indexed-settled (settings_of more).retention_seconds q.clock y z settling applied.indexed;
-      recorded = record { records = recorded-then; receives = settling.receives ∙ receives-behind; leaving = settling.leaving ∙ leaving-behind };
-      settled = settled-then;
-    }
+    index-behind =
+        keeps-records more q.clock z (indexed-settled (settings_of more).retention_seconds q.clock y z settling applied.indexed) recorded-then settled-then
+        (settling.receives ∙ receives-behind) (settling.leaving ∙ leaving-behind)
 
 pub event-index : (q : QueueHistory) (event : Event ContentText) (s : QueueSettings) (retention : ℕ) (x y z : MessageIndex) → IsLegal q → IsCausedIn q event → IsIndexOf q.lines q.clock x → s ≡ settings_of q.lines
     → IsApplied s q.clock event x y → retention ≡ (settings_of (with_event q event).lines).retention_seconds → IsSettling retention q.clock y z → IsIndexOf (with_event q event).lines q.clock z

@@ -27,7 +27,8 @@ use Rattle.queue_core.specs.declared.slot.Stay.TheVariants.{Hidden, Shown, Left}
 use Rattle.queue_core.specs.declared.slot.Slot.{Slot}
 use Rattle.queue_core.specs.declared.record.Record.{Record}
 use Rattle.queue_core.specs.declared.indices.Indices.{Indices}
-use Rattle.queue_core.specs.Slots.{is_hidden_stay, is_shown_stay, is_left_stay, is_left_stay_for, is_left_for, is_here, is_shown, is_left, is_delayed, is_in_flight, has_age as slot_has_age, shows, count_slots, AreIndexed}
+use Rattle.queue_core.specs.Heaps.{next_time, sent_time}
+use Rattle.queue_core.specs.Slots.{due_in, sent_in, is_hidden_stay, is_shown_stay, is_left_stay, is_left_stay_for, is_left_for, is_here, is_shown, is_left, is_delayed, is_in_flight, has_age as slot_has_age, shows, count_slots, AreIndexed}
 use Rattle.queue_core.specs.Records.{Records, stay_at, with_stay, has_run_out, settled_record, IsSettled}
 use Rattle.queue_core.specs.Recorded.{runs_out_by, IsStanding, IsRecordOf, notes_end, TellsExpiry, AreRecorded}
 use Rattle.queue_core.proofs.FactLemmas.{Line, numbered-number}
@@ -225,23 +226,23 @@ has_pair-map : (pair : ℕ × ℕ) (cs : List Candidate) → has_pair pair (map 
 has_pair-map pair [] = refl
 has_pair-map pair (c ∷ cs) = ap (λ (b : Bool). same_pair pair (pair_of c) || b) (has_pair-map pair cs)
 
-Contains-at : {X : Type 0} (xs : List X) (k : ℕ) (x : X) → slice_get xs k ≡ Some x → Contains xs x
+pub Contains-at : {X : Type 0} (xs : List X) (k : ℕ) (x : X) → slice_get xs k ≡ Some x → Contains xs x
 Contains-at xs k x h = (k, slice_get_within xs k x h, get_or_from_slice_get xs k x x h)
 
 module _ (lines : List Line) (clock : ℕ) where
   abbrev order : List Candidate
   order = receive_order lines clock
 
-  order_ascending : AreAscending (map pair_of order)
+  pub order_ascending : AreAscending (map pair_of order)
   order_ascending = AllPairs-map pair_of (λ a b. is_before a b ≡ true) order (λ i j d h k. before_by (get_or order i d) (get_or order j d) (receive_order-in_order lines clock i j d h k))
 
   -- a message of the journal has its own number there
-  numbered_there : (m : Message) → Contains (messages lines) m → message_numbered lines m.number ≡ Some m
+  pub numbered_there : (m : Message) → Contains (messages lines) m → message_numbered lines m.number ≡ Some m
   numbered_there m there =
       let found : message_numbered lines there.0 ≡ Some m = slice_get-get_or (messages lines) there.0 m there.1 ∙ ap (λ (x : Message). Some x) there.2 in
       subst (λ (n : ℕ). message_numbered lines n ≡ Some m) (sym (numbered-number lines there.0 m found)) found
 
-  abbrev is_visible_at : ℕ → Message → Bool
+  abbrev pub is_visible_at : ℕ → Message → Bool
   is_visible_at moment m = is_in_state Visible lines clock m && (due_time lines m == moment)
 
   number_from_pair : (moment n : ℕ) (c : Candidate) → IsVisibleCandidate lines clock c → same_pair (moment, n) (pair_of c) ≡ true → is_numbered (is_visible_at moment) lines n ≡ true
@@ -268,7 +269,7 @@ module _ (lines : List Line) (clock : ℕ) where
       list_any-from_Any (λ c. same_pair (moment, n) (pair_of c)) order
       (there.0, candidate_of lines m, there.1, there.2, and_from _ _ (eq-eqb moment (due_time lines m) due) (eq-eqb n m.number (sym (numbered-number lines n m e))))
 
-  pairs_are : (moment n : ℕ) → has_pair (moment, n) (map pair_of order) ≡ is_numbered (is_visible_at moment) lines n
+  pub pairs_are : (moment n : ℕ) → has_pair (moment, n) (map pair_of order) ≡ is_numbered (is_visible_at moment) lines n
   pairs_are moment n =
       same_from_decides {P = is_numbered (is_visible_at moment) lines n ≡ true} (has_pair (moment, n) (map pair_of order)) (is_numbered (is_visible_at moment) lines n)
       (numbers_from_pairs moment n, λ h. has_pair-map (moment, n) order ∙ pair_from_number moment n (message_numbered lines n) refl h)
@@ -304,17 +305,47 @@ module _ (lines : List Line) (clock : ℕ) (records : Records) (is : AreRecorded
       has_record lines clock m r (subst (λ (x : Message). TellsExpiry lines clock x r) same there.3) (subst (λ (x : Message). IsRecordOf lines x r) same there.2) (settled.settled n r k) (settled.shown n r k)
 
   -- a test of messages is one of slots, where it is so of each message with its record, and no message without one passes
-  numbered_at : (p : Message → Bool) (test : Option Slot → Bool) → test None ≡ false → ((m : Message) → is_live lines clock m ≡ false → awaits_transfer lines m ≡ false → p m ≡ false)
-      → ((m : Message) (r : Record) → HasRecord lines clock m r → p m ≡ test (Some r.slot)) → (n : ℕ) (found : Option Message) (kept : Option Record) → message_numbered lines n ≡ found
-      → records n ≡ kept → option_map_or p found false ≡ test (option_map (λ r. r.slot) kept)
-  numbered_at p test none absent with n None None e k = sym none
-  numbered_at p test none absent with n None (Some r) e k = let there = is.some n r k in absurd (none-some there.0 (sym e ∙ there.1))
-  numbered_at p test none absent with n (Some m) None e k = let gone = is.none n m e k in absent m gone.0 gone.1 ∙ sym none
-  numbered_at p test none absent with n (Some m) (Some r) e k = with m r (kept_by n m r e k)
+  told_at : {X : Type 0} (nothing : X) (p : Message → X) (test : Option Slot → X) → test None ≡ nothing → ((m : Message) → is_live lines clock m ≡ false → awaits_transfer lines m ≡ false → p m ≡ nothing)
+      → (n : ℕ) → ((m : Message) (r : Record) → HasRecord lines clock m r → records n ≡ Some r → p m ≡ test (Some r.slot)) → (found : Option Message) (kept : Option Record) → message_numbered lines n ≡ found
+      → records n ≡ kept → option_map_or p found nothing ≡ test (option_map (λ r. r.slot) kept)
+  told_at nothing p test none absent n with None None e k = sym none
+  told_at nothing p test none absent n with None (Some r) e k = let there = is.some n r k in absurd (none-some there.0 (sym e ∙ there.1))
+  told_at nothing p test none absent n with (Some m) None e k = let gone = is.none n m e k in absent m gone.0 gone.1 ∙ sym none
+  told_at nothing p test none absent n with (Some m) (Some r) e k = with m r (kept_by n m r e k) k
 
   numbered : (p : Message → Bool) (test : Option Slot → Bool) → test None ≡ false → ((m : Message) → is_live lines clock m ≡ false → awaits_transfer lines m ≡ false → p m ≡ false)
       → ((m : Message) (r : Record) → HasRecord lines clock m r → p m ≡ test (Some r.slot)) → (n : ℕ) → is_numbered p lines n ≡ test (slots_of records n)
-  numbered p test none absent with n = numbered_at p test none absent with n (message_numbered lines n) (records n) refl refl
+  numbered p test none absent with n = told_at false p test none absent n (λ m r has at. with m r has) (message_numbered lines n) (records n) refl refl
+
+  -- ---- the indices
+
+  next_by : (stay : Stay) (due : ℕ) (c : Course) (live late fresh : Bool) → IsStanding stay due c → IsSeen stay live late
+      → cond (live && not (state_by Visible live late fresh)) (Some c.due) None ≡ cond (is_hidden_stay stay) (Some due) None
+  next_by Hidden due c live late true stands seen = rw (seen.0, seen.1, stands.1) refl
+  next_by Hidden due c live late false stands seen = rw (seen.0, seen.1, stands.1) refl
+  next_by Shown due c live late fresh stands seen = rw (seen.0, seen.1) refl
+  next_by (Left target ran_out) due c live late fresh stands seen = rw seen refl
+
+  sent_by : (stay : Stay) (live late : Bool) (at sent : ℕ) → IsSeen stay live late → at ≡ sent → cond live (Some sent) None ≡ cond (is_left_stay stay) None (Some at)
+  sent_by Hidden live late at sent seen same = rw (seen.0, same) refl
+  sent_by Shown live late at sent seen same = rw (seen.0, same) refl
+  sent_by (Left target ran_out) live late at sent seen same = rw seen refl
+
+  gone_next : (live : Bool) (m : Message) → is_live lines clock m ≡ live → live ≡ false → cond (is_live lines clock m && not (is_in_state Visible lines clock m)) (Some (due_time lines m)) None ≡ None
+  gone_next live m e h = ap (λ (b : Bool). cond (b && not (is_in_state Visible lines clock m)) (Some (due_time lines m)) None) (e ∙ h)
+
+  pub next_is : (n : ℕ) → next_time lines clock n ≡ due_in (slots_of records n)
+  next_is n =
+      told_at None (λ m. cond (is_live lines clock m && not (is_in_state Visible lines clock m)) (Some (due_time lines m)) None) due_in refl
+      (λ m dead none. gone_next (is_live lines clock m) m refl dead) n
+      (λ m r has at. next_by r.slot.stay r.slot.due (course_of lines m) (is_live lines clock m) (is_late lines clock m) (is_unused lines m) has.of.standing has.seen)
+      (message_numbered lines n) (records n) refl refl
+
+  pub sent_is : ((n : ℕ) (r : Record) → records n ≡ Some r → r.slot.sent ≡ r.first_send_time) → (n : ℕ) → sent_time lines clock n ≡ sent_in (slots_of records n)
+  sent_is sent n =
+      told_at None (λ m. cond (is_live lines clock m) (Some m.first_send_time) None) sent_in refl (λ m dead none. ap (λ (b : Bool). cond b (Some m.first_send_time) None) dead) n
+      (λ m r has at. sent_by r.slot.stay (is_live lines clock m) (is_late lines clock m) r.slot.sent m.first_send_time has.seen (sent n r at ∙ has.of.first_send_time))
+      (message_numbered lines n) (records n) refl refl
 
   pub here_is : (n : ℕ) → is_numbered (λ m. is_live lines clock m) lines n ≡ is_here (slots_of records n)
   here_is n = numbered (λ m. is_live lines clock m) is_here refl (λ m h k. h) (λ m r has. here_by lines clock m r has) n

@@ -1,11 +1,11 @@
 -- What lasts, whatever commands follow: what is removed, what has expired, and the content of a number.
 use Rattle.std.proofs.Common.{◌≡◌, ℕ, ◌+◌, ◌*◌, ◌≤◌, ◌<◌, max, Bool, true, false, not, cond, ◌&&◌, leb, eqb, List, [], ◌∷◌, ◌++◌, length, Option, Some, None, Result, Ok, refl, sym, ap, inl, inr, ◌∙◌, arith}
-use Rattle.std.specs.Prelude.{IfSome, nat_lt, unwrap_or, option_and_then}
+use Rattle.std.specs.Prelude.{IfSome, ◌-◌, nat_lt, slice_get, unwrap_or, option_map, option_and_then}
 use Rattle.std.specs.Option.{option_map_or}
 use Rattle.std.specs.List.{All, Contains}
 use Rattle.std.proofs.lemmas.List.{drop_all}
 use Rattle.std.proofs.lemmas.List.Elements.{All-contains, All-weaker}
-use Rattle.std.proofs.lemmas.Bool.{leb-true, cases_lt, eq-eqb, false≢true}
+use Rattle.std.proofs.lemmas.Bool.{leb-true, le-ltb, cases_lt, false≢true}
 use Rattle.message.specs.declared.fault.Fault.{Fault}
 use Rattle.message.specs.declared.fault.Fault.TheVariants.{InvalidParameterValue}
 use Rattle.message.specs.Fault.{is_out_of_memory}
@@ -24,7 +24,7 @@ use Rattle.queue_core.specs.declared.command.Step.{Step}
 use Rattle.queue_core.specs.declared.reply.Reply.{Reply}
 use Rattle.queue_core.specs.declared.reply.Reply.TheVariants as replies
 use Rattle.queue_core.specs.declared.reply.Posted.{Posted}
-use Rattle.queue_core.specs.Messages.{contains_number, messages, message_count, own_id, content_of, settings_of, opens, is_expired, status_after, course_from, course_of, is_removed_status, is_removed, receive_count, due_time, is_returned, returns}
+use Rattle.queue_core.specs.Messages.{Birth, effect_of, message_in, contains_number, messages, message_count, own_id, content_of, settings_of, opens, is_expired, status_after, course_from, course_of, is_removed_status, is_removed, receive_count, due_time, is_returned, returns}
 use Rattle.queue_core.specs.States.{is_live, same_state, message_numbered}
 use Rattle.queue_core.specs.Queue.{QueueHistory, Outcome, at_moment, refusal, unless_refused, first_refusal, offered_candidates, received_event, numbers_of, leaves_clock, reached, outcome_at, with_event, with_optional_event, after_answer, look_of}
 use Rattle.queue_core.specs.Run.{AreExact, after_all}
@@ -34,7 +34,7 @@ use Rattle.queue_core.proofs.AlikeLemmas.{in_state}
 use Rattle.queue_core.proofs.OfferLemmas.{Contains-map, offered_visible}
 use Rattle.queue_core.proofs.PendingLemmas.{contains-number}
 use Rattle.queue_core.proofs.CauseLemmas.{IsAbout, about-outcome}
-use Rattle.queue_core.proofs.PushLemmas.{Line, first_course, course-push, unexpired-past, content-push, numbered-push, numbered-kept, newborn}
+use Rattle.queue_core.proofs.PushLemmas.{Line, first_course, course-push, unexpired-past, content-push, numbered-push, numbered-kept, begun_at, newborn}
 use Rattle.queue_core.proofs.RecordLemmas.{expired-later, expired-push}
 use Rattle.queue_core.proofs.RefusalLemmas.{all-placed}
 
@@ -114,9 +114,12 @@ content-sent : (lines : List Line) (at delay : ℕ) (content : ContentText) → 
 content-sent lines at delay content =
     let x : Line = record { at = at; event = Sent delay content } in
     let count : ℕ = message_count lines in
-    let m : Message = record { number = count; place = length lines; enqueue_time = at; first_send_time = at; first_due_time = at + 1000 * delay; origin = None } in
-    let last : message_numbered (lines ++ x ∷ []) count ≡ Some m = numbered-push lines x count ∙ ap (λ (b : Bool). cond b (Some m) (message_numbered lines count)) (eq-eqb count count refl) in
-    ap (option_and_then (λ (m : Message). content_of (lines ++ x ∷ []) m)) last ∙ (newborn lines x count m refl).content
+    let birth : Birth ContentText = record { content = content; delay = delay; origin = None } in
+    let first : slice_get (effect_of x.event).births (count - count) ≡ Some birth = let none : count - count ≡ 0 = omega arith in ap (slice_get (birth ∷ [])) none in
+    let last : message_numbered (lines ++ x ∷ []) count ≡ Some (message_in (length lines) count at birth) =
+    numbered-push lines x count
+    ∙ (ap (λ (b : Bool). cond b (message_numbered lines count) (begun_at lines x count)) (le-ltb count count (omega arith)) ∙ ap (option_map (message_in (length lines) count at)) first) in
+    ap (option_and_then (λ (m : Message). content_of (lines ++ x ∷ []) m)) last ∙ (newborn lines x count birth (omega arith) first).content
 
 module _ (q : QueueHistory) (content : ContentText) (delay : ℕ) (posted : Posted) where
   abbrev sending : Outcome

@@ -1,5 +1,5 @@
 -- A legal journal stays legal as the clock moves on and as an entry that a command adds is added.
-use Rattle.std.proofs.Common.{◌≡◌, ℕ, ◌≤◌, ◌<◌, max, Bool, true, false, cond, List, [], ◌∷◌, ◌++◌, length, Option, Some, None, Result, Ok, Err, refl, sym, ap, ◌∙◌, subst, append_assoc, arith}
+use Rattle.std.proofs.Common.{◌≡◌, ℕ, ◌-◌, ◌≤◌, ◌<◌, max, Bool, true, false, cond, List, [], ◌∷◌, ◌++◌, length, Option, Some, None, Result, Ok, Err, refl, sym, ap, ◌∙◌, subst, append_assoc, arith}
 use Rattle.std.specs.Prelude.{OnOk, OnErr, nat_lt, nat_le, unwrap_or}
 use Rattle.std.proofs.lemmas.List.{append-nil, length-append}
 use Rattle.std.proofs.lemmas.Bool.{false≢true, or_parts}
@@ -22,8 +22,8 @@ use Rattle.queue_core.specs.declared.reply.Reply.TheVariants as replies
 use Rattle.metric_window.specs.declared.gauges.Gauges.{Gauges}
 use Rattle.queue_core.specs.Messages.{settings_of, created_time, modified_time, closes, is_closed, has_accepted}
 use Rattle.queue_core.specs.States.{gauges_of}
-use Rattle.queue_core.specs.Queue.{QueueHistory, Outcome, at_moment, is_full, first_refusal, with_room, done, send_outcome, receive_outcome, change_outcome, delete_outcome, close_outcome, arrive_outcome, is_pending, settle_outcome, orphan_outcome, waiting_count, in_flight_count, offered_candidates, offers_of, received_event, change_refusal, is_valid_handle, holds_live, outcome_of, with_event, with_optional_event, look_of}
-use Rattle.queue_core.specs.Legal.{IsOrdered, IsCausedIn, AreCaused, BeginsAndFollows}
+use Rattle.queue_core.specs.Queue.{QueueHistory, Outcome, at_moment, is_full, first_refusal, with_room, done, send_outcome, receive_outcome, change_outcome, delete_outcome, close_outcome, arrive_outcome, is_pending, settle_outcome, orphan_outcome, waiting_count, in_flight_count, offered_candidates, offers_of, received_event, change_refusal, is_valid_handle, holds_live, outcome_of, with_event, with_optional_event, wants_room_alone, look_of}
+use Rattle.queue_core.specs.Legal.{IsOrdered, IsAllowedIn, IsCausedIn, AreCaused, BeginsAndFollows}
 use Rattle.queue_core.specs.Kept.{IsKept}
 use Rattle.queue_core.proofs.PushLemmas.{closed-push}
 
@@ -108,6 +108,53 @@ place_left-push q event place unclosed =
     let below = not_full q (place.room still_open.1) in
     rw length-append (omega arith)
 
+allowed-spare : (q : QueueHistory) (n : ℕ) (command : Command) → IsAllowedIn q command → IsAllowedIn (record q { spare = n }) command
+allowed-spare q n (Send content delay) h = h
+allowed-spare q n (Receive maximum timeout) h = h
+allowed-spare q n (Change handle timeout) h = h
+allowed-spare q n (Delete handle) h = h
+allowed-spare q n Purge h = h
+allowed-spare q n (commands.Set wish target) h = h
+allowed-spare q n (commands.Arrive parcel) h = h
+allowed-spare q n (commands.Settle number) h = h
+allowed-spare q n (commands.Orphan target) h = h
+allowed-spare q n commands.Close h = h
+allowed-spare q n commands.Look h = h
+allowed-spare q n commands.FirstParcel h = h
+
+outcome-spare : (q : QueueHistory) (n : ℕ) (command : Command) → (outcome_of (record q { spare = n }) command).event ≡ (outcome_of q command).event
+outcome-spare q n (Send content delay) = refl
+outcome-spare q n (Receive maximum timeout) = refl
+outcome-spare q n (Change handle timeout) = refl
+outcome-spare q n (Delete handle) = refl
+outcome-spare q n Purge = refl
+outcome-spare q n (commands.Set wish target) = refl
+outcome-spare q n (commands.Arrive parcel) = refl
+outcome-spare q n (commands.Settle number) = refl
+outcome-spare q n (commands.Orphan target) = refl
+outcome-spare q n commands.Close = refl
+outcome-spare q n commands.Look = refl
+outcome-spare q n commands.FirstParcel = refl
+
+caused-spare : (q : QueueHistory) (n : ℕ) (event : Event ContentText) → IsCausedIn q event → IsCausedIn (record q { spare = n }) event
+caused-spare q n event h = record { command = h.command; allowed = allowed-spare q n h.command h.allowed; added = outcome-spare q n h.command ∙ h.added }
+
+all_caused-spare : (q : QueueHistory) (n : ℕ) (before es : List (Entry ContentText)) → AreCaused q before es → AreCaused (record q { spare = n }) before es
+all_caused-spare q n before [] h = tt
+all_caused-spare q n before (e ∷ es) h = (caused-spare (record q { clock = e.at; lines = before }) n e.event h.0, all_caused-spare q n (before ++ e ∷ []) es h.1)
+
+legal-spare : (q : QueueHistory) (n : ℕ) (lines : List (Entry ContentText)) → BeginsAndFollows q lines → BeginsAndFollows (record q { spare = n }) lines
+legal-spare q n [] h = absurd h
+legal-spare q n (e ∷ es) h = (h.0, all_caused-spare q n (e ∷ []) es h.1)
+
+pub kept-spare : (q : QueueHistory) (limit n : ℕ) → IsKept q limit → IsKept (record q { spare = n }) limit
+kept-spare q limit n h = record {
+  room = h.room;
+  within = h.within;
+  place_left = h.place_left;
+  legal = record { ordered = h.legal.ordered; caused = legal-spare q n q.lines h.legal.caused };
+}
+
 IsKept-with_event : (q : QueueHistory) (limit : ℕ) (event : Event ContentText) → IsKept q limit → (k : IsCausedIn q event) → HasPlace q event → IsKept (with_event q event) limit
 IsKept-with_event q limit event h k place = record {
   room = h.room;
@@ -115,7 +162,7 @@ IsKept-with_event q limit event h k place = record {
   place_left = place_left-push q event place;
   legal = record {
     ordered = IsOrdered-push 0 q.lines q.clock event h.legal.ordered;
-    caused = BeginsAndFollows-push q q.lines (record { at = q.clock; event = event }) h.legal.caused k;
+    caused = legal-spare q (q.spare - 1) (q.lines ++ record { at = q.clock; event = event } ∷ []) (BeginsAndFollows-push q q.lines (record { at = q.clock; event = event }) h.legal.caused k);
   };
 }
 
@@ -128,10 +175,10 @@ place-left q limit event h k =
 
 pub IsKept-pushed : {X : Type 0} (q : QueueHistory) (old new : Lines) (event : Event ContentText) (r : Result X Fault) → q.lines ≡ old.lines
     → OnOk r (new ≡ with_line old (record { at = q.clock; event = event })) → OnErr r (new ≡ old) → IsKept q old.limit → IsCausedIn q event
-    → IsKept (record q { lines = new.lines }) new.limit
+    → IsKept (record q { lines = new.lines; spare = new.spare }) new.limit
 IsKept-pushed q old new event (Ok x) e ok err h k =
-    rw (ok, ← e) (IsKept-with_event q old.limit event h k (HasPlace-caused q k.command event k.added))
-IsKept-pushed q old new event (Err fault) e ok err h k = rw (err, ← e) h
+    rw (ok, ← e) (kept-spare (with_event q event) old.limit (old.spare - 1) (IsKept-with_event q old.limit event h k (HasPlace-caused q k.command event k.added)))
+IsKept-pushed q old new event (Err fault) e ok err h k = rw (err, ← e) (kept-spare q old.limit old.spare h)
 
 -- what each command adds to an open journal with room
 module _ (q : QueueHistory) (room : first_refusal q ≡ None) where
@@ -166,6 +213,13 @@ module _ (q : QueueHistory) (room : first_refusal q ≡ None) where
   state-received there new maximum timeout event is free e after =
       subst (λ (r : QueueHistory). new ≡ with_optional_event r (outcome_of r (Receive maximum timeout)).event) is
       (after ∙ ap (λ (x : Event ContentText). with_event q x) e ∙ ap (λ (o : Option (Event ContentText)). with_optional_event q o) (sym (event-received maximum timeout free)))
+
+  -- it wants more than its place
+  pub more-received : {X : Type 0} (there : QueueHistory) (maximum : ℕ) (timeout : Option ℕ) → q ≡ there → nat_le q.limits.in_flight (in_flight_count q) ≡ false
+      → wants_room_alone (outcome_of there (Receive maximum timeout)) ≡ true → X
+  more-received there maximum timeout is free alone =
+      let more : wants_room_alone (outcome_of q (Receive maximum timeout)) ≡ false = rw (room, free) refl in
+      absurd (false≢true (sym more ∙ subst (λ (r : QueueHistory). wants_room_alone (outcome_of r (Receive maximum timeout)) ≡ true) (sym is) alone))
 
   pub event-change_refused : (h : Handle) (timeout : ℕ) (fault : Fault) → change_refusal q h timeout ≡ Some fault → (outcome_of q (Change h timeout)).event ≡ Some (Refused fault)
   event-change_refused h timeout fault e = rw (room, e) refl

@@ -19,6 +19,9 @@ mod ToldLemmas
 mod RecordLemmas
 mod PairLemmas
 mod IndexedLemmas
+mod SummaryLemmas
+mod StandingLemmas
+mod StandingStepLemmas
 mod StateLemmas
 mod RefusalLemmas
 pub mod OwnRefusalLemmas

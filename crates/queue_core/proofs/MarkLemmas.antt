@@ -1,5 +1,5 @@
 -- The definitions of a queue's numbers do not look at a content: over marks they give what they give over lines.
-use Rattle.std.proofs.Common.{◌≡◌, ℕ, suc, false, cond, List, [], ◌∷◌, map, drop, refl, sym, ap, ◌∙◌}
+use Rattle.std.proofs.Common.{◌≡◌, ℕ, suc, ◌+◌, false, cond, List, [], ◌∷◌, map, drop, refl, sym, ap, ◌∙◌}
 use Rattle.std.specs.List.{list_any, AllByRecursion}
 use Rattle.std.proofs.lemmas.List.{drop-map}
 use Rattle.std.proofs.lemmas.List.Sums.{sum_by-cons}
@@ -12,16 +12,21 @@ use Rattle.queue_core.specs.declared.facts.Message.{Message}
 use Rattle.queue_core.specs.declared.facts.Course.{Course}
 use Rattle.queue_core.specs.declared.facts.Status.{Status}
 use Rattle.queue_core.specs.declared.facts.Status.TheVariants.{Present, Removed, Waiting, Transferred}
-use Rattle.queue_core.specs.Messages.{message_of, messages_from, messages, settings_after, settings_from, closes_period, periods_from, runs_out_in, opens, created_time, offers_number, receive_count, status_after, returns, due_after, course_after, course_from, course_of}
+use Rattle.queue_core.specs.Messages.{effect_of, messages_in, messages_from, messages, settings_after, settings_from, closes_period, periods_from, runs_out_in, opens, created_time, offers_number, receive_count, status_after, returns, due_after, course_after, course_from, course_of}
 use Rattle.queue_core.specs.States.{gauges_of, receive_order}
+use Rattle.queue_core.specs.Tally.{births}
 use Rattle.journal.specs.Mark.{mark_event, mark_of}
 use Rattle.queue_core.proofs.AlikeLemmas.{IsAlike, gauges-alike, order-alike}
 
 -- ---- one event
 
-message_of-mark : (place number at : ℕ) (event : Event ContentText) → message_of place number at (mark_event content_size event) ≡ message_of place number at event
-message_of-mark place number at (Sent delay content) = refl
-message_of-mark place number at event = refl
+messages_in-mark : (place number at : ℕ) (event : Event ContentText) → messages_in place number at (effect_of (mark_event content_size event)).births ≡ messages_in place number at (effect_of event).births
+messages_in-mark place number at (Sent delay content) = refl
+messages_in-mark place number at event = refl
+
+births-mark : (event : Event ContentText) → births (mark_event content_size event) ≡ births event
+births-mark (Sent delay content) = refl
+births-mark event = refl
 
 settings_after-mark : (s : QueueSettings) (event : Event ContentText) → settings_after s (mark_event content_size event) ≡ settings_after s event
 settings_after-mark s (Sent delay content) = refl
@@ -65,7 +70,7 @@ course_after-mark number c e = rw (status_after-mark number c.status e.event, du
 pub messages_from-marks : (place number : ℕ) (lines : List (Entry ContentText)) → messages_from place number (map (mark_of content_size) lines) ≡ messages_from place number lines
 messages_from-marks place number [] = refl
 messages_from-marks place number (e ∷ es) =
-    rw (message_of-mark place number e.at e.event, messages_from-marks (suc place) (suc number) es, messages_from-marks (suc place) number es) refl
+    rw (messages_in-mark place number e.at e.event, births-mark e.event, messages_from-marks (suc place) (number + births e.event) es) refl
 
 pub settings_from-marks : (s : QueueSettings) (lines : List (Entry ContentText)) → settings_from s (map (mark_of content_size) lines) ≡ settings_from s lines
 settings_from-marks s [] = refl

@@ -24,7 +24,7 @@ use Rattle.queue_core.specs.Messages.{effect_of, contains_number, is_expired, is
 use Rattle.queue_core.specs.States.{is_live, waiting_state, same_state, is_in_state, is_numbered, message_numbered}
 use Rattle.queue_core.specs.Queue.{QueueHistory}
 use Rattle.queue_core.specs.Legal.{IsLegal, IsOpening}
-use Rattle.queue_core.proofs.PushLemmas.{ended-push, IsNew, numbered-cases, numbered-kept, course-kept, newborn}
+use Rattle.queue_core.proofs.PushLemmas.{ended-push, IsNew, numbered-cases, numbered-kept, course-kept, new_course}
 use Rattle.queue_core.proofs.OfferLemmas.{Contains-filter, Contains-from_filter}
 use Rattle.queue_core.proofs.PairLemmas.{AllPairs-map}
 use Rattle.queue_core.proofs.CauseLemmas.{AllPairs-nil, AllPairs-head, AllPairs-tail, IsAbout, about-caused}
@@ -241,7 +241,7 @@ module _ (q : QueueHistory) (e : Entry ContentText) (is : IsAbout q e.event) (be
       → (course_of (after q.lines e) m).status ≡ Waiting target → Contains (still_open q.lines e ++ departures e.event) (transfer target n)
   pending_after n target m (inl old) h =
       pending_old n target m old (waits_since n target (course_of q.lines m).status e.event (sym (status-push q.lines e n m old) ∙ h))
-  pending_after n target m (inr new) h = absurd (not_both_statuses (course_of (after q.lines e) m).status target (ap (λ (c : Course). c.status) (newborn q.lines e n m new.1).course) h)
+  pending_after n target m (inr new) h = absurd (not_both_statuses (course_of (after q.lines e) m).status target (ap (λ (c : Course). c.status) (new_course q.lines e n m new)) h)
 
   apart_begun : (t d : Transfer) → Contains (still_open q.lines e) t → Contains (departures e.event) d → HaveOtherNumbers t d
   apart_begun t d h k =

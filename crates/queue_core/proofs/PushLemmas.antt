@@ -1,15 +1,15 @@
 -- What one entry more makes of what a journal says of its messages, and which messages it has by number.
-use Rattle.std.proofs.Common.{◌≡◌, ℕ, zero, suc, ◌+◌, ◌*◌, ◌≤◌, ◌<◌, Bool, true, false, cond, ◌&&◌, ◌||◌, ltb, leb, eqb, List, [], ◌∷◌, ◌++◌, length, drop, Option, Some, None, refl, sym, ap, inl, inr, ◌∙◌, arith}
-use Rattle.std.specs.Prelude.{◌⊎◌, nat_eq, is_some, slice_get, option_map, option_and_then, option_to_list}
-use Rattle.std.specs.Option.{option_map_or, option_or}
+use Rattle.std.proofs.Common.{◌≡◌, ℕ, zero, suc, ◌+◌, ◌*◌, ◌≤◌, ◌<◌, Bool, true, false, cond, ◌&&◌, ◌||◌, ltb, leb, List, [], ◌∷◌, ◌++◌, length, drop, Option, Some, None, refl, sym, ap, subst, inl, inr, ◌∙◌, arith}
+use Rattle.std.specs.Prelude.{◌⊎◌, ◌-◌, nat_lt, slice_get, option_map}
+use Rattle.std.specs.Option.{option_or}
 use Rattle.std.specs.List.{list_any, find}
-use Rattle.std.proofs.Math.Dec.{eqb-suc-zero, eqb-zero-suc, eqb-suc-suc}
 use Rattle.std.proofs.Math.Seq.{drop-append_seam}
-use Rattle.std.proofs.lemmas.Bool.{lt-ltb, le-ltb, eqb-true, ne_eqb, and_left, and_right, or_from}
-use Rattle.std.proofs.lemmas.List.{drop-append-le, length-append}
+use Rattle.std.proofs.lemmas.Bool.{lt-ltb, le-ltb, ltb-false, cases_lt, and_left, and_right, or_from}
+use Rattle.std.proofs.lemmas.Grind.{flat_map-append}
+use Rattle.std.proofs.lemmas.List.{append-nil, append_assoc, drop-append-le, length-append, length-map}
 use Rattle.std.proofs.lemmas.List.Folds.{find-append, list_any-append}
 use Rattle.std.proofs.lemmas.List.Sums.{sum_by_push}
-use Rattle.std.proofs.lemmas.Option.{none-some, slice_get_past, slice_get_within}
+use Rattle.std.proofs.lemmas.Option.{none-some, same_Some, slice_get-map, slice_get_past, slice_get_within}
 use Rattle.message.specs.Content.{ContentText}
 use Rattle.queue_config.specs.Settings.{QueueSettings, default_settings}
 use Rattle.journal.specs.declared.entry.Entry.{Entry}
@@ -19,10 +19,10 @@ use Rattle.queue_core.specs.declared.facts.Message.{Message}
 use Rattle.queue_core.specs.declared.facts.Course.{Course}
 use Rattle.queue_core.specs.declared.facts.Status.TheVariants.{Present}
 use Rattle.queue_core.specs.declared.facts.Transfer.{Transfer}
-use Rattle.queue_core.specs.Messages.{Birth, effect_of, message_of, messages_from, messages, message_count, content_in, content_of, settings_after, settings_from, settings_of, RetentionPeriod, closes_period, periods_from, runs_out_in, is_expired, offers_number, receive_count, first_receive_time, last_receive_from, last_receive_time, course_after, course_from, course_of, ends_transfer, accepts, has_accepted, closes, is_closed}
+use Rattle.queue_core.specs.Messages.{Birth, effect_of, message_in, messages_in, messages_from, messages, message_count, contents_in, contents, content_of, settings_after, settings_from, settings_of, RetentionPeriod, closes_period, periods_from, runs_out_in, is_expired, offers_number, receive_count, first_receive_time, last_receive_from, last_receive_time, course_after, course_from, course_of, ends_transfer, accepts, has_accepted, closes, is_closed}
 use Rattle.queue_core.specs.Tally.{births}
 use Rattle.queue_core.specs.States.{message_numbered}
-use Rattle.queue_core.proofs.Scans.{by_closing}
+use Rattle.queue_core.proofs.Scans.{by_closing, length-messages_in, births_few}
 use Rattle.queue_core.specs.Recorded.{closed_periods_from, ran_out_before, runs_out_by}
 
 abbrev pub Line : Type 0
@@ -43,20 +43,34 @@ slice_get-prefix [] ys i x h = absurd (none-some x h)
 slice_get-prefix (z ∷ xs) ys zero x h = h
 slice_get-prefix (z ∷ xs) ys (suc i) x h = slice_get-prefix xs ys i x h
 
-slice_get-end : {X : Type 0} (xs : List X) (x : X) → slice_get (xs ++ x ∷ []) (length xs) ≡ Some x
-slice_get-end [] x = refl
-slice_get-end (z ∷ xs) x = slice_get-end xs x
+-- behind a list as long as k
+pub slice_get-behind : {X : Type 0} (xs ys : List X) (i k : ℕ) → i ≡ length xs + k → slice_get (xs ++ ys) i ≡ slice_get ys k
+slice_get-behind [] ys i k h = let same : i ≡ k = omega arith in ap (slice_get ys) same
+slice_get-behind (z ∷ xs) ys zero k h = absurd (omega arith)
+slice_get-behind (z ∷ xs) ys (suc i) k h = slice_get-behind xs ys i k (omega arith)
 
-slice_get-optional : {X : Type 0} (o : Option X) (i : ℕ) → slice_get (option_to_list o) i ≡ cond (eqb i 0) o None
-slice_get-optional None zero = refl
-slice_get-optional None (suc i) = rw eqb-suc-zero refl
-slice_get-optional (Some x) zero = refl
-slice_get-optional (Some x) (suc i) = rw eqb-suc-zero refl
+slice_get-before : {X : Type 0} (xs ys : List X) (i : ℕ) → i < length xs → slice_get (xs ++ ys) i ≡ slice_get xs i
+slice_get-before [] ys i h = absurd (omega arith)
+slice_get-before (z ∷ xs) ys zero h = refl
+slice_get-before (z ∷ xs) ys (suc i) h = slice_get-before xs ys i (omega arith)
 
-pub slice_get-push : {X : Type 0} (xs : List X) (o : Option X) (i : ℕ) → slice_get (xs ++ option_to_list o) i ≡ cond (eqb i (length xs)) o (slice_get xs i)
-slice_get-push [] o i = slice_get-optional o i
-slice_get-push (z ∷ xs) o zero = rw eqb-zero-suc refl
-slice_get-push (z ∷ xs) o (suc i) = rw eqb-suc-suc (slice_get-push xs o i)
+pub slice_get-append : {X : Type 0} (xs ys : List X) (i : ℕ) → slice_get (xs ++ ys) i ≡ cond (ltb i (length xs)) (slice_get xs i) (slice_get ys (i - length xs))
+slice_get-append xs ys i = elim (cases_lt i (length xs)) [
+  | inl before ↦ slice_get-before xs ys i before ∙ ap (λ (b : Bool). cond b (slice_get xs i) (slice_get ys (i - length xs))) (sym (lt-ltb i (length xs) before))
+  | inr behind ↦
+      slice_get-behind xs ys i (i - length xs) (omega arith)
+      ∙ ap (λ (b : Bool). cond b (slice_get xs i) (slice_get ys (i - length xs))) (sym (le-ltb i (length xs) behind))
+]
+
+-- the only element
+pub slice_get-only : {X : Type 0} (x y : X) (i : ℕ) → slice_get (x ∷ []) i ≡ Some y → (i ≡ 0) × (x ≡ y)
+slice_get-only x y zero h = (refl, same_Some x y h)
+slice_get-only x y (suc i) h = absurd (none-some y h)
+
+-- what a mapped option has
+pub mapped_some : {X Y : Type 0} (f : X → Y) (o : Option X) (y : Y) → option_map f o ≡ Some y → (x : X) × (o ≡ Some x) × (f x ≡ y)
+mapped_some f None y h = absurd (none-some y h)
+mapped_some f (Some x) y h = (x, refl, same_Some (f x) y h)
 
 any-push : {X : Type 0} (test : X → Bool) (xs : List X) (x : X) → list_any test (xs ++ x ∷ []) ≡ (list_any test xs || test x)
 any-push test xs x = list_any-append test xs (x ∷ []) ∙ ap (λ (b : Bool). list_any test xs || b) (or_false (test x))
@@ -175,125 +189,126 @@ last-push lines e n = last_receive_from-push n 0 lines e
 
 -- ---- contents
 
-content-at : (lines : List Line) (e : Line) (m : Message) (content : ContentText) (o : Option Line) → slice_get lines m.place ≡ o → option_and_then (λ x. content_in x.event) o ≡ Some content
-    → content_of (lines ++ e ∷ []) m ≡ Some content
-content-at lines e m content None is h = absurd (none-some content h)
-content-at lines e m content (Some x) is h = ap (option_and_then (λ (y : Line). content_in y.event)) (slice_get-prefix lines (e ∷ []) m.place x is) ∙ h
+pub contents-push : {C : Type 0} (lines : List (Entry C)) (e : Entry C) → contents (lines ++ e ∷ []) ≡ contents lines ++ contents_in e.event
+contents-push {C} lines e =
+    flat_map-append (λ (x : Entry C). contents_in x.event) lines (e ∷ []) ∙ ap (λ (cs : List C). contents lines ++ cs) (append-nil (contents_in e.event))
 
 pub content-push : (lines : List Line) (e : Line) (m : Message) (content : ContentText) → content_of lines m ≡ Some content → content_of (lines ++ e ∷ []) m ≡ Some content
-content-push lines e m content h = content-at lines e m content (slice_get lines m.place) refl h
+content-push lines e m content h = ap (λ (cs : List ContentText). slice_get cs m.number) (contents-push lines e) ∙ slice_get-prefix (contents lines) (contents_in e.event) m.number content h
 
 -- ---- the messages by number
 
-as_list : (o : Option Message) → option_map_or (λ m. m ∷ []) o [] ≡ option_to_list o
-as_list None = refl
-as_list (Some m) = refl
-
-messages-head : (o : Option Message) (xs ys more others last : List Message) (number next : ℕ) → (next ≡ suc number + length xs → more ≡ xs ++ last) → (next ≡ number + length ys → others ≡ ys ++ last)
-    → next ≡ number + length (option_map_or (λ m. m ∷ xs) o ys) → option_map_or (λ m. m ∷ more) o others ≡ option_map_or (λ m. m ∷ xs) o ys ++ last
-messages-head None xs ys more others last number next f g h = g h
-messages-head (Some m) xs ys more others last number next f g h = ap (λ (ms : List Message). m ∷ ms) (f (omega arith))
-
-messages_from-push : (place number : ℕ) (lines : List Line) (e : Line) (end next : ℕ) → end ≡ place + length lines → next ≡ number + length (messages_from place number lines)
-    → messages_from place number (lines ++ e ∷ []) ≡ messages_from place number lines ++ option_to_list (message_of end next e.at e.event)
-messages_from-push place number [] e end next h k =
+-- those of two lists of entries, one behind the other
+pub messages_from-append : {C : Type 0} (place number : ℕ) (xs ys : List (Entry C)) (end next : ℕ) → end ≡ place + length xs → next ≡ number + length (messages_from place number xs)
+    → messages_from place number (xs ++ ys) ≡ messages_from place number xs ++ messages_from end next ys
+messages_from-append place number [] ys end next h k =
     let p : place ≡ end = omega arith in
     let n : number ≡ next = omega arith in
-    as_list (message_of place number e.at e.event)
-    ∙ (ap (λ (i : ℕ). option_to_list (message_of i number e.at e.event)) p ∙ ap (λ (i : ℕ). option_to_list (message_of end i e.at e.event)) n)
-messages_from-push place number (x ∷ xs) e end next h k =
-    messages-head (message_of place number x.at x.event) (messages_from (suc place) (suc number) xs) (messages_from (suc place) number xs)
-    (messages_from (suc place) (suc number) (xs ++ e ∷ [])) (messages_from (suc place) number (xs ++ e ∷ [])) (option_to_list (message_of end next e.at e.event)) number next
-    (λ n. messages_from-push (suc place) (suc number) xs e end next (omega arith) n) (λ n. messages_from-push (suc place) number xs e end next (omega arith) n) k
+    ap (λ (i : ℕ). messages_from i number ys) p ∙ ap (λ (i : ℕ). messages_from end i ys) n
+messages_from-append place number (x ∷ xs) ys end next h k =
+    let begun = messages_in place number x.at (effect_of x.event).births in
+    let rest = messages_from (suc place) (number + births x.event) xs in
+    ap (λ (ms : List Message). begun ++ ms)
+    (messages_from-append (suc place) (number + births x.event) xs ys end next (omega arith) (omega (arith, length-append begun rest, length-messages_in place number x.at (effect_of x.event).births)))
+    ∙ sym (append_assoc begun rest (messages_from end next ys))
 
-pub messages-push : (lines : List Line) (e : Line) → messages (lines ++ e ∷ []) ≡ messages lines ++ option_to_list (message_of (length lines) (message_count lines) e.at e.event)
-messages-push lines e = messages_from-push 0 0 lines e (length lines) (message_count lines) (omega arith) (omega arith)
+pub messages-append : {C : Type 0} (xs ys : List (Entry C)) → messages (xs ++ ys) ≡ messages xs ++ messages_from (length xs) (message_count xs) ys
+messages-append xs ys = messages_from-append 0 0 xs ys (length xs) (message_count xs) (omega arith) (omega arith)
 
-count-births : (f : Birth ContentText → Message) (birth : Option (Birth ContentText)) → length (option_to_list (option_map f birth)) ≡ cond (is_some birth) 1 0
-count-births f None = refl
-count-births f (Some b) = refl
+-- those that an entry begins behind others
+abbrev pub begun_by : {C : Type 0} → List (Entry C) → Entry C → List Message
+begun_by lines e = messages_in (length lines) (message_count lines) e.at (effect_of e.event).births
 
-pub count-push : (lines : List Line) (e : Line) → message_count (lines ++ e ∷ []) ≡ message_count lines + births e.event
+pub messages-push : {C : Type 0} (lines : List (Entry C)) (e : Entry C) → messages (lines ++ e ∷ []) ≡ messages lines ++ begun_by lines e
+messages-push lines e = messages-append lines (e ∷ []) ∙ ap (λ (ms : List Message). messages lines ++ ms) (append-nil (begun_by lines e))
+
+pub count-push : {C : Type 0} (lines : List (Entry C)) (e : Entry C) → message_count (lines ++ e ∷ []) ≡ message_count lines + births e.event
 count-push lines e =
     ap (λ (ms : List Message). length ms) (messages-push lines e)
-    ∙ (length-append (messages lines) (option_to_list (message_of (length lines) (message_count lines) e.at e.event))
-    ∙ ap (λ (n : ℕ). message_count lines + n) (count-births _ (effect_of e.event).birth))
+    ∙ (length-append (messages lines) (begun_by lines e)
+    ∙ ap (λ (n : ℕ). message_count lines + n) (length-messages_in (length lines) (message_count lines) e.at (effect_of e.event).births))
 
--- what is found at a number itself may be said of that number
-at_number : {X : Type 0} (b : Bool) (n count : ℕ) (f : ℕ → X) (other : X) → eqb n count ≡ b → cond b (f count) other ≡ cond b (f n) other
-at_number true n count f other h = ap f (sym (eqb-true n count h))
-at_number false n count f other h = refl
+pub numbered_in : {C : Type 0} (place number at : ℕ) (bs : List (Birth C)) (i n : ℕ) → n ≡ number + i → slice_get (messages_in place number at bs) i ≡ option_map (message_in place n at) (slice_get bs i)
+numbered_in place number at [] i n h = refl
+numbered_in place number at (b ∷ bs) zero n h = let same : number ≡ n = omega arith in ap (λ (k : ℕ). Some (message_in place k at b)) same
+numbered_in place number at (b ∷ bs) (suc i) n h = numbered_in place (suc number) at bs i n (omega arith)
 
-pub numbered-push : (lines : List Line) (e : Line) (n : ℕ)
-    → message_numbered (lines ++ e ∷ []) n ≡ cond (nat_eq n (message_count lines)) (message_of (length lines) n e.at e.event) (message_numbered lines n)
+-- the message of a number, where an entry begins it behind others
+abbrev pub begun_at : {C : Type 0} → List (Entry C) → Entry C → ℕ → Option Message
+begun_at lines e n = option_map (message_in (length lines) n e.at) (slice_get (effect_of e.event).births (n - message_count lines))
+
+pub numbered-push : {C : Type 0} (lines : List (Entry C)) (e : Entry C) (n : ℕ)
+    → message_numbered (lines ++ e ∷ []) n ≡ cond (nat_lt n (message_count lines)) (message_numbered lines n) (begun_at lines e n)
 numbered-push lines e n =
     ap (λ (ms : List Message). slice_get ms n) (messages-push lines e)
-    ∙ (slice_get-push (messages lines) (message_of (length lines) (message_count lines) e.at e.event) n
-    ∙ at_number (nat_eq n (message_count lines)) n (message_count lines) (λ (i : ℕ). message_of (length lines) i e.at e.event) (message_numbered lines n) refl)
-
--- a message that an event begins
-pub record IsBorn (place number : ℕ) (birth : Option (Birth ContentText)) (m : Message) : Type 0 where
-  pub placed : m.place ≡ place
-  pub numbered : m.number ≡ number
-  pub birth_is : (b : Birth ContentText) × (birth ≡ Some b) × (m.origin ≡ b.origin)
-
-born : (place number at : ℕ) (birth : Option (Birth ContentText)) (m : Message)
-    → option_map (λ b. record { number = number; place = place; enqueue_time = at; first_send_time = option_map_or (λ o. o.sent) b.origin at; first_due_time = at + 1000 * b.delay; origin = b.origin }) birth ≡ Some m
-    → IsBorn place number birth m
-born place number at None m h = absurd (none-some m h)
-born place number at (Some b) m h = record { placed = cc; numbered = cc; birth_is = (b, refl, cc) }
-
-pub born_by : (place number : ℕ) (e : Line) (m : Message) → message_of place number e.at e.event ≡ Some m → IsBorn place number (effect_of e.event).birth m
-born_by place number e m h = born place number e.at (effect_of e.event).birth m h
+    ∙ (slice_get-append (messages lines) (begun_by lines e) n
+    ∙ elim (cases_lt n (message_count lines)) [
+      | inl before ↦ rw (lt-ltb n (message_count lines) before) refl
+      | inr behind ↦ rw (le-ltb n (message_count lines) behind)
+          (numbered_in (length lines) (message_count lines) e.at (effect_of e.event).births (n - message_count lines) n (omega arith))
+    ])
 
 -- a message's number is its place among the messages, and its own place one of the entries
 abbrev IsPlaced : ℕ → ℕ → Message → Type 0
 IsPlaced number end m = (m.number ≡ number) × (m.place < end)
 
-placed-head : (o : Option Message) (xs ys : List Message) (number end : ℕ) (n : ℕ) (m : Message) → ((y : Message) → o ≡ Some y → IsPlaced number end y)
-    → ((k : ℕ) → slice_get xs k ≡ Some m → IsPlaced (suc number + k) end m) → ((k : ℕ) → slice_get ys k ≡ Some m → IsPlaced (number + k) end m)
-    → slice_get (option_map_or (λ y. y ∷ xs) o ys) n ≡ Some m → IsPlaced (number + n) end m
-placed-head None xs ys number end n m first f g h = g n h
-placed-head (Some y) xs ys number end zero m first f g h = let p = first m h in (omega (arith, p.0), p.1)
-placed-head (Some y) xs ys number end (suc n) m first f g h = let p = f n h in (omega (arith, p.0), p.1)
+placed_in : {C : Type 0} (place number at : ℕ) (bs : List (Birth C)) (rest : List Message) (end next : ℕ) (n : ℕ) (m : Message) → place < end → next ≡ number + length bs
+    → ((k : ℕ) → slice_get rest k ≡ Some m → IsPlaced (next + k) end m) → slice_get (messages_in place number at bs ++ rest) n ≡ Some m → IsPlaced (number + n) end m
+placed_in place number at [] rest end next n m below is f h = let p = f n h in (omega (arith, p.0), p.1)
+placed_in place number at (b ∷ bs) rest end next zero m below is f h =
+    let same = same_Some (message_in place number at b) m h in
+    (let own = ap (λ (x : Message). x.number) (sym same) in omega arith, let own = ap (λ (x : Message). x.place) (sym same) in omega arith)
+placed_in place number at (b ∷ bs) rest end next (suc n) m below is f h = let p = placed_in place (suc number) at bs rest end next n m below (omega arith) f h in (omega (arith, p.0), p.1)
 
-placed_from : (place number : ℕ) (lines : List Line) (end : ℕ) → end ≡ place + length lines → (n : ℕ) (m : Message) → slice_get (messages_from place number lines) n ≡ Some m → IsPlaced (number + n) end m
+placed_from : {C : Type 0} (place number : ℕ) (lines : List (Entry C)) (end : ℕ) → end ≡ place + length lines → (n : ℕ) (m : Message) → slice_get (messages_from place number lines) n ≡ Some m
+    → IsPlaced (number + n) end m
 placed_from place number [] end is n m h = absurd (none-some m h)
 placed_from place number (x ∷ xs) end is n m h =
-    placed-head (message_of place number x.at x.event) (messages_from (suc place) (suc number) xs) (messages_from (suc place) number xs) number end n m
-    (λ y k. let b = born_by place number x y k in let p = b.placed in (b.numbered, omega arith))
-    (λ k. placed_from (suc place) (suc number) xs end (omega arith) k m) (λ k. placed_from (suc place) number xs end (omega arith) k m) h
+    placed_in place number x.at (effect_of x.event).births (messages_from (suc place) (number + births x.event) xs) end (number + births x.event) n m (omega arith) refl
+    (λ k. placed_from (suc place) (number + births x.event) xs end (omega arith) k m) h
 
-pub numbered-number : (lines : List Line) (n : ℕ) (m : Message) → message_numbered lines n ≡ Some m → m.number ≡ n
+pub numbered-number : {C : Type 0} (lines : List (Entry C)) (n : ℕ) (m : Message) → message_numbered lines n ≡ Some m → m.number ≡ n
 numbered-number lines n m h = let p = placed_from 0 0 lines (length lines) (omega arith) n m h in omega (arith, p.0)
 
-pub numbered-place : (lines : List Line) (n : ℕ) (m : Message) → message_numbered lines n ≡ Some m → m.place < length lines
+pub numbered-place : {C : Type 0} (lines : List (Entry C)) (n : ℕ) (m : Message) → message_numbered lines n ≡ Some m → m.place < length lines
 numbered-place lines n m h = let p = placed_from 0 0 lines (length lines) (omega arith) n m h in p.1
 
-pub numbered-below : (lines : List Line) (n : ℕ) (m : Message) → message_numbered lines n ≡ Some m → n < message_count lines
+pub numbered-below : {C : Type 0} (lines : List (Entry C)) (n : ℕ) (m : Message) → message_numbered lines n ≡ Some m → n < message_count lines
 numbered-below lines n m h = slice_get_within (messages lines) n m h
 
-pub numbered-past : (lines : List Line) (n : ℕ) → message_count lines ≤ n → message_numbered lines n ≡ None
+pub numbered-past : {C : Type 0} (lines : List (Entry C)) (n : ℕ) → message_count lines ≤ n → message_numbered lines n ≡ None
 numbered-past lines n h = slice_get_past (messages lines) n h
+
+-- ---- each message has a content
+
+contents_from : {C : Type 0} (place number : ℕ) (lines : List (Entry C)) → length (contents lines) ≡ length (messages_from place number lines)
+contents_from {C} place number [] = refl
+contents_from {C} place number (e ∷ es) =
+    let rest = contents_from (suc place) (number + births e.event) es in
+    let one = length-append (contents_in e.event) (contents es) in
+    let other = length-append (messages_in place number e.at (effect_of e.event).births) (messages_from (suc place) (number + births e.event) es) in
+    omega (arith, length-map (effect_of e.event).births (λ (b : Birth C). b.content), length-messages_in place number e.at (effect_of e.event).births)
+
+pub length-contents : {C : Type 0} (lines : List (Entry C)) → length (contents lines) ≡ message_count lines
+length-contents lines = contents_from 0 0 lines
 
 -- ---- the message of a number, one entry on
 
 -- the message that an entry begins
-abbrev pub IsNew : List Line → Line → ℕ → Message → Type 0
-IsNew lines e n m = (n ≡ message_count lines) × (message_of (length lines) n e.at e.event ≡ Some m)
+abbrev pub IsNew : {C : Type 0} → List (Entry C) → Entry C → ℕ → Message → Type 0
+IsNew lines e n m = (message_count lines ≤ n) × (begun_at lines e n ≡ Some m)
 
 module _ (lines : List Line) (e : Line) (n : ℕ) (m : Message) where
-  numbered_by : (b : Bool) → nat_eq n (message_count lines) ≡ b → cond b (message_of (length lines) n e.at e.event) (message_numbered lines n) ≡ Some m → (message_numbered lines n ≡ Some m) ⊎ IsNew lines e n m
-  numbered_by true is h = inr (eqb-true n (message_count lines) is, h)
-  numbered_by false is h = inl h
+  numbered_by : (b : Bool) → nat_lt n (message_count lines) ≡ b → cond b (message_numbered lines n) (begun_at lines e n) ≡ Some m → (message_numbered lines n ≡ Some m) ⊎ IsNew lines e n m
+  numbered_by true is h = inl h
+  numbered_by false is h = inr (ltb-false n (message_count lines) is, h)
 
   pub numbered-cases : message_numbered (lines ++ e ∷ []) n ≡ Some m → (message_numbered lines n ≡ Some m) ⊎ IsNew lines e n m
-  numbered-cases h = numbered_by (nat_eq n (message_count lines)) refl (sym (numbered-push lines e n) ∙ h)
+  numbered-cases h = numbered_by (nat_lt n (message_count lines)) refl (sym (numbered-push lines e n) ∙ h)
 
   pub numbered-kept : message_numbered lines n ≡ Some m → message_numbered (lines ++ e ∷ []) n ≡ Some m
   numbered-kept h =
-      let below = numbered-below lines n m h in
-      numbered-push lines e n ∙ ap (λ (b : Bool). cond b (message_of (length lines) n e.at e.event) (message_numbered lines n)) (ne_eqb n (message_count lines) (λ same. omega arith)) ∙ h
+      numbered-push lines e n ∙ ap (λ (b : Bool). cond b (message_numbered lines n) (begun_at lines e n)) (lt-ltb n (message_count lines) (numbered-below lines n m h)) ∙ h
 
   pub course-kept : message_numbered lines n ≡ Some m → course_of (lines ++ e ∷ []) m ≡ course_after n (course_of lines m) e
   course-kept h =
@@ -302,17 +317,17 @@ module _ (lines : List Line) (e : Line) (n : ℕ) (m : Message) where
 
 -- ---- a message at its own entry
 
-pub record IsNewborn (lines : List Line) (e : Line) (m : Message) : Type 0 where
-  pub content : content_of (lines ++ e ∷ []) m ≡ content_in e.event
+pub record IsNewborn (lines : List Line) (e : Line) (text : ContentText) (m : Message) : Type 0 where
+  pub content : content_of (lines ++ e ∷ []) m ≡ Some text
   pub course : course_of (lines ++ e ∷ []) m ≡ record { status = Present; due = m.first_due_time; returned = false }
   pub ran_out : ran_out_before (lines ++ e ∷ []) m ≡ false
 
 -- an event that begins a message leaves every message where it stands
-course-birth : (number due at : ℕ) (event : Event ContentText) (b : Birth ContentText) → (effect_of event).birth ≡ Some b
+course-birth : (number due at i : ℕ) (event : Event ContentText) (b : Birth ContentText) → slice_get (effect_of event).births i ≡ Some b
     → course_after number (record { status = Present; due = due; returned = false }) (record { at = at; event = event }) ≡ record { status = Present; due = due; returned = false }
-course-birth number due at (Sent delay content) b h = refl
-course-birth number due at (Arrived origin content) b h = refl
-course-birth number due at event b h = absurd cc
+course-birth number due at i (Sent delay content) b h = refl
+course-birth number due at i (Arrived origin content) b h = refl
+course-birth number due at i event b h = absurd cc
 
 -- no period that ends up to a message's entry counts for it
 none_ran_out : (place : ℕ) (s : QueueSettings) (lines : List Line) (m : Message) → place + length lines ≤ m.place + 1 → list_any (λ p. runs_out_in m p) (closed_periods_from place s lines) ≡ false
@@ -331,17 +346,35 @@ unexpired-past lines clock m h =
     ∙ or_from (ran_out_before lines m) (runs_out_in m (period (length lines) (settings_of lines) clock)) (none_ran_out 0 default_settings lines m (omega arith))
     (and_left (ltb m.place (length lines)) (runs_out_by (settings_of lines) clock m) (le-ltb m.place (length lines) h))
 
-pub newborn : (lines : List Line) (e : Line) (n : ℕ) (m : Message) → message_of (length lines) n e.at e.event ≡ Some m → IsNewborn lines e m
-newborn lines e n m h =
-    let b = born_by (length lines) n e m h in
-    let p = b.placed in
+pub newborn : (lines : List Line) (e : Line) (n : ℕ) (b : Birth ContentText) → message_count lines ≤ n → slice_get (effect_of e.event).births (n - message_count lines) ≡ Some b
+    → IsNewborn lines e b.content (message_in (length lines) n e.at b)
+newborn lines e n b past h =
+    let m = message_in (length lines) n e.at b in
     let count = length-append lines (e ∷ []) in
     record {
       content =
-          ap (λ (i : ℕ). option_and_then (λ (x : Line). content_in x.event) (slice_get (lines ++ e ∷ []) i)) b.placed
-          ∙ ap (option_and_then (λ (x : Line). content_in x.event)) (slice_get-end lines e);
+          ap (λ (cs : List ContentText). slice_get cs n) (contents-push lines e)
+          ∙ (slice_get-behind (contents lines) (contents_in e.event) n (n - message_count lines) (omega (arith, length-contents lines))
+          ∙ (slice_get-map (λ (x : Birth ContentText). x.content) (effect_of e.event).births (n - message_count lines) ∙ ap (option_map (λ (x : Birth ContentText). x.content)) h));
       course =
-          ap (λ (i : ℕ). course_from m.number (first_course m) (drop i (lines ++ e ∷ []))) b.placed
-          ∙ (ap (course_from m.number (first_course m)) (drop-append_seam lines (e ∷ [])) ∙ course-birth m.number m.first_due_time e.at e.event b.birth_is.0 b.birth_is.1);
+          ap (course_from n (first_course m)) (drop-append_seam lines (e ∷ [])) ∙ course-birth n m.first_due_time e.at (n - message_count lines) e.event b h;
       ran_out = none_ran_out 0 default_settings (lines ++ e ∷ []) m (omega arith);
     }
+
+-- a message that an entry begins is that of a birth
+pub new_birth : (lines : List Line) (e : Line) (n : ℕ) (m : Message) → IsNew lines e n m
+    → (b : Birth ContentText) × (slice_get (effect_of e.event).births (n - message_count lines) ≡ Some b) × (message_in (length lines) n e.at b ≡ m)
+new_birth lines e n m new = mapped_some (message_in (length lines) n e.at) (slice_get (effect_of e.event).births (n - message_count lines)) m new.1
+
+-- and its number is the next one
+pub new_number : (lines : List Line) (e : Line) (n : ℕ) (m : Message) → IsNew lines e n m → n ≡ message_count lines
+new_number lines e n m new =
+    let b = new_birth lines e n m new in
+    let past = new.0 in
+    let within = slice_get_within (effect_of e.event).births (n - message_count lines) b.0 b.1 in
+    omega (arith, births_few e.event)
+
+pub new_course : (lines : List Line) (e : Line) (n : ℕ) (m : Message) → IsNew lines e n m → course_of (lines ++ e ∷ []) m ≡ first_course m
+new_course lines e n m new =
+    let b = new_birth lines e n m new in
+    subst (λ (x : Message). course_of (lines ++ e ∷ []) x ≡ first_course x) b.2 (newborn lines e n b.0 new.0 b.1).course

@@ -29,6 +29,7 @@ use Rattle.queue_core.specs.Slots.{is_left_stay, is_left_stay_for, is_here, has_
 use Rattle.queue_core.specs.Records.{records_in, slots_in, born_in}
 use Rattle.queue_core.specs.Recorded.{IsStanding, IsRecordOf}
 use Rattle.queue_core.specs.Indexed.{IsIndexOf}
+use Rattle.queue_core.proofs.SummaryLemmas.{records-kept}
 use Rattle.queue_core.proofs.FactLemmas.{Line, numbered-number, pending_of}
 use Rattle.queue_core.proofs.SlotCountLemmas.{count_agree, count_members}
 use Rattle.queue_core.proofs.IndexedLemmas as indexed
@@ -139,13 +140,13 @@ module _ (q : QueueHistory) (x : MessageIndex) (is : IsIndexOf q.lines q.clock x
   -- ---- one number
 
   pub here_at : (number : ℕ) (slot : Option Slot) → slot ≡ slots_in x number → is_here slot ≡ is_numbered (λ m. is_live q.lines q.clock m) q.lines number
-  here_at number slot same = ap is_here same ∙ sym (indexed.here_is q.lines q.clock (records_in x) is.recorded.records is.settled number)
+  here_at number slot same = ap is_here same ∙ sym (indexed.here_is q.lines q.clock (records_in x) (records-kept q.lines q.clock x is) is.settled number)
 
   pub in_flight_at : (number : ℕ) (slot : Option Slot) → slot ≡ slots_in x number → is_in_flight slot ≡ is_numbered (λ m. is_in_state InFlight q.lines q.clock m) q.lines number
-  in_flight_at number slot same = ap is_in_flight same ∙ sym (indexed.in_flight_is q.lines q.clock (records_in x) is.recorded.records is.settled number)
+  in_flight_at number slot same = ap is_in_flight same ∙ sym (indexed.in_flight_is q.lines q.clock (records_in x) (records-kept q.lines q.clock x is) is.settled number)
 
   pub left_at : (number : ℕ) (slot : Option Slot) → slot ≡ slots_in x number → is_left slot ≡ is_pending q number
-  left_at number slot same = ap is_left same ∙ sym (indexed.left_is q.lines q.clock (records_in x) is.recorded.records is.settled number)
+  left_at number slot same = ap is_left same ∙ sym (indexed.left_is q.lines q.clock (records_in x) (records-kept q.lines q.clock x is) is.settled number)
 
   -- what is live or in flight is kept
   pub in_flight_kept : (number : ℕ) → is_numbered (λ m. is_in_state InFlight q.lines q.clock m) q.lines number ≡ true → None ≡ records_in x number → ⊥
@@ -154,12 +155,12 @@ module _ (q : QueueHistory) (x : MessageIndex) (is : IsIndexOf q.lines q.clock x
   -- the times of a message that is kept
   pub enqueued_at : (number : ℕ) (r : Record) → Some r ≡ records_in x number → (m : Message) → message_numbered q.lines number ≡ Some m → r.enqueue_time ≡ m.enqueue_time
   enqueued_at number r same m e =
-      let there = is.recorded.records.some number r (sym same) in
+      let there = (records-kept q.lines q.clock x is).some number r (sym same) in
       there.2.enqueue_time ∙ ap (λ (m : Message). m.enqueue_time) (same_Some there.0 m (sym there.1 ∙ e))
 
   pub last_received_at : (number : ℕ) (r : Record) → Some r ≡ records_in x number → r.last_receive ≡ last_receive_time q.lines number
   last_received_at number r same =
-      let there = is.recorded.records.some number r (sym same) in
+      let there = (records-kept q.lines q.clock x is).some number r (sym same) in
       there.2.last_receive ∙ ap (λ (n : ℕ). last_receive_time q.lines n) (numbered-number q.lines number there.0 there.1)
 
   pub twelve_hours : (number timeout seconds last clock : ℕ) (r : Record) → Some r ≡ records_in x number → last ≡ r.last_receive → clock ≡ q.clock → seconds ≡ timeout
@@ -171,7 +172,7 @@ module _ (q : QueueHistory) (x : MessageIndex) (is : IsIndexOf q.lines q.clock x
 
   -- the first whose age is looked at is the oldest
   age_at : (number : ℕ) (b : Bool) → slot_has_age (slots_in x number) ≡ b → is_numbered (λ m. has_age q.lines q.clock m) q.lines number ≡ b
-  age_at number b h = indexed.age_is q.lines q.clock (records_in x) is.recorded.records is.settled number ∙ h
+  age_at number b h = indexed.age_is q.lines q.clock (records_in x) (records-kept q.lines q.clock x is) is.settled number ∙ h
 
   kept_here : (o : Option Record) → slot_has_age (slot_in o) ≡ true → (r : Record) × (o ≡ Some r)
   kept_here None h = absurd (false≢true h)
@@ -187,7 +188,7 @@ module _ (q : QueueHistory) (x : MessageIndex) (is : IsIndexOf q.lines q.clock x
   -- ---- counts
 
   born_is : born_in x ≡ message_count q.lines
-  born_is = ap length is.recorded.receives ∙ length-map-range_with_len (λ n. receive_count q.lines n) 0 (message_count q.lines)
+  born_is = ap length is.receives ∙ length-map-range_with_len (λ n. receive_count q.lines n) 0 (message_count q.lines)
 
   pub oldest_none : ((k : ℕ) → k < born_in x → slot_has_age (slots_in x k) ≡ false) → 0 ≡ oldest_age q.lines q.clock
   oldest_none none =
@@ -197,14 +198,14 @@ module _ (q : QueueHistory) (x : MessageIndex) (is : IsIndexOf q.lines q.clock x
   indices_are = subst (λ (n : ℕ). AreIndexed (slots_in x) n x.indices) born_is is.indexed.indices.indices
 
   pub in_flight_counted : x.indices.in_flight ≡ count_in_state InFlight q.lines q.clock
-  in_flight_counted = indices_are.in_flight ∙ sym (indexed.in_flight_count q.lines q.clock (records_in x) is.recorded.records is.settled)
+  in_flight_counted = indices_are.in_flight ∙ sym (indexed.in_flight_count q.lines q.clock (records_in x) (records-kept q.lines q.clock x is) is.settled)
 
   pub gauged : (visible age : ℕ) → visible ≡ length x.indices.visible.pairs → age ≡ oldest_age q.lines q.clock
       → ◌≡◌ {A = Gauges} (record { visible = visible; delayed = x.indices.delayed; in_flight = x.indices.in_flight; age = age }) (gauges_of q.lines q.clock)
   gauged visible age h k =
       gauges_same visible x.indices.delayed x.indices.in_flight age (count_in_state Visible q.lines q.clock) (count_in_state Delayed q.lines q.clock) (count_in_state InFlight q.lines q.clock) (oldest_age q.lines q.clock)
-      (h ∙ indexed.visible_count q.lines q.clock (records_in x) is.recorded.records is.settled x.indices indices_are)
-      (indices_are.delayed ∙ sym (indexed.delayed_count q.lines q.clock (records_in x) is.recorded.records is.settled))
+      (h ∙ indexed.visible_count q.lines q.clock (records_in x) (records-kept q.lines q.clock x is) is.settled x.indices indices_are)
+      (indices_are.delayed ∙ sym (indexed.delayed_count q.lines q.clock (records_in x) (records-kept q.lines q.clock x is) is.settled))
       in_flight_counted k
 
   -- ---- dead letters
@@ -223,7 +224,7 @@ module _ (q : QueueHistory) (x : MessageIndex) (is : IsIndexOf q.lines q.clock x
       let same =
       count_agree (λ n. is_left_for target (slots_in x n)) (λ n. contains_number n x.leaving.items && is_left_for target (slots_in x n)) (message_count q.lines)
       (λ n. ap (λ (b : Bool). b && is_left_for target (slots_in x n)) (is.indexed.leaving n) ∙ left_part target (slots_in x n)) in
-      sym members ∙ same ∙ sym (indexed.waiting_count q.lines q.clock (records_in x) is.recorded.records is.settled target)
+      sym members ∙ same ∙ sym (indexed.waiting_count q.lines q.clock (records_in x) (records-kept q.lines q.clock x is) is.settled target)
 
   -- the first number among those that have left is that of the first transfer
   abbrev leads : ℕ → Transfer → Type 0
@@ -232,14 +233,14 @@ module _ (q : QueueHistory) (x : MessageIndex) (is : IsIndexOf q.lines q.clock x
   first_leads : (number : ℕ) → Some number ≡ slice_get x.leaving.items 0 → (t : Transfer) × leads number t
   first_leads number h =
       let first = mapped_at (λ (t : Transfer). t.number) (first_transfer q) number
-      (sym (slice_get-map (λ (t : Transfer). t.number) (pending_transfers q.lines) 0) ∙ ap (λ (ns : List ℕ). slice_get ns 0) (sym is.recorded.leaving) ∙ sym h) in
+      (sym (slice_get-map (λ (t : Transfer). t.number) (pending_transfers q.lines) 0) ∙ ap (λ (ns : List ℕ). slice_get ns 0) (sym is.leaving) ∙ sym h) in
       (first.0, (first.1, first.2))
 
   module _ (legal : IsLegal q) where
     waiting_by : (t : Transfer) (m : Message) (kept : Option Record) → message_numbered q.lines t.number ≡ Some m → (course_of q.lines m).status ≡ Waiting t.target → records_in x t.number ≡ kept → IsWaiting q.lines x t
-    waiting_by t m None e status k = absurd (false≢true (sym (is.recorded.records.none t.number m e k).1 ∙ ap awaits_status status))
+    waiting_by t m None e status k = absurd (false≢true (sym ((records-kept q.lines q.clock x is).none t.number m e k).1 ∙ ap awaits_status status))
     waiting_by t m (Some r) e status k =
-        let there = is.recorded.records.some t.number r k in
+        let there = (records-kept q.lines q.clock x is).some t.number r k in
         let same : there.0 ≡ m = same_Some there.0 m (sym there.1 ∙ e) in
         let of : IsRecordOf q.lines m r = subst (λ (m : Message). IsRecordOf q.lines m r) same there.2 in
         let left = left_stay r.slot.stay r.slot.due (course_of q.lines m) t.target of.standing status in

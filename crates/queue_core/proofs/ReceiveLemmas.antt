@@ -21,6 +21,7 @@ use Rattle.queue_core.specs.Slots.{AreIndexed}
 use Rattle.queue_core.specs.Records.{records_in, slots_in, born_in}
 use Rattle.queue_core.specs.Recorded.{IsRecordOf}
 use Rattle.queue_core.specs.Indexed.{IsIndexOf}
+use Rattle.queue_core.proofs.SummaryLemmas.{records-kept}
 use Rattle.queue_core.proofs.FactLemmas.{Line, unborn}
 use Rattle.queue_core.proofs.IndexedLemmas.{pair_of, IsOffered, IsTurn, offered, order_is, turn_at}
 use Rattle.queue_core.proofs.OfferLemmas.{All-offered, scan-leaving, scan-offered, scan-stop, stops}
@@ -62,16 +63,16 @@ module _ (q : QueueHistory) (legal : IsLegal q) (counts : List ℕ) (are : count
 
 module _ (lines : List Line) (clock : ℕ) (x : MessageIndex) (is : IsIndexOf lines clock x) where
   pub born_is : born_in x ≡ message_count lines
-  born_is = ap length is.recorded.receives ∙ length-map-range_with_len (λ n. receive_count lines n) 0 (message_count lines)
+  born_is = ap length is.receives ∙ length-map-range_with_len (λ n. receive_count lines n) 0 (message_count lines)
 
   indices_are : AreIndexed (slots_in x) (message_count lines) x.indices
   indices_are = subst (λ (count : ℕ). AreIndexed (slots_in x) count x.indices) born_is is.indexed.indices.indices
 
   pub turns_are : length x.indices.visible.pairs ≡ length (receive_order lines clock)
-  turns_are = ap length (order_is lines clock (records_in x) is.recorded.records is.settled x.indices indices_are) ∙ length-map (receive_order lines clock) pair_of
+  turns_are = ap length (order_is lines clock (records_in x) (records-kept lines clock x is) is.settled x.indices indices_are) ∙ length-map (receive_order lines clock) pair_of
 
   turn_in : (place : ℕ) (pair : ℕ × ℕ) → slice_get x.indices.visible.pairs place ≡ Some pair → IsTurn lines clock (records_in x) place pair
-  turn_in place pair h = turn_at lines clock (records_in x) is.recorded.records is.settled x.indices indices_are place pair h
+  turn_in place pair h = turn_at lines clock (records_in x) (records-kept lines clock x is) is.settled x.indices indices_are place pair h
 
   pub number_at : (place : ℕ) (pair : ℕ × ℕ) → slice_get x.indices.visible.pairs place ≡ Some pair → option_map (λ c. c.message.number) (slice_get (receive_order lines clock) place) ≡ Some pair.1
   number_at place pair h =
@@ -184,7 +185,7 @@ module _ (q : QueueHistory) (x : MessageIndex) (is : IsIndexOf q.lines q.clock x
   all_offered =
       All-offered (λ c. IsOffered q.lines (records_in x) c) q maximum
       (All-weaker (λ c. Contains (receive_order q.lines q.clock) c) (λ c. IsOffered q.lines (records_in x) c)
-      (λ c there. offered q.lines q.clock (records_in x) is.recorded.records is.settled c there) (receive_order q.lines q.clock) (All-contains_itself (receive_order q.lines q.clock)))
+      (λ c there. offered q.lines q.clock (records_in x) (records-kept q.lines q.clock x is) is.settled c there) (receive_order q.lines q.clock) (All-contains_itself (receive_order q.lines q.clock)))
 
   module _ (place : ℕ) (within : place < length numbers) where
     here : IsPlaced candidates place

@@ -1,10 +1,10 @@
 -- The records of messages stay those of the journal, whatever event comes and however much time passes.
 use Rattle.std.proofs.Common.{◌≡◌, ℕ, ◌+◌, ◌*◌, ◌≤◌, ◌<◌, Bool, true, false, not, cond, ◌&&◌, ◌||◌, List, [], ◌∷◌, ◌++◌, length, Option, Some, None, inl, inr, refl, sym, ap, subst, ◌∙◌, eqb, arith}
-use Rattle.std.specs.Prelude.{◌⊎◌, nat_eq, nat_le, nat_lt, min, option_map, option_and_then}
+use Rattle.std.specs.Prelude.{◌⊎◌, ◌-◌, nat_le, nat_lt, min, slice_get, option_map, option_and_then}
 use Rattle.std.specs.Option.{option_map_or}
 use Rattle.std.proofs.Math.Bool.{and-false}
 use Rattle.std.proofs.Math.Nat.{add-zero}
-use Rattle.std.proofs.lemmas.Bool.{false≢true, and_parts, or_right, leb-true, le-leb, lt-ltb, le-ltb, cases_lt, eqb-true, ne_eqb, false_from_ne_true}
+use Rattle.std.proofs.lemmas.Bool.{false≢true, and_parts, or_right, leb-true, le-leb, lt-ltb, le-ltb, ltb-false, cases_lt, ne_eqb, false_from_ne_true}
 use Rattle.std.proofs.lemmas.List.{length-append}
 use Rattle.std.proofs.lemmas.Option.{none-some, same_Some}
 use Rattle.message.specs.Content.{ContentText}
@@ -17,7 +17,7 @@ use Rattle.queue_core.specs.declared.facts.Status.{Status}
 use Rattle.queue_core.specs.declared.facts.Status.TheVariants.{Present, Waiting}
 use Rattle.queue_core.specs.declared.facts.MessageState.{MessageState}
 use Rattle.queue_core.specs.declared.facts.MessageState.TheVariants.{Visible}
-use Rattle.queue_core.specs.Messages.{Birth, effect_of, contains_number, message_of, message_count, content_of, settings_after, settings_of, opens, closes_period, is_expired, offers_number, receive_count, first_receive_time, last_receive_time, returns, course_of, is_present_status, is_present, is_returned, awaits_status, awaits_transfer}
+use Rattle.queue_core.specs.Messages.{Birth, effect_of, contains_number, message_in, message_count, content_of, settings_after, settings_of, opens, closes_period, is_expired, offers_number, receive_count, first_receive_time, last_receive_time, returns, course_of, is_present_status, is_present, is_returned, awaits_status, awaits_transfer}
 use Rattle.queue_core.specs.States.{is_live, waiting_state, same_state, is_in_state, message_numbered, is_numbered}
 use Rattle.queue_core.specs.Queue.{QueueHistory, with_event}
 use Rattle.queue_core.specs.Legal.{IsLegal, IsCausedIn}
@@ -25,15 +25,15 @@ use Rattle.queue_core.specs.declared.slot.Stay.{Stay}
 use Rattle.queue_core.specs.declared.slot.Stay.TheVariants.{Hidden, Shown, Left}
 use Rattle.queue_core.specs.declared.record.Record.{Record}
 use Rattle.queue_core.specs.Slots.{is_left_stay}
-use Rattle.queue_core.specs.Records.{with_stay, has_run_out, tried, stay_at, is_left_record, settled_record, record_after, Records, IsSettled, born_record, records_after, records_settled}
+use Rattle.queue_core.specs.Records.{with_stay, has_run_out, tried, stay_at, is_left_record, settled_record, record_after, Records, IsSettled, born_record, record_begun, records_after, records_settled}
 use Rattle.queue_core.specs.Recorded.{ran_out_before, runs_out_by, IsStanding, IsRecordOf, notes_end, TellsExpiry, AreRecorded}
-use Rattle.queue_core.proofs.FactLemmas.{Line, settings_from-push, course-push, ran_out-push, expired-split, receives-push, first-push, last-push, content-push, numbered-push, numbered-number, numbered-place, numbered-past, newborn, unborn, about}
-use Rattle.queue_core.proofs.PushLemmas.{or_false}
+use Rattle.queue_core.proofs.FactLemmas.{Line, settings_from-push, course-push, ran_out-push, expired-split, receives-push, first-push, last-push, content-push, numbered-push, numbered-number, numbered-place, numbered-past, IsNewborn, newborn, unborn, about}
+use Rattle.queue_core.proofs.PushLemmas.{or_false, mapped_some, begun_at}
 use Rattle.queue_core.proofs.ToldLemmas.{Told, IsTold, told-with, told_after, there_unless, gone_if, told-next, told-gone, expired-next, untold}
 
 -- ---- what is there behind a step
 
-then_some : {A B : Type 0} (f : A → Option B) (o : Option A) (y : B) → option_and_then f o ≡ Some y → (x : A) × (o ≡ Some x) × (f x ≡ Some y)
+pub then_some : {A B : Type 0} (f : A → Option B) (o : Option A) (y : B) → option_and_then f o ≡ Some y → (x : A) × (o ≡ Some x) × (f x ≡ Some y)
 then_some f None y h = absurd (none-some y h)
 then_some f (Some x) y h = (x, refl, h)
 
@@ -160,7 +160,7 @@ present-here Hidden due c h stands = stands.0
 present-here Shown due c h stands = stands.0
 present-here (Left target ran_out) due c h stands = absurd (false≢true h)
 
-abbrev settled_stay : ℕ → Record → Record
+abbrev pub settled_stay : ℕ → Record → Record
 settled_stay clock r = with_stay (stay_at clock r.slot.stay r.slot.due) r
 
 module _ (lines : List Line) (clock : ℕ) (m : Message) (r : Record) (is : IsRecordOf lines m r) where
@@ -216,7 +216,7 @@ stay_twice clock Hidden due = by_test (nat_le due clock) refl
 stay_twice clock Shown due = refl
 stay_twice clock (Left target ran_out) due = refl
 
-shown_at : (clock : ℕ) (stay : Stay) (due : ℕ) → (stay ≡ Shown → due ≤ clock) → stay_at clock stay due ≡ Shown → due ≤ clock
+pub shown_at : (clock : ℕ) (stay : Stay) (due : ℕ) → (stay ≡ Shown → due ≤ clock) → stay_at clock stay due ≡ Shown → due ≤ clock
 shown_at clock Hidden due shown h = by_test (nat_le due clock) refl h
   where
     by_test : (b : Bool) → nat_le due clock ≡ b → cond b Shown Hidden ≡ Shown → due ≤ clock
@@ -225,7 +225,7 @@ shown_at clock Hidden due shown h = by_test (nat_le due clock) refl h
 shown_at clock Shown due shown h = shown refl
 shown_at clock (Left target ran_out) due shown h = absurd cc
 
-settled_twice : (retention clock : ℕ) (r : Record) → (not (is_left_record r) && has_run_out retention clock r) ≡ false
+pub settled_twice : (retention clock : ℕ) (r : Record) → (not (is_left_record r) && has_run_out retention clock r) ≡ false
     → settled_record retention clock (settled_stay clock r) ≡ Some (settled_stay clock r)
 settled_twice retention clock r h = rw (left_at clock r.slot.stay r.slot.due, h, stay_twice clock r.slot.stay r.slot.due) refl
 
@@ -353,10 +353,10 @@ module _ (q : QueueHistory) (event : Event ContentText) (caused : IsCausedIn q e
         false_from_ne_true (offers_number m.number event)
         (λ offered. false≢true (sym dead ∙ live_numbered q.lines q.clock m.number ((about q event caused).offered m.number offered) m own_number))
 
-    unmoved : (target : ℕ) → (course_of q.lines m).status ≡ Waiting target → (effect_of event).reschedules m.number ≡ false
+    unmoved : (target : ℕ) → (course_of q.lines m).status ≡ Waiting target → contains_number m.number (effect_of event).rescheduled ≡ false
     unmoved target waiting =
         let dead : is_live q.lines q.clock m ≡ false = ap (λ (s : Status). is_present_status s && not (is_expired q.lines q.clock m)) waiting in
-        false_from_ne_true ((effect_of event).reschedules m.number)
+        false_from_ne_true (contains_number m.number (effect_of event).rescheduled)
         (λ moved.
         false≢true
         (sym dead ∙ sym (ap (λ (o : Option Message). option_map_or (λ m. is_live q.lines q.clock m) o false) own_number) ∙ (about q event caused).rescheduled m.number moved))
@@ -397,107 +397,86 @@ module _ (q : QueueHistory) (event : Event ContentText) (caused : IsCausedIn q e
         (expired-push q.lines q.clock event m placed (about q event caused).unopened) (undeparting dead.0) in
         (ap (λ (c : Course). is_present_status c.status && not (is_expired more q.clock m)) push ∙ next.0, ap (λ (c : Course). awaits_status c.status) push ∙ next.1)
 
-  -- ---- the message that the event begins
+  -- ---- a message that the event begins
 
-  abbrev born_of : Birth ContentText → Record
-  born_of birth = record {
-    content = birth.content;
-    enqueue_time = q.clock;
-    first_send_time = option_map_or (λ origin. origin.sent) birth.origin q.clock;
-    origin = birth.origin;
-    first_receive = None;
-    last_receive = 0;
-    slot = record { stay = Hidden; due = q.clock + 1000 * birth.delay; sent = option_map_or (λ origin. origin.sent) birth.origin q.clock; is_fresh = true; is_returned = false; tries = 0 };
-  }
+  module _ (legal : IsLegal q) (n : ℕ) (past : message_count q.lines ≤ n) (birth : Birth ContentText) (begins : slice_get (effect_of event).births (n - message_count q.lines) ≡ Some birth) where
+    abbrev born_message : Message
+    born_message = message_in (length q.lines) n q.clock birth
 
-  abbrev born_message : ℕ → Birth ContentText → Message
-  born_message n birth = record {
-    number = n;
-    place = length q.lines;
-    enqueue_time = q.clock;
-    first_send_time = option_map_or (λ origin. origin.sent) birth.origin q.clock;
-    first_due_time = q.clock + 1000 * birth.delay;
-    origin = birth.origin;
-  }
+    new : IsNewborn q.lines entry birth.content born_message
+    new = newborn q.lines entry n birth past begins
 
-  module _ (legal : IsLegal q) (n : ℕ) (past : message_count q.lines ≤ n) where
-    born_tells : (birth : Birth ContentText) → (effect_of event).birth ≡ Some birth → TellsExpiry more q.clock (born_message n birth) (born_of birth)
-    born_tells birth e =
-        let new = newborn q.lines entry n (born_message n birth) (ap (option_map (born_message n)) e) in
-        expired-split more q.clock (born_message n birth) (omega (arith, length-append q.lines (entry ∷ [])))
-        ∙ ap (λ (b : Bool). b || runs_out_by (settings_of more) q.clock (born_message n birth)) new.ran_out
+    born_tells : TellsExpiry more q.clock born_message (born_record q.clock birth)
+    born_tells =
+        expired-split more q.clock born_message (omega (arith, length-append q.lines (entry ∷ [])))
+        ∙ ap (λ (b : Bool). b || runs_out_by (settings_of more) q.clock born_message) new.ran_out
 
-    born_is : (birth : Birth ContentText) → (effect_of event).birth ≡ Some birth → IsRecordOf more (born_message n birth) (born_of birth)
-    born_is birth e =
-        let new = newborn q.lines entry n (born_message n birth) (ap (option_map (born_message n)) e) in
+    born_is : IsRecordOf more born_message (born_record q.clock birth)
+    born_is =
         let un = unborn q n legal past in
         let none = numbered-past q.lines n past in
         let unoffered_yet : offers_number n event ≡ false =
         false_from_ne_true (offers_number n event) (λ offered. none_numbered q.lines q.clock n ((about q event caused).offered n offered) none) in
         let receives : receive_count more n ≡ 0 = receives-push q.lines entry n ∙ rw (un.receives, unoffered_yet) refl in
         record {
-          content = new.content ∙ ap (option_map (λ (b : Birth ContentText). b.content)) e;
+          content = new.content;
           enqueue_time = refl;
           first_send_time = refl;
           origin = refl;
           first_receive = sym (first-push q.lines entry n ∙ rw (un.first, unoffered_yet) refl);
           last_receive = sym (last-push q.lines entry n ∙ rw (unoffered_yet, un.last) refl);
-          fresh = sym (ap (λ k. eqb k 0 && not (is_returned more (born_message n birth))) receives ∙ ap (λ (c : Course). not c.returned) new.course);
+          fresh = sym (ap (λ k. eqb k 0 && not (is_returned more born_message)) receives ∙ ap (λ (c : Course). not c.returned) new.course);
           tries = sym (ap (λ k. min k 3) receives);
           returned = sym (ap (λ (c : Course). c.returned) new.course);
           standing = (ap (λ (c : Course). c.status) new.course, ap (λ (c : Course). c.due) new.course);
         }
 
-    record-born : (after : Record) → born_record q.clock event ≡ Some after → (m : Message) × (message_of (length q.lines) n q.clock event ≡ Some m) × IsRecordOf more m after × TellsExpiry more q.clock m after
-    record-born after h = by_birth (effect_of event).birth refl
-      where
-        by_birth : (birth : Option (Birth ContentText)) → (effect_of event).birth ≡ birth → (m : Message) × (message_of (length q.lines) n q.clock event ≡ Some m) × IsRecordOf more m after × TellsExpiry more q.clock m after
-        by_birth None e = absurd (none-some after (sym (ap (option_map born_of) e) ∙ h))
-        by_birth (Some birth) e = (
-          born_message n birth,
-          ap (option_map (born_message n)) e,
-          subst (IsRecordOf more (born_message n birth)) (same_Some (born_of birth) after (sym (ap (option_map born_of) e) ∙ h)) (born_is birth e),
-          subst (TellsExpiry more q.clock (born_message n birth)) (same_Some (born_of birth) after (sym (ap (option_map born_of) e) ∙ h)) (born_tells birth e),
-        )
+  record-born : IsLegal q → (n : ℕ) → message_count q.lines ≤ n → (after : Record) → record_begun q.clock event (message_count q.lines) n ≡ Some after
+      → (m : Message) × (begun_at q.lines entry n ≡ Some m) × IsRecordOf more m after × TellsExpiry more q.clock m after
+  record-born legal n past after h =
+      let b = mapped_some (born_record q.clock) (slice_get (effect_of event).births (n - message_count q.lines)) after h in
+      let m = message_in (length q.lines) n q.clock b.0 in (
+        m,
+        ap (option_map (message_in (length q.lines) n q.clock)) b.1,
+        subst (IsRecordOf more m) b.2 (born_is legal n past b.0 b.1),
+        subst (TellsExpiry more q.clock m) b.2 (born_tells legal n past b.0 b.1),
+      )
 
   -- a message that begins has a record
-  born-none : (n : ℕ) (m : Message) → message_of (length q.lines) n q.clock event ≡ Some m → born_record q.clock event ≡ None → ⊥
-  born-none n m h none = by_birth (effect_of event).birth refl
-    where
-      by_birth : (birth : Option (Birth ContentText)) → (effect_of event).birth ≡ birth → ⊥
-      by_birth None e = none-some m (sym (ap (option_map (born_message n)) e) ∙ h)
-      by_birth (Some birth) e = none-some (born_of birth) (sym none ∙ ap (option_map born_of) e)
+  born-none : (n : ℕ) (m : Message) → begun_at q.lines entry n ≡ Some m → record_begun q.clock event (message_count q.lines) n ≡ None → ⊥
+  born-none n m h none =
+      let b = mapped_some (message_in (length q.lines) n q.clock) (slice_get (effect_of event).births (n - message_count q.lines)) m h in
+      none-some (born_record q.clock b.0) (sym none ∙ ap (option_map (born_record q.clock)) b.1)
 
 pub recorded-event : (q : QueueHistory) (event : Event ContentText) (records after : Records) → IsLegal q → IsCausedIn q event → AreRecorded q.lines q.clock records
     → IsSettled (settings_of q.lines).retention_seconds q.clock records → ((n : ℕ) → after n ≡ records_after (settings_of q.lines) q.clock event (message_count q.lines) records n)
     → AreRecorded (with_event q event).lines q.clock after
 recorded-event q event records after legal caused is settled same = record {
-  some = λ n r at. some_by n r (nat_eq n (message_count q.lines)) refl (sym (same n) ∙ at) (numbered-push q.lines (entry q event caused) n);
-  none = λ n m numbered at. none_by n m (nat_eq n (message_count q.lines)) refl (sym (same n) ∙ at) (sym (numbered-push q.lines (entry q event caused) n) ∙ numbered);
+  some = λ n r at. some_by n r (nat_lt n (message_count q.lines)) refl (sym (same n) ∙ at) (numbered-push q.lines (entry q event caused) n);
+  none = λ n m numbered at. none_by n m (nat_lt n (message_count q.lines)) refl (sym (same n) ∙ at) (sym (numbered-push q.lines (entry q event caused) n) ∙ numbered);
 }
   where
-    some_by : (n : ℕ) (r : Record) (b : Bool) → nat_eq n (message_count q.lines) ≡ b
-        → cond b (born_record q.clock event) (option_and_then (λ r. record_after (settings_of q.lines) q.clock event n r) (records n)) ≡ Some r
-        → message_numbered (with_event q event).lines n ≡ cond b (message_of (length q.lines) n q.clock event) (message_numbered q.lines n)
+    some_by : (n : ℕ) (r : Record) (b : Bool) → nat_lt n (message_count q.lines) ≡ b
+        → cond b (option_and_then (λ r. record_after (settings_of q.lines) q.clock event n r) (records n)) (record_begun q.clock event (message_count q.lines) n) ≡ Some r
+        → message_numbered (with_event q event).lines n ≡ cond b (message_numbered q.lines n) (begun_at q.lines (entry q event caused) n)
         → (m : Message) × (message_numbered (with_event q event).lines n ≡ Some m) × IsRecordOf (with_event q event).lines m r × TellsExpiry (with_event q event).lines q.clock m r
     some_by n r true e at numbered =
-        let count : n ≡ message_count q.lines = eqb-true n (message_count q.lines) e in
-        let x = record-born q event caused legal n (omega arith) r at in
-        (x.0, numbered ∙ x.1, x.2, x.3)
-    some_by n r false e at numbered =
         let x = then_some (λ r. record_after (settings_of q.lines) q.clock event n r) (records n) r at in
         let m = is.some n x.0 x.1 in
         let next = record-next q event caused n m.0 m.1 x.0 r m.2 m.3 (settled.settled n x.0 x.1) x.2 in
         (m.0, numbered ∙ m.1, next.0, next.1)
+    some_by n r false e at numbered =
+        let x = record-born q event caused legal n (ltb-false n (message_count q.lines) e) r at in
+        (x.0, numbered ∙ x.1, x.2, x.3)
 
     gone_by : (n : ℕ) (m : Message) → message_numbered q.lines n ≡ Some m → (records n ≡ None) ⊎ ((r : Record) × (records n ≡ Some r) × (record_after (settings_of q.lines) q.clock event n r ≡ None))
         → (is_live (with_event q event).lines q.clock m ≡ false) × (awaits_transfer (with_event q event).lines m ≡ false)
     gone_by n m numbered (inl gone) = none-next q event caused n m numbered (is.none n m numbered gone)
     gone_by n m numbered (inr x) = record-gone q event caused n m numbered x.0 (record_numbered q.lines q.clock records is n m x.0 numbered x.1) (tells_numbered q.lines q.clock records is n m x.0 numbered x.1) x.2
 
-    none_by : (n : ℕ) (m : Message) (b : Bool) → nat_eq n (message_count q.lines) ≡ b
-        → cond b (born_record q.clock event) (option_and_then (λ r. record_after (settings_of q.lines) q.clock event n r) (records n)) ≡ None
-        → cond b (message_of (length q.lines) n q.clock event) (message_numbered q.lines n) ≡ Some m
+    none_by : (n : ℕ) (m : Message) (b : Bool) → nat_lt n (message_count q.lines) ≡ b
+        → cond b (option_and_then (λ r. record_after (settings_of q.lines) q.clock event n r) (records n)) (record_begun q.clock event (message_count q.lines) n) ≡ None
+        → cond b (message_numbered q.lines n) (begun_at q.lines (entry q event caused) n) ≡ Some m
         → (is_live (with_event q event).lines q.clock m ≡ false) × (awaits_transfer (with_event q event).lines m ≡ false)
-    none_by n m true e at numbered = absurd (born-none q event caused n m numbered at)
-    none_by n m false e at numbered = gone_by n m numbered (then_none (λ r. record_after (settings_of q.lines) q.clock event n r) (records n) at)
+    none_by n m true e at numbered = gone_by n m numbered (then_none (λ r. record_after (settings_of q.lines) q.clock event n r) (records n) at)
+    none_by n m false e at numbered = absurd (born-none q event caused n m numbered at)

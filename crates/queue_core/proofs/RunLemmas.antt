@@ -9,13 +9,13 @@ use Rattle.queue_core.specs.Run.{EachAnswered, after_all}
 use Rattle.queue_core.specs.Cost.{most_ticks, most_ticks_of_all}
 
 -- what answers the steps that are left in the queue as it is now answers, behind the answers so far, all steps
-pub record Continues (R : Outcome → Result Reply Fault → Type 0) (first : QueueHistory) (steps : List Step) (answers : List (Result Reply Fault)) (now : QueueHistory) (left : List Step) : Type 0 where
+pub record Continues (R : QueueHistory → Outcome → Result Reply Fault → Type 0) (first : QueueHistory) (steps : List Step) (answers : List (Result Reply Fault)) (now : QueueHistory) (left : List Step) : Type 0 where
   pub answered : (rest : List (Result Reply Fault)) → EachAnswered R now left rest → EachAnswered R first steps (answers ++ rest)
   pub state : (rest : List (Result Reply Fault)) → after_all first steps (answers ++ rest) ≡ after_all now left rest
 
-module _ (R : Outcome → Result Reply Fault → Type 0) where
+module _ (R : QueueHistory → Outcome → Result Reply Fault → Type 0) where
   pub Continues-step : (first : QueueHistory) (steps : List Step) (answers : List (Result Reply Fault)) (now : QueueHistory) (left rest : List Step) (step : Step) (answer : Result Reply Fault) (next : QueueHistory)
-      → Continues R first steps answers now left → left ≡ step ∷ rest → R (outcome_at now step.at step.command) answer → next ≡ after_answer now step.at step.command answer
+      → Continues R first steps answers now left → left ≡ step ∷ rest → R now (outcome_at now step.at step.command) answer → next ≡ after_answer now step.at step.command answer
       → Continues R first steps (answers ++ answer ∷ []) next rest
   Continues-step first steps answers now left rest step answer next h is meets after = record {
     answered = λ others p.

@@ -1,24 +1,32 @@
 -- What periods and messages of a journal are made of, entry by entry.
-use Rattle.std.proofs.Common.{◌≡◌, ℕ, suc, ◌≤◌, Bool, true, false, cond, ◌&&◌, ◌||◌, List, [], ◌∷◌, length, Option, Some, None, refl, arith}
-use Rattle.std.specs.Option.{option_map_or}
+use Rattle.std.proofs.Common.{◌≡◌, ℕ, suc, ◌+◌, ◌≤◌, Bool, true, false, cond, ◌&&◌, ◌||◌, List, [], ◌∷◌, length, refl, arith}
 use Rattle.std.specs.List.{list_any}
+use Rattle.std.proofs.lemmas.List.{length-append}
 use Rattle.journal.specs.declared.entry.Entry.{Entry}
-use Rattle.queue_core.specs.declared.facts.Message.{Message}
-use Rattle.queue_core.specs.Messages.{message_of, messages_from, RetentionPeriod}
+use Rattle.journal.specs.declared.entry.Event.{Event}
+use Rattle.journal.specs.declared.entry.Event.TheVariants.{Sent, Arrived}
+use Rattle.queue_core.specs.Messages.{Birth, effect_of, messages_in, messages_from, RetentionPeriod}
+use Rattle.queue_core.specs.Tally.{births}
 
 pub by_closing : (b : Bool) (p : RetentionPeriod → Bool) (first : RetentionPeriod) (others : List RetentionPeriod)
     → list_any p (cond b (first ∷ others) others) ≡ (b && p first) || list_any p others
 by_closing true p first others = refl
 by_closing false p first others = refl
 
-length-more : {C : Type 0} (birth : Option Message) (more rest : List Message) (es : List (Entry C)) → length more ≤ length es → length rest ≤ length es
-    → length (option_map_or (λ m. m ∷ more) birth rest) ≤ suc (length es)
-length-more None more rest es h k = omega arith
-length-more (Some m) more rest es h k = omega arith
+pub length-messages_in : {C : Type 0} (place number at : ℕ) (bs : List (Birth C)) → length (messages_in place number at bs) ≡ length bs
+length-messages_in place number at [] = refl
+length-messages_in place number at (b ∷ bs) = let rest = length-messages_in place (suc number) at bs in omega arith
+
+-- no event begins more than one message
+pub births_few : {C : Type 0} (event : Event C) → births event ≤ 1
+births_few (Sent delay content) = omega arith
+births_few (Arrived origin content) = omega arith
+births_few event = omega arith
 
 -- there are no more messages than entries
 pub length-messages_from : {C : Type 0} (place number : ℕ) (es : List (Entry C)) → length (messages_from place number es) ≤ length es
 length-messages_from place number [] = omega arith
 length-messages_from place number (e ∷ es) =
-    length-more (message_of place number e.at e.event) (messages_from (suc place) (suc number) es) (messages_from (suc place) number es) es
-    (length-messages_from (suc place) (suc number) es) (length-messages_from (suc place) number es)
+    let rest = length-messages_from (suc place) (number + births e.event) es in
+    let both = length-append (messages_in place number e.at (effect_of e.event).births) (messages_from (suc place) (number + births e.event) es) in
+    omega (arith, births_few e.event, length-messages_in place number e.at (effect_of e.event).births)

@@ -1,8 +1,10 @@
 -- What one entry more makes of what a journal comes to.
-use Rattle.std.proofs.Common.{◌≡◌, ℕ, ◌+◌, true, cond, ◌||◌, List, [], ◌∷◌, ◌++◌, refl, sym, ap, ◌∙◌}
+use Rattle.std.proofs.Common.{◌≡◌, ℕ, ◌+◌, true, cond, ◌||◌, List, [], ◌∷◌, ◌++◌, length, refl, sym, ap, ◌∙◌}
+use Rattle.std.proofs.lemmas.List.FromFn.{length-map-range_with_len}
 use Rattle.queue_core.specs.declared.tally.Tally.{Tally}
-use Rattle.queue_core.specs.Messages.{message_count, settings_after, gives_settings, opens, created_time, modified_from, closes}
+use Rattle.queue_core.specs.Messages.{message_count, settings_after, gives_settings, opens, created_time, modified_from, receive_count, closes}
 use Rattle.queue_core.specs.Tally.{births, Tallies}
+use Rattle.queue_core.specs.Summary.{summary_of}
 use Rattle.queue_core.specs.Queue.{QueueHistory}
 use Rattle.queue_core.specs.Legal.{BeginsAndFollows}
 use Rattle.queue_core.proofs.PushLemmas.{Line, settings_from-push, closed-push, count-push}
@@ -26,11 +28,20 @@ pub record GoesOn (t u : Tally) (count : ℕ) (e : Line) : Type 0 where
   pub closed : u.is_closed ≡ (t.is_closed || closes e.event)
   pub messages : u.messages ≡ count + births e.event
 
-pub tallies-push : (q : QueueHistory) (lines : List Line) (e : Line) (t u : Tally) → BeginsAndFollows q lines → Tallies t lines → GoesOn t u (message_count lines) e → Tallies u (lines ++ e ∷ [])
-tallies-push q lines e t u begins is goes = record {
+-- how many messages a journal has is how many counts of receives a summary of it has
+pub received-count : (lines : List Line) (clock : ℕ) → length (summary_of lines clock).receives ≡ message_count lines
+received-count lines clock = length-map-range_with_len (λ n. receive_count lines n) 0 (message_count lines)
+
+-- a clock that moves changes nothing of it
+pub tallies-later : (lines : List Line) (clock later : ℕ) (t : Tally) → Tallies t (summary_of lines clock) → Tallies t (summary_of lines later)
+tallies-later lines clock later t is = record { settings = is.settings; created = is.created; modified = is.modified; closed = is.closed; messages = is.messages }
+
+pub tallies-push : (q : QueueHistory) (lines : List Line) (clock : ℕ) (e : Line) (t u : Tally) → BeginsAndFollows q lines → Tallies t (summary_of lines clock) → GoesOn t u (message_count lines) e
+    → Tallies u (summary_of (lines ++ e ∷ []) clock)
+tallies-push q lines clock e t u begins is goes = record {
   settings = goes.settings ∙ ap (λ s. settings_after s e.event) is.settings ∙ sym (settings_from-push _ lines e);
   created = goes.created ∙ is.created ∙ sym (created_time-push q lines e begins);
   modified = goes.modified ∙ ap (λ time. cond (gives_settings e.event) e.at time) is.modified ∙ sym (modified_from-push 0 lines e);
   closed = goes.closed ∙ ap (λ b. b || closes e.event) is.closed ∙ sym (closed-push lines e);
-  messages = goes.messages ∙ sym (count-push lines e);
+  messages = goes.messages ∙ sym (count-push lines e) ∙ sym (received-count (lines ++ e ∷ []) clock);
 }

@@ -206,12 +206,12 @@ module _ (s : QueueSettings) (at : ℕ) (event : Event ContentText) (m : Message
     here-notes : notes_end r.slot.stay ≡ false → notes_end (here_record r).slot.stay ≡ false
     here-notes h =
         departed-notes (effect_of event).target (contains_number m.number (effect_of event).departures) (kept_here r)
-        (rescheduled-notes (at + 1000 * (effect_of event).timeout) ((effect_of event).reschedules m.number) (offered_after at event m.number r) (offered-notes (offers_number m.number event) ∙ h))
+        (rescheduled-notes (at + 1000 * (effect_of event).timeout) (contains_number m.number (effect_of event).rescheduled) (offered_after at event m.number r) (offered-notes (offers_number m.number event) ∙ h))
 
     here-told : t.course.status ≡ Present → IsTold m here_told (here_record r)
     here-told present =
         let offered = offered-told m t r is at (offers_number m.number event) in
-        let rescheduled = rescheduled-told m _ _ offered present (at + 1000 * (effect_of event).timeout) ((effect_of event).reschedules m.number) in
+        let rescheduled = rescheduled-told m _ _ offered present (at + 1000 * (effect_of event).timeout) (contains_number m.number (effect_of event).rescheduled) in
         departed-told m _ _ rescheduled present (effect_of event).target (contains_number m.number (effect_of event).departures)
 
     here-next : (after : Record) → t.course.status ≡ Present → here_after at event m.number r ≡ Some after → IsTold m (told_after at event m t) after
@@ -220,7 +220,7 @@ module _ (s : QueueSettings) (at : ℕ) (event : Event ContentText) (m : Message
         subst (IsTold m (told_after at event m t)) there.1 (subst (λ (u : Told). IsTold m u (here_record r)) (here-same present there.0) (here-told present))
 
     -- a message that has left
-    module _ (target : ℕ) (waiting : t.course.status ≡ Waiting target) (unoffered : offers_number m.number event ≡ false) (unmoved : (effect_of event).reschedules m.number ≡ false) where
+    module _ (target : ℕ) (waiting : t.course.status ≡ Waiting target) (unoffered : offers_number m.number event ≡ false) (unmoved : contains_number m.number (effect_of event).rescheduled ≡ false) where
       left-first : r.first_receive ≡ first_of_both t.first_receive (cond (offers_number m.number event) (Some at) None)
       left-first = is.first_receive ∙ rw unoffered (sym (first-none t.first_receive))
 
@@ -256,7 +256,7 @@ module _ (s : QueueSettings) (at : ℕ) (event : Event ContentText) (m : Message
 
     -- the record after the event says what is told then
     pub told-next : (after : Record) → ((target : ℕ) → t.course.status ≡ Waiting target → offers_number m.number event ≡ false)
-        → ((target : ℕ) → t.course.status ≡ Waiting target → (effect_of event).reschedules m.number ≡ false)
+        → ((target : ℕ) → t.course.status ≡ Waiting target → contains_number m.number (effect_of event).rescheduled ≡ false)
         → record_after s at event m.number r ≡ Some after → IsTold m (told_after at event m t) after
     told-next after unoffered unmoved h = by_stay r.slot.stay is.standing h
       where

@@ -1,6 +1,6 @@
 -- What the messages that are touched weigh, and how much an event adds to their weight at most.
 use Rattle.std.proofs.Common.{◌≡◌, ℕ, suc, ◌+◌, ◌*◌, ◌<◌, ◌≤◌, Bool, true, false, not, cond, ◌&&◌, ◌==◌, List, [], ◌∷◌, ◌++◌, length, Option, Some, None, refl, sym, ap, ◌∙◌, max, arith}
-use Rattle.std.specs.Prelude.{count_by, nat_eq, slice_get, option_to_list}
+use Rattle.std.specs.Prelude.{count_by, nat_eq, slice_get}
 use Rattle.std.specs.Option.{option_map_or}
 use Rattle.std.specs.List.{sum_by, AllPairs}
 use Rattle.std.proofs.Math.Nat.{mul-add}
@@ -15,7 +15,7 @@ use Rattle.queue_core.specs.declared.facts.MessageState.{MessageState}
 use Rattle.queue_core.specs.declared.facts.MessageState.TheVariants.{Visible, Delayed, InFlight}
 use Rattle.queue_core.specs.declared.facts.Status.{Status}
 use Rattle.queue_core.specs.declared.facts.Status.TheVariants.{Present, Removed, Waiting, Transferred}
-use Rattle.queue_core.specs.Messages.{messages, message_count, message_of, contains_number, receive_count, course_of, due_time, status_after, is_present_status, is_expired, awaits_status, awaits_transfer, is_waiting_status, waits_for}
+use Rattle.queue_core.specs.Messages.{messages, message_count, contains_number, receive_count, course_of, due_time, status_after, is_present_status, is_expired, awaits_status, awaits_transfer, is_waiting_status, waits_for}
 use Rattle.queue_core.specs.States.{waiting_state, state_of, is_in_state, is_numbered, message_numbered}
 use Rattle.queue_core.specs.Queue.{QueueHistory, at_moment, waiting_count, with_event}
 use Rattle.queue_core.specs.Legal.{IsCausedIn}
@@ -25,7 +25,7 @@ use Rattle.queue_core.specs.Spending.{event_adds, state_weight, queue_weight}
 use Rattle.queue_core.proofs.PairLemmas.{count_by-places}
 use Rattle.queue_core.proofs.SlotCountLemmas.{count_members}
 use Rattle.queue_core.proofs.FactLemmas.{Line, about, course-push, receives-push, numbered-number, numbered-place, numbered-below}
-use Rattle.queue_core.proofs.PushLemmas.{messages-push}
+use Rattle.queue_core.proofs.PushLemmas.{messages-push, begun_by}
 
 -- ---- sums over messages
 
@@ -106,7 +106,7 @@ line_of at event = record { at = at; event = event }
 pushed-weight : (h : Message → ℕ) (lines : List Line) (e : Line) → sum_by h (messages lines) ≤ sum_by h (messages (lines ++ e ∷ []))
 pushed-weight h lines e =
     let all = ap (λ (ms : List Message). sum_by h ms) (messages-push lines e) in
-    omega (arith, sum_by-append h (messages lines) (option_to_list (message_of (length lines) (message_count lines) e.at e.event)))
+    omega (arith, sum_by-append h (messages lines) (begun_by lines e))
 
 module _ (p : QueueHistory) (at : ℕ) (event : Event ContentText) where
   abbrev added : QueueHistory
@@ -186,7 +186,7 @@ added-received : (p : QueueHistory) (at timeout : ℕ) (offered leaving : List �
     ≤ queue_weight (with_event (at_moment p at) (Received timeout offered leaving target)) + 12 * (touched_count p (with_event (at_moment p at) (Received timeout offered leaving target)) + 1)
 added-received p at timeout offered leaving target caused =
     let caused_by = about (at_moment p at) (Received timeout offered leaving target) caused in
-    let count = offered-count p.lines offered (λ m. is_in_state Visible p.lines (max p.clock at) m) (caused_by.offered_once timeout target offered leaving refl) caused_by.offered in
+    let count = offered-count p.lines offered (λ m. is_in_state Visible p.lines (max p.clock at) m) caused_by.offered_once caused_by.offered in
     let total = sum_times 6 (λ m. contains_number m.number offered) (messages p.lines) in
     added-sums p at (Received timeout offered leaving target) (6 * length offered) (λ m. 6 * one_if (contains_number m.number offered)) (omega arith)
     (λ k m is. offered-weight p at timeout offered leaving target m (contains_number m.number offered) refl)
@@ -249,8 +249,8 @@ module _ (p : QueueHistory) (at target : ℕ) where
 pub added-weight : (p : QueueHistory) (at : ℕ) (event : Event ContentText) → IsCausedIn (at_moment p at) event
     → queue_weight p + event_adds (λ target. waiting_count (at_moment p at) target) event
     ≤ queue_weight (with_event (at_moment p at) event) + 12 * (touched_count p (with_event (at_moment p at) event) + 1)
-added-weight p at (Received timeout offered leaving target) caused = added-received p at timeout offered leaving target caused
-added-weight p at (Orphaned target) caused = added-orphaned p at target
+added-weight p at (Received timeout offered leaving target) caused = let adds = added-received p at timeout offered leaving target caused in omega arith
+added-weight p at (Orphaned target) caused = let adds = added-orphaned p at target in omega arith
 added-weight p at (Changed number timeout) caused = added-few p at (Changed number timeout) 6 (omega arith)
 added-weight p at (Sent delay content) caused = added-few p at (Sent delay content) 8 (omega arith)
 added-weight p at (Arrived origin content) caused = added-few p at (Arrived origin content) 8 (omega arith)

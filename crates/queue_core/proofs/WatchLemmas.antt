@@ -36,7 +36,7 @@ use Rattle.queue_core.specs.Metrics.{minute_end, entries_until, metric_row, row_
 use Rattle.queue_core.specs.Queue.{QueueHistory}
 use Rattle.queue_core.specs.Legal.{IsOrdered, IsLegal}
 use Rattle.queue_core.specs.Indexed.{IsIndexOf}
-use Rattle.queue_core.specs.Watched.{rows_from, first_shown, rows_before, told_alarm, IsWatchOf, IsPassing}
+use Rattle.queue_core.specs.Watched.{rows_from, first_shown, rows_before, told_alarm, IsWatchAt, IsPassing}
 use Rattle.queue_core.proofs.MarkLemmas.{map_agree}
 use Rattle.queue_core.proofs.MetricLemmas.{row-parts, not_after, metric_row-later}
 use Rattle.queue_core.proofs.TallyLemmas.{created_time-push}
@@ -48,7 +48,7 @@ map-twice : {X Y Z : Type 0} (f : X → Y) (g : Y → Z) (xs : List X) → map g
 map-twice f g [] = refl
 map-twice f g (x ∷ xs) = ap (λ (ys : List _). g (f x) ∷ ys) (map-twice f g xs)
 
-range-alike : {X : Type 0} (f g : ℕ → X) (first count : ℕ) → ((m : ℕ) → first ≤ m → m < first + count → f m ≡ g m) → map f (range_with_len first count) ≡ map g (range_with_len first count)
+pub range-alike : {X : Type 0} (f g : ℕ → X) (first count : ℕ) → ((m : ℕ) → first ≤ m → m < first + count → f m ≡ g m) → map f (range_with_len first count) ≡ map g (range_with_len first count)
 range-alike f g first zero h = refl
 range-alike f g first (suc count) h =
     rw (h first (omega arith) (omega arith), range-alike f g (first + 1) count (λ m low high. h m (omega arith) (omega arith))) refl
@@ -93,7 +93,7 @@ all-told {X} f items told all index len same is past size whole =
 -- ---- lines by their times
 
 -- all lines are before a time that the clock has not reached
-all-before : (from clock end : ℕ) (lines : List (Entry ContentText)) → IsOrdered from lines clock → clock < end → filter (λ e. nat_lt e.at end) lines ≡ lines
+pub all-before : (from clock end : ℕ) (lines : List (Entry ContentText)) → IsOrdered from lines clock → clock < end → filter (λ e. nat_lt e.at end) lines ≡ lines
 all-before from clock end [] h late = refl
 all-before from clock end (e ∷ es) h late =
     let there : e.at ≤ clock = not_after e.at clock es h.1 in
@@ -109,7 +109,7 @@ none-in from clock minute (e ∷ es) h late =
     let other : eqb (minute_of e.at) minute ≡ false = grind (arith, nat_tests) in
     rw other (none-in e.at clock minute es h.1 late)
 
-flows-none : (q : QueueHistory) (minute : ℕ) → IsLegal q → q.clock < 60000 * minute → minute_flows content_size q.lines minute ≡ no_flows
+pub flows-none : (q : QueueHistory) (minute : ℕ) → IsLegal q → q.clock < 60000 * minute → minute_flows content_size q.lines minute ≡ no_flows
 flows-none q minute legal late =
     ap (λ (es : List (Entry ContentText)). capped (flows_total content_size es)) (none-in 0 q.clock minute q.lines legal.ordered late)
     ∙ minute_flows-none content_size minute
@@ -126,8 +126,8 @@ pub early_of : (q : QueueHistory) → IsLegal q → created_time q.lines ≤ q.c
 early_of q legal = created_early 0 q.clock q.lines legal.ordered
 
 -- the watch is that of the queue that contracts see
-pub watch_of : (p q : QueueHistory) (w : Watch) → p ≡ q → IsWatchOf p.lines (minute_of p.clock) p.rules w → IsWatchOf q.lines (minute_of q.clock) q.rules w
-watch_of p q w same is = subst (λ (q : QueueHistory). IsWatchOf q.lines (minute_of q.clock) q.rules w) same is
+pub watch_of : (p q : QueueHistory) (w : Watch) → p ≡ q → IsWatchAt p.lines (minute_of p.clock) p.rules w → IsWatchAt q.lines (minute_of q.clock) q.rules w
+watch_of p q w same is = subst (λ (q : QueueHistory). IsWatchAt q.lines (minute_of q.clock) q.rules w) same is
 
 -- ---- rows one after another
 
@@ -183,7 +183,7 @@ opened-flows true minute = ap (λ (f : Flows). capped (added f no_flows)) (minut
 opened-flows false minute = minute_flows-none content_size minute
 
 pub watch-opened : (at uid : ℕ) (settings : QueueSettings) (rules : List Rule) (w : Watch) → w.window ≡ opened_at (minute_of at) → w.alarms.items ≡ map new_alarm rules → All (λ rule. rule.minutes ≤ longest_window) rules
-    → IsWatchOf (record { at = at; event = Opened uid settings } ∷ []) (minute_of at) rules w
+    → IsWatchAt (record { at = at; event = Opened uid settings } ∷ []) (minute_of at) rules w
 watch-opened at uid settings rules w window alarms allowed =
     let lines : List (Entry ContentText) = record { at = at; event = Opened uid settings } ∷ [] in
     let none : minute_of at - first_shown lines (minute_of at) ≡ 0 = omega arith in
@@ -209,14 +209,14 @@ module _ (q : QueueHistory) (event : Event ContentText) (legal : IsLegal q) wher
   first-same : first_shown more present ≡ first_shown q.lines present
   first-same = ap (λ (created : ℕ). max (minute_of created) (present - longest_window)) (created_time-push q q.lines entry legal.caused)
 
-  rows-same : rows_before more present ≡ rows_before q.lines present
+  pub rows-same : rows_before more present ≡ rows_before q.lines present
   rows-same =
       ap (λ (first : ℕ). rows_from more first (present - first)) first-same
       ∙ range-alike (λ m. metric_row content_size more m) (λ m. metric_row content_size q.lines m) (first_shown q.lines present) (present - first_shown q.lines present)
       (λ m low high. metric_row-later content_size q.lines entry m (omega arith))
 
-  pub watch-pushed : (rules : List Rule) (w v : Watch) → IsWatchOf q.lines present rules w
-      → v.window ≡ record w.window { current = capped (added w.window.current (flows_of content_size event)) } → v.alarms ≡ w.alarms → IsWatchOf more present rules v
+  pub watch-pushed : (rules : List Rule) (w v : Watch) → IsWatchAt q.lines present rules w
+      → v.window ≡ record w.window { current = capped (added w.window.current (flows_of content_size event)) } → v.alarms ≡ w.alarms → IsWatchAt more present rules v
   watch-pushed rules w v is window alarms =
       let here : eqb present present ≡ true = grind (arith, nat_tests) in
       record {
@@ -287,7 +287,7 @@ module _ (q : QueueHistory) (legal : IsLegal q) (first : ℕ) (before : List Row
 
   -- a minute up to which all have ended lasts, where nothing but the last rows counts of those that went before
   pub passing-done : (present : ℕ) (x : MessageIndex) (w : Watch) → IsPassing q first before x w → w.window.minute ≡ present → All (λ rule. rule.minutes ≤ longest_window) q.rules
-      → first_shown q.lines present ≡ max first (present - longest_window) → ((n : ℕ) → n ≤ longest_window → keep_last n (before ++ until present) ≡ keep_last n (until present)) → IsWatchOf q.lines present q.rules w
+      → first_shown q.lines present ≡ max first (present - longest_window) → ((n : ℕ) → n ≤ longest_window → keep_last n (before ++ until present) ≡ keep_last n (until present)) → IsWatchAt q.lines present q.rules w
   passing-done present x w is here allowed start enough =
       let shown : keep_last longest_window (until present) ≡ rows_before q.lines present = rows-shown q.lines first present (omega (arith, is.begun, here)) start in
       record {
@@ -306,7 +306,7 @@ module _ (q : QueueHistory) (legal : IsLegal q) (first : ℕ) (before : List Row
 
 -- ---- the clock moves
 
-module _ (q : QueueHistory) (legal : IsLegal q) (x : MessageIndex) (w : Watch) (index : IsIndexOf q.lines q.clock x) (is : IsWatchOf q.lines (minute_of q.clock) q.rules w) where
+module _ (q : QueueHistory) (legal : IsLegal q) (x : MessageIndex) (w : Watch) (index : IsIndexOf q.lines q.clock x) (is : IsWatchAt q.lines (minute_of q.clock) q.rules w) where
   created-before : minute_of (created_time q.lines) ≤ minute_of q.clock
   created-before = let early = early_of q legal in omega arith
 
@@ -328,7 +328,7 @@ module _ (q : QueueHistory) (legal : IsLegal q) (x : MessageIndex) (w : Watch) (
       }
 
   pub watch-passed : (present : ℕ) (y : MessageIndex) (v : Watch) → minute_of q.clock ≤ present → IsPassing q (first_shown q.lines (minute_of q.clock)) [] y v → v.window.minute ≡ present
-      → IsWatchOf q.lines present q.rules v
+      → IsWatchAt q.lines present q.rules v
   watch-passed present y v later passing here =
       let created = created-before in
       passing-done q legal (first_shown q.lines (minute_of q.clock)) [] present y v passing here is.allowed (omega (arith, created)) (λ n few. refl)
@@ -354,7 +354,7 @@ module _ (q : QueueHistory) (legal : IsLegal q) (x : MessageIndex) (w : Watch) (
       }
 
   pub watch-jumped : (present : ℕ) (y : MessageIndex) (v : Watch) → minute_of q.clock + longest_window < present → IsPassing q (present - longest_window) (rows_before q.lines (minute_of q.clock)) y v
-      → v.window.minute ≡ present → IsWatchOf q.lines present q.rules v
+      → v.window.minute ≡ present → IsWatchAt q.lines present q.rules v
   watch-jumped present y v later passing here =
       let created = created-before in
       let size : length (rows_from q.lines (present - longest_window) (present - (present - longest_window))) ≡ present - (present - longest_window) =
@@ -364,16 +364,9 @@ module _ (q : QueueHistory) (legal : IsLegal q) (x : MessageIndex) (w : Watch) (
 
 -- ---- what is read off
 
-module _ (lines : List (Entry ContentText)) (clock : ℕ) (rules : List Rule) (w : Watch) (is : IsWatchOf lines (minute_of clock) rules w) (early : created_time lines ≤ clock) where
-  pub row-told : (minute : ℕ) → row_in w.window.rows minute ≡ row_of content_size lines clock minute
-  row-told minute =
-      let first : ℕ = first_shown lines (minute_of clock) in
-      let end : first + (minute_of clock - first) ≡ minute_of clock = omega arith in
-      ap (λ (rs : List Row). row_in rs minute) is.rows
-      ∙ row_in-from (λ m. metric_row content_size lines m) (λ m. refl) first (minute_of clock - first) minute
-      ∙ ap (λ (n : ℕ). cond (nat_le first minute && nat_lt minute n) (Some (metric_row content_size lines minute)) None) end
-
-  state-told : (rule : Rule) → rule.minutes ≤ longest_window → kept_state (told_alarm (rows_before lines (minute_of clock)) rule) ≡ alarm_state_in content_size lines clock rule
+-- the state of an alarm is that of the rows of the window
+module _ (lines : List (Entry ContentText)) (clock : ℕ) (early : created_time lines ≤ clock) where
+  pub state-told : (rule : Rule) → rule.minutes ≤ longest_window → kept_state (told_alarm (rows_before lines (minute_of clock)) rule) ≡ alarm_state_in content_size lines clock rule
   state-told rule few =
       let rows : List Row = rows_before lines (minute_of clock) in
       let size : length rows ≡ minute_of clock - first_shown lines (minute_of clock) =
@@ -390,12 +383,21 @@ module _ (lines : List (Entry ContentText)) (clock : ℕ) (rules : List Rule) (w
             rw (a, b) (ap (λ (rs : List Row). cond (nat_le rule.breaches (breaches_in rule rs)) Alarm Okay) (sym (last_of_window lines clock rule few enough)))
       ]
 
+module _ (lines : List (Entry ContentText)) (clock : ℕ) (rules : List Rule) (w : Watch) (is : IsWatchAt lines (minute_of clock) rules w) (early : created_time lines ≤ clock) where
+  pub row-told : (minute : ℕ) → row_in w.window.rows minute ≡ row_of content_size lines clock minute
+  row-told minute =
+      let first : ℕ = first_shown lines (minute_of clock) in
+      let end : first + (minute_of clock - first) ≡ minute_of clock = omega arith in
+      ap (λ (rs : List Row). row_in rs minute) is.rows
+      ∙ row_in-from (λ m. metric_row content_size lines m) (λ m. refl) first (minute_of clock - first) minute
+      ∙ ap (λ (n : ℕ). cond (nat_le first minute && nat_lt minute n) (Some (metric_row content_size lines minute)) None) end
+
   pub states-told : map (λ alarm. kept_state alarm) w.alarms.items ≡ map (λ rule. alarm_state_in content_size lines clock rule) rules
   states-told =
       ap (map (λ alarm. kept_state alarm)) is.alarms
       ∙ map-twice (told_alarm (rows_before lines (minute_of clock))) (λ alarm. kept_state alarm) rules
       ∙ alike-where (λ rule. rule.minutes ≤ longest_window) (λ rule. kept_state (told_alarm (rows_before lines (minute_of clock)) rule)) (λ rule. alarm_state_in content_size lines clock rule) rules is.allowed
-      (λ rule few. state-told rule few)
+      (λ rule few. state-told lines clock early rule few)
 
   pub one-told : (place : ℕ) → option_map (λ alarm. kept_state alarm) (slice_get w.alarms.items place) ≡ option_map (λ rule. alarm_state_in content_size lines clock rule) (slice_get rules place)
   one-told place =

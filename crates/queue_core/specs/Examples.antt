@@ -246,7 +246,7 @@ opened_at_one_second_and_set_at_five = entry 1000 (Opened 1 default_settings) �
 
 -- the queue `jobs`, whose clock is at the time of its last entry or later
 abbrev pub queue_with : QueueLimits → ℕ → List (Entry ContentText) → QueueHistory
-queue_with limits clock lines = record { uid = 1; name = 106 ∷ 111 ∷ 98 ∷ 115 ∷ []; limits = limits; rules = []; clock = clock; lines = lines }
+queue_with limits clock lines = record { uid = 1; name = 106 ∷ 111 ∷ 98 ∷ 115 ∷ []; limits = limits; rules = []; clock = clock; lines = lines; spare = 0 }
 
 abbrev pub queue : ℕ → List (Entry ContentText) → QueueHistory
 queue clock lines = queue_with default_limits clock lines

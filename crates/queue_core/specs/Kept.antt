@@ -18,4 +18,4 @@ pub record IsKept (q : QueueHistory) (limit : ℕ) : Type 0 where
 -- a queue as it is opened
 abbrev pub opened_queue : ℕ → List ℕ → QueueSettings → QueueLimits → List Rule → ℕ → QueueHistory
 opened_queue uid name settings limits rules at =
-    record { uid = uid; name = name; limits = limits; rules = rules; clock = at; lines = record { at = at; event = Opened uid settings } ∷ [] }
+    record { uid = uid; name = name; limits = limits; rules = rules; clock = at; lines = record { at = at; event = Opened uid settings } ∷ []; spare = 0 }

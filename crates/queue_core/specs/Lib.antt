@@ -11,11 +11,14 @@ pub mod Recorded
 pub mod Changes
 pub mod Settling
 pub mod Applying
-pub mod Indexed
 pub mod Accepted
+pub mod Metrics
+pub mod Summary
+pub mod Standing
+pub mod Indexed
+pub mod Heaps
 pub mod Kept
 pub mod Run
-pub mod Metrics
 pub mod Watched
 pub mod Turns
 pub mod Stops

@@ -1,5 +1,5 @@
 -- The messages of a queue, as its journal has them. Nothing here depends on what stands for a content.
-use Rattle.std.specs.Prelude.{ℕ, suc, ◌+◌, ◌*◌, ◌&&◌, ◌||◌, ◌==◌, nat_le, nat_lt, Bool, true, false, not, if◌then◌else◌, List, [], ◌∷◌, ◌++◌, map, filter, length, drop, count_by, slice_get, Option, Some, None, is_some, option_map, option_and_then, unwrap_or}
+use Rattle.std.specs.Prelude.{ℕ, suc, ◌+◌, ◌*◌, ◌&&◌, ◌||◌, ◌==◌, nat_le, nat_lt, Bool, true, false, not, if◌then◌else◌, List, [], ◌∷◌, ◌++◌, map, filter, length, drop, count_by, flat_map, slice_get, Option, Some, None, is_some, option_map, unwrap_or}
 use Rattle.std.specs.Option.{option_map_or}
 use Rattle.std.specs.List.{list_any, find}
 use Rattle.message.specs.declared.id.MessageId.{MessageId}
@@ -8,6 +8,7 @@ use Rattle.journal.specs.declared.entry.Entry.{Entry}
 use Rattle.journal.specs.declared.entry.Event.{Event}
 use Rattle.journal.specs.declared.entry.Event.TheVariants.{Opened, Sent, Arrived, Received, Changed, Deleted, DeletedAgain, Purged, Set, Settled, Orphaned, Refused, Closed}
 use Rattle.journal.specs.declared.entry.Origin.{Origin}
+use Rattle.queue_core.specs.declared.accepted.TransferKey.{TransferKey}
 use Rattle.queue_core.specs.declared.facts.Message.{Message}
 use Rattle.queue_core.specs.declared.facts.Course.{Course}
 use Rattle.queue_core.specs.declared.facts.Transfer.{Transfer}
@@ -24,53 +25,62 @@ pub record Birth (C : Type 0) : Type 0 where
 
 -- what an event does to a queue and to its messages
 pub record Effect (C : Type 0) : Type 0 where
-  pub birth : Option (Birth C)  -- the message that begins with it
+  pub births : List (Birth C)  -- the messages that begin with it, in order
   pub settings : Option QueueSettings  -- the settings from then on
   pub opens : Bool  -- the queue is open from then on
   pub closes : Bool  -- and closed
   pub closes_period : Bool  -- the retention until then is over
-  pub offers : ℕ → Bool  -- whether it offers the message of a number
-  pub reschedules : ℕ → Bool  -- whether the message of a number is due again so many seconds later
+  pub offered : List ℕ  -- the numbers of the messages that it offers, in order
+  pub rescheduled : List ℕ  -- the numbers of those that are due again so many seconds later
   pub timeout : ℕ
   pub removes : ℕ → Bool  -- whether it removes the message of a number, where that is there
   pub departures : List ℕ  -- the numbers of the messages that leave, in order
   pub target : ℕ  -- the uid of the dead-letter queue that they leave for
   pub confirms : ℕ → Bool  -- whether it confirms the transfer of the message of a number
+  pub accepted : List TransferKey  -- the transfers that the queue has accepted with it
   pub lost_target : Option ℕ  -- the uid of a dead-letter queue that is gone: what waited for it comes back
 
 abbrev pub no_effect : {C : Type 0} → Effect C
 no_effect = record {
-  birth = None;
+  births = [];
   settings = None;
   opens = false;
   closes = false;
   closes_period = false;
-  offers = λ number. false;
-  reschedules = λ number. false;
+  offered = [];
+  rescheduled = [];
   timeout = 0;
   removes = λ number. false;
   departures = [];
   target = 0;
   confirms = λ number. false;
+  accepted = [];
   lost_target = None;
 }
 
 abbrev pub contains_number : ℕ → List ℕ → Bool
 contains_number number numbers = list_any (λ n. n == number) numbers
 
+-- the transfer by which a message comes from there
+abbrev pub key_of : Origin → TransferKey
+key_of origin = record { uid = origin.uid; number = origin.number }
+
 -- one clause an event, and none left out: what an event does is said here and nowhere else
 abbrev pub effect_of : {C : Type 0} → Event C → Effect C
 effect_of (Opened uid settings) = record no_effect { settings = Some settings; opens = true }
-effect_of (Sent delay content) = record no_effect { birth = Some (record { content = content; delay = delay; origin = None }) }
-effect_of (Arrived origin content) = record no_effect { birth = Some (record { content = content; delay = 0; origin = Some origin }) }
+effect_of (Sent delay content) = record no_effect { births = record { content = content; delay = delay; origin = None } ∷ [] }
+effect_of (Arrived origin content) = record no_effect {
+  births = record { content = content; delay = 0; origin = Some origin } ∷ [];
+  accepted = key_of origin ∷ [];
+}
 effect_of (Received timeout offered leaving target) = record no_effect {
-  offers = λ number. contains_number number offered;
-  reschedules = λ number. contains_number number offered;
+  offered = offered;
+  rescheduled = offered;
   timeout = timeout;
   departures = leaving;
   target = target;
 }
-effect_of (Changed changed timeout) = record no_effect { reschedules = λ number. changed == number; timeout = timeout }
+effect_of (Changed changed timeout) = record no_effect { rescheduled = changed ∷ []; timeout = timeout }
 effect_of (Deleted deleted) = record no_effect { removes = λ number. deleted == number }
 effect_of DeletedAgain = no_effect
 effect_of Purged = record no_effect { removes = λ number. true }
@@ -82,25 +92,27 @@ effect_of Closed = record no_effect { closes = true; removes = λ number. true }
 
 -- ---- numbering and birth
 
--- the message that an event begins, where the event's place, the message's number and the time are given
-abbrev pub message_of : {C : Type 0} → ℕ → ℕ → ℕ → Event C → Option Message
-message_of place number at event =
-    option_map
-    (λ birth. record {
-      number = number;
-      place = place;
-      enqueue_time = at;
-      first_send_time = option_map_or (λ origin. origin.sent) birth.origin at;
-      first_due_time = at + 1000 * birth.delay;
-      origin = birth.origin;
-    })
-    (effect_of event).birth
+-- a message that begins, where its entry's place, its number and the time are given
+abbrev pub message_in : {C : Type 0} → ℕ → ℕ → ℕ → Birth C → Message
+message_in place number at birth = record {
+  number = number;
+  place = place;
+  enqueue_time = at;
+  first_send_time = option_map_or (λ origin. origin.sent) birth.origin at;
+  first_due_time = at + 1000 * birth.delay;
+  origin = birth.origin;
+}
+
+-- those that begin with one entry, numbered from a number on
+abbrev pub messages_in : {C : Type 0} → ℕ → ℕ → ℕ → List (Birth C) → List Message
+messages_in place number at [] = []
+messages_in place number at (b ∷ bs) = message_in place number at b ∷ messages_in place (suc number) at bs
 
 -- the messages that entries from a place on begin, numbered from a number on
 abbrev pub messages_from : {C : Type 0} → ℕ → ℕ → List (Entry C) → List Message
 messages_from place number [] = []
 messages_from place number (e ∷ es) =
-    option_map_or (λ m. m ∷ messages_from (suc place) (suc number) es) (message_of place number e.at e.event) (messages_from (suc place) number es)
+    messages_in place number e.at (effect_of e.event).births ++ messages_from (suc place) (number + length (effect_of e.event).births) es
 
 -- all messages of a queue, in the order of their entries, numbered 0, 1, 2 and so on
 abbrev pub messages : {C : Type 0} → List (Entry C) → List Message
@@ -117,13 +129,17 @@ own_id uid number = record { uid = uid; number = number }
 abbrev pub message_id : ℕ → Message → MessageId
 message_id uid m = option_map_or (λ origin. origin.id) m.origin (own_id uid m.number)
 
--- the content that an event brings
-abbrev pub content_in : {C : Type 0} → Event C → Option C
-content_in event = option_map (λ birth. birth.content) (effect_of event).birth
+-- the contents that an event brings, in order
+abbrev pub contents_in : {C : Type 0} → Event C → List C
+contents_in event = map (λ birth. birth.content) (effect_of event).births
 
--- a message's content: that of its entry
+-- the contents of all messages, in their order
+abbrev pub contents : {C : Type 0} → List (Entry C) → List C
+contents lines = flat_map (λ e. contents_in e.event) lines
+
+-- a message's content: the one of its number
 abbrev pub content_of : {C : Type 0} → List (Entry C) → Message → Option C
-content_of lines m = option_and_then (λ e. content_in e.event) (slice_get lines m.place)
+content_of lines m = slice_get (contents lines) m.number
 
 -- ---- settings in force
 
@@ -197,7 +213,7 @@ is_expired lines clock m = list_any (λ p. runs_out_in m p) (retention_periods l
 
 -- whether an event offers the message of a number
 abbrev pub offers_number : {C : Type 0} → ℕ → Event C → Bool
-offers_number number event = (effect_of event).offers number
+offers_number number event = contains_number number (effect_of event).offered
 
 -- how often a message was received
 abbrev pub receive_count : {C : Type 0} → List (Entry C) → ℕ → ℕ
@@ -240,7 +256,7 @@ returns _ event = false
 
 -- when the message of a number is due after an event at a time which does not bring it back
 abbrev pub due_after : {C : Type 0} → ℕ → ℕ → ℕ → Event C → ℕ
-due_after number due at event = if (effect_of event).reschedules number then at + 1000 * (effect_of event).timeout else due
+due_after number due at event = if contains_number number (effect_of event).rescheduled then at + 1000 * (effect_of event).timeout else due
 
 abbrev pub course_after : {C : Type 0} → ℕ → Course → Entry C → Course
 course_after number c e = record {
@@ -313,9 +329,9 @@ abbrev pub pending_transfers : {C : Type 0} → List (Entry C) → List Transfer
 pending_transfers [] = []
 pending_transfers (e ∷ es) = filter (λ t. not (list_any (λ later. ends_transfer t later.event) es)) (departures e.event) ++ pending_transfers es
 
--- the transfer by which an event begins a message: the uid of the queue that it left, and its number there
+-- whether the queue has accepted the transfer of the message of a number from the queue of a uid with an event
 abbrev pub accepts : {C : Type 0} → ℕ → ℕ → Event C → Bool
-accepts uid number event = option_map_or (λ birth. option_map_or (λ o. (o.uid == uid) && (o.number == number)) birth.origin false) (effect_of event).birth false
+accepts uid number event = list_any (λ key. (key.uid == uid) && (key.number == number)) (effect_of event).accepted
 
 -- whether the queue has accepted the transfer of the message of a number from the queue of a uid
 abbrev pub has_accepted : {C : Type 0} → List (Entry C) → ℕ → ℕ → Bool

@@ -12,7 +12,7 @@ use Rattle.queue_config.specs.Settings.{settings_with}
 use Rattle.receipt_handle.specs.declared.handle.Handle.{Handle}
 use Rattle.journal.specs.declared.entry.Entry.{Entry}
 use Rattle.journal.specs.declared.entry.Event.{Event}
-use Rattle.journal.specs.declared.entry.Event.TheVariants.{Sent, Arrived, Received, Changed, Deleted, DeletedAgain, Purged, Set, Settled, Orphaned, Refused, Closed}
+use Rattle.journal.specs.declared.entry.Event.TheVariants.{Opened, Sent, Arrived, Received, Changed, Deleted, DeletedAgain, Purged, Set, Settled, Orphaned, Refused, Closed}
 use Rattle.journal.specs.declared.entry.Origin.{Origin}
 use Rattle.queue_core.specs.declared.command.Command.{Command}
 use Rattle.queue_core.specs.declared.command.Command.TheVariants as commands
@@ -37,6 +37,7 @@ pub record QueueHistory : Type 0 where
   pub rules : List Rule  -- of its alarms
   pub clock : ℕ
   pub lines : List (Entry ContentText)
+  pub spare : ℕ  -- for how many entries more there is room for sure
 
 -- the queue at a moment: the clock never falls
 abbrev pub at_moment : QueueHistory → ℕ → QueueHistory
@@ -58,9 +59,41 @@ hands_over _ = false
 abbrev pub takes_memory : Outcome → Bool
 takes_memory outcome = adds_entry outcome || hands_over outcome.reply
 
+-- room for one entry more
+abbrev pub has_room : QueueHistory → Bool
+has_room q = nat_le 1 q.spare
+
+-- whether an entry wants no memory but for its own place: a clause for each event, and none left out
+abbrev pub wants_place_alone : Event ContentText → Bool
+wants_place_alone (Opened uid settings) = false
+wants_place_alone (Sent delay content) = false
+wants_place_alone (Arrived origin content) = false
+wants_place_alone (Received timeout offered leaving target) = false
+wants_place_alone (Changed number timeout) = true
+wants_place_alone (Deleted number) = true
+wants_place_alone DeletedAgain = true
+wants_place_alone Purged = true
+wants_place_alone (Set settings) = true
+wants_place_alone (Settled number) = true
+wants_place_alone (Orphaned target) = true
+wants_place_alone (Refused fault) = true
+wants_place_alone Closed = true
+
 -- what adds no entry and hands over no parcel wants no memory: its answer is the outcome's reply, and never want of memory in its place
 abbrev pub IsExact : Outcome → Result Reply Fault → Type 0
 IsExact outcome answer = takes_memory outcome ≡ false → answer ≡ outcome.reply
+
+-- the reply of what adds no entry and hands over no parcel, and none where memory is wanted
+abbrev pub reply_without_memory : Outcome → Option (Result Reply Fault)
+reply_without_memory outcome = if takes_memory outcome then None else Some outcome.reply
+
+-- what wants memory for no more than the place of its entry
+abbrev pub wants_room_alone : Outcome → Bool
+wants_room_alone outcome = option_map_or wants_place_alone outcome.event true && not (hands_over outcome.reply)
+
+-- where there is room for one entry more, such a command never answers want of memory: its answer is the outcome's reply
+abbrev pub IsExactWithRoom : QueueHistory → Outcome → Result Reply Fault → Type 0
+IsExactWithRoom q outcome answer = has_room q ≡ true → wants_room_alone outcome ≡ true → answer ≡ outcome.reply
 
 -- refused, without an entry
 abbrev pub uncounted_refusal : Fault → Outcome
@@ -300,7 +333,7 @@ outcome_at q at command = outcome_of (reached q at command) command
 
 -- the queue after an event at its clock
 abbrev pub with_event : QueueHistory → Event ContentText → QueueHistory
-with_event q event = record q { lines = q.lines ++ record { at = q.clock; event = event } ∷ [] }
+with_event q event = record q { lines = q.lines ++ record { at = q.clock; event = event } ∷ []; spare = q.spare - 1 }
 
 abbrev pub with_optional_event : QueueHistory → Option (Event ContentText) → QueueHistory
 with_optional_event q None = q

@@ -1,19 +1,18 @@
 -- The records of a queue's messages against its journal.
-use Rattle.std.specs.Prelude.{◌≡◌, ℕ, suc, ◌+◌, ◌*◌, ◌==◌, ◌&&◌, ◌||◌, not, nat_le, min, Bool, false, if◌then◌else◌, List, [], ◌∷◌, map, Some, None}
-use Rattle.std.specs.List.{list_any, range_with_len}
+use Rattle.std.specs.Prelude.{◌≡◌, ℕ, suc, ◌+◌, ◌*◌, ◌==◌, ◌&&◌, ◌||◌, not, nat_le, min, Bool, false, if◌then◌else◌, List, [], ◌∷◌, Some, None}
+use Rattle.std.specs.List.{list_any}
 use Rattle.message.specs.Content.{ContentText}
 use Rattle.queue_config.specs.Settings.{QueueSettings, default_settings}
 use Rattle.journal.specs.declared.entry.Entry.{Entry}
 use Rattle.queue_core.specs.declared.facts.Message.{Message}
 use Rattle.queue_core.specs.declared.facts.Course.{Course}
 use Rattle.queue_core.specs.declared.facts.Status.TheVariants.{Present, Waiting}
-use Rattle.queue_core.specs.Messages.{message_count, content_of, settings_of, settings_after, RetentionPeriod, closes_period, runs_out_in, is_expired, receive_count, first_receive_time, last_receive_time, course_of, is_returned, awaits_transfer, pending_transfers}
+use Rattle.queue_core.specs.Messages.{content_of, settings_of, settings_after, RetentionPeriod, closes_period, runs_out_in, is_expired, receive_count, first_receive_time, last_receive_time, course_of, is_returned, awaits_transfer}
 use Rattle.queue_core.specs.States.{is_live, failing_receives, message_numbered}
 use Rattle.queue_core.specs.declared.slot.Stay.{Stay}
 use Rattle.queue_core.specs.declared.slot.Stay.TheVariants.{Hidden, Shown, Left}
 use Rattle.queue_core.specs.declared.record.Record.{Record}
-use Rattle.queue_core.specs.declared.index.MessageIndex.{MessageIndex}
-use Rattle.queue_core.specs.Records.{Records, records_in}
+use Rattle.queue_core.specs.Records.{Records}
 
 -- ---- retention in the periods that are over
 
@@ -70,9 +69,3 @@ TellsExpiry lines clock m r = is_expired lines clock m ≡ (notes_end r.slot.sta
 pub record AreRecorded (lines : List (Entry ContentText)) (clock : ℕ) (records : Records) : Type 0 where
   pub some : (n : ℕ) (r : Record) → records n ≡ Some r → (m : Message) × (message_numbered lines n ≡ Some m) × IsRecordOf lines m r × TellsExpiry lines clock m r
   pub none : (n : ℕ) (m : Message) → message_numbered lines n ≡ Some m → records n ≡ None → (is_live lines clock m ≡ false) × (awaits_transfer lines m ≡ false)
-
--- and how often each message was received, and what waits, in order
-pub record IsRecorded (lines : List (Entry ContentText)) (clock : ℕ) (x : MessageIndex) : Type 0 where
-  pub records : AreRecorded lines clock (records_in x)
-  pub receives : x.receives.items ≡ map (λ n. receive_count lines n) (range_with_len 0 (message_count lines))
-  pub leaving : x.leaving.items ≡ map (λ t. t.number) (pending_transfers lines)

@@ -1,12 +1,12 @@
 -- What is kept of a queue's messages, and what an event makes of it.
-use Rattle.std.specs.Prelude.{◌≡◌, ℕ, ◌+◌, ◌*◌, ◌<◌, ◌≤◌, ◌&&◌, ◌||◌, not, nat_eq, nat_lt, nat_le, Bool, true, false, if◌then◌else◌, length, vec_capacity, Option, Some, None, option_map, option_and_then, unwrap_or}
+use Rattle.std.specs.Prelude.{◌≡◌, ℕ, ◌+◌, ◌*◌, ◌-◌, ◌<◌, ◌≤◌, ◌&&◌, ◌||◌, not, nat_eq, nat_lt, nat_le, Bool, true, false, if◌then◌else◌, length, slice_get, vec_capacity, Option, Some, None, option_map, option_and_then, unwrap_or}
 use Rattle.std.specs.Option.{option_map_or}
 use Rattle.std.specs.List.{AllPairs}
 use Rattle.indexmap.specs.IndexMap.{get, spare}
 use Rattle.message.specs.Content.{ContentText}
 use Rattle.journal.specs.declared.entry.Event.{Event}
 use Rattle.queue_config.specs.Settings.{QueueSettings}
-use Rattle.queue_core.specs.Messages.{effect_of, contains_number, loses, closes_period, closes}
+use Rattle.queue_core.specs.Messages.{Birth, effect_of, contains_number, offers_number, loses, closes_period, closes}
 use Rattle.queue_core.specs.States.{failing_receives}
 use Rattle.queue_core.specs.declared.slot.Stay.{Stay}
 use Rattle.queue_core.specs.declared.slot.Stay.TheVariants.{Hidden, Shown, Left}
@@ -65,10 +65,10 @@ settled_record retention clock r =
 
 -- a message that is there, where it is offered and where it gets another due time
 abbrev pub offered_after : ℕ → Event ContentText → ℕ → Record → Record
-offered_after at event number r = if (effect_of event).offers number then received_at at r else r
+offered_after at event number r = if offers_number number event then received_at at r else r
 
 abbrev pub rescheduled_after : ℕ → Event ContentText → ℕ → Record → Record
-rescheduled_after at event number r = if (effect_of event).reschedules number then hidden_until (at + 1000 * (effect_of event).timeout) r else r
+rescheduled_after at event number r = if contains_number number (effect_of event).rescheduled then hidden_until (at + 1000 * (effect_of event).timeout) r else r
 
 abbrev pub here_after : ℕ → Event ContentText → ℕ → Record → Option Record
 here_after at event number r =
@@ -138,26 +138,27 @@ pub record IsSettled (retention clock : ℕ) (records : Records) : Type 0 where
   pub settled : (n : ℕ) (r : Record) → records n ≡ Some r → settled_record retention clock r ≡ Some r
   pub shown : (n : ℕ) (r : Record) → records n ≡ Some r → r.slot.stay ≡ Shown → r.slot.due ≤ clock
 
--- ---- a message that an event begins, at its time
+-- ---- a message that begins at a time
 
-abbrev pub born_record : ℕ → Event ContentText → Option Record
-born_record at event =
-    option_map
-    (λ birth. record {
-      content = birth.content;
-      enqueue_time = at;
-      first_send_time = option_map_or (λ origin. origin.sent) birth.origin at;
-      origin = birth.origin;
-      first_receive = None;
-      last_receive = 0;
-      slot = record { stay = Hidden; due = at + 1000 * birth.delay; sent = option_map_or (λ origin. origin.sent) birth.origin at; is_fresh = true; is_returned = false; tries = 0 };
-    })
-    (effect_of event).birth
+abbrev pub born_record : ℕ → Birth ContentText → Record
+born_record at birth = record {
+  content = birth.content;
+  enqueue_time = at;
+  first_send_time = option_map_or (λ origin. origin.sent) birth.origin at;
+  origin = birth.origin;
+  first_receive = None;
+  last_receive = 0;
+  slot = record { stay = Hidden; due = at + 1000 * birth.delay; sent = option_map_or (λ origin. origin.sent) birth.origin at; is_fresh = true; is_returned = false; tries = 0 };
+}
+
+-- the record of a number behind an event, where so many messages were there before
+abbrev pub record_begun : ℕ → Event ContentText → ℕ → ℕ → Option Record
+record_begun at event count n = option_map (born_record at) (slice_get (effect_of event).births (n - count))
 
 -- the records after an event, where so many messages were there before
 abbrev pub records_after : QueueSettings → ℕ → Event ContentText → ℕ → Records → Records
 records_after s at event count records n =
-    if nat_eq n count then born_record at event else option_and_then (λ r. record_after s at event n r) (records n)
+    if nat_lt n count then option_and_then (λ r. record_after s at event n r) (records n) else record_begun at event count n
 
 -- the records at a time
 abbrev pub records_settled : ℕ → ℕ → Records → Records

@@ -4,23 +4,27 @@ use Rattle.message.specs.declared.fault.Fault.{Fault}
 use Rattle.message.specs.Fault.{Meets}
 use Rattle.queue_core.specs.declared.command.Step.{Step}
 use Rattle.queue_core.specs.declared.reply.Reply.{Reply}
-use Rattle.queue_core.specs.Queue.{QueueHistory, Outcome, outcome_at, after_answer, IsExact}
+use Rattle.queue_core.specs.Queue.{QueueHistory, Outcome, outcome_at, after_answer, IsExact, IsExactWithRoom}
 
--- a relation holds of each step's outcome, in the queue which the answers before it leave, and of its answer
-abbrev pub EachAnswered : (Outcome → Result Reply Fault → Type 0) → QueueHistory → List Step → List (Result Reply Fault) → Type 0
+-- a relation holds of the queue which the answers before a step leave, of the step's outcome there, and of its answer
+abbrev pub EachAnswered : (QueueHistory → Outcome → Result Reply Fault → Type 0) → QueueHistory → List Step → List (Result Reply Fault) → Type 0
 EachAnswered R q [] [] = Unit {0}
 EachAnswered R q [] (answer ∷ answers) = ⊥
 EachAnswered R q (step ∷ steps) [] = ⊥
 EachAnswered R q (step ∷ steps) (answer ∷ answers) =
-    R (outcome_at q step.at step.command) answer × EachAnswered R (after_answer q step.at step.command answer) steps answers
+    R q (outcome_at q step.at step.command) answer × EachAnswered R (after_answer q step.at step.command answer) steps answers
 
 -- each answer is the outcome's reply, unless memory ran out
 abbrev pub AreAnswers : QueueHistory → List Step → List (Result Reply Fault) → Type 0
-AreAnswers q steps answers = EachAnswered (λ outcome answer. Meets answer outcome.reply) q steps answers
+AreAnswers q steps answers = EachAnswered (λ q outcome answer. Meets answer outcome.reply) q steps answers
 
--- and it is that where no entry is added
+-- and it is that where no entry is added and no parcel handed over
 abbrev pub AreExact : QueueHistory → List Step → List (Result Reply Fault) → Type 0
-AreExact q steps answers = EachAnswered IsExact q steps answers
+AreExact q steps answers = EachAnswered (λ q outcome answer. IsExact outcome answer) q steps answers
+
+-- and also where an entry is added that wants no more than its place, and there is room for it
+abbrev pub AreExactWithRoom : QueueHistory → List Step → List (Result Reply Fault) → Type 0
+AreExactWithRoom q steps answers = EachAnswered (λ q outcome answer. IsExactWithRoom q outcome answer) q steps answers
 
 -- the queue that the answers leave
 abbrev pub after_all : QueueHistory → List Step → List (Result Reply Fault) → QueueHistory

@@ -1,16 +1,16 @@
 -- What changes of the indices cost. An operation counter and a weight are taken together: time makes the indices lighter by what it costs, so that what is to be paid for is what events add.
 use Rattle.std.specs.Prelude.{◌≡◌, ℕ, ◌+◌, ◌*◌, ◌<◌, ◌≤◌, ◌^◌, ◌==◌, true, if◌then◌else◌, length, sum_by, count_by, Option, Some, None}
+use Rattle.std.specs.Option.{option_map_or}
 use Rattle.std.specs.FinMap as finite
 use Rattle.indexmap.specs.IndexMap.{index_map_len}
 use Rattle.message.specs.Content.{ContentText}
 use Rattle.journal.specs.declared.entry.Event.{Event}
-use Rattle.journal.specs.declared.entry.Event.TheVariants.{Sent, Arrived, Received, Changed, Orphaned}
 use Rattle.queue_core.specs.declared.facts.MessageState.{MessageState}
 use Rattle.queue_core.specs.declared.facts.MessageState.TheVariants.{Visible, Delayed, InFlight}
 use Rattle.queue_core.specs.declared.slot.Slot.{Slot}
 use Rattle.queue_core.specs.declared.indices.Indices.{Indices}
 use Rattle.queue_core.specs.declared.index.MessageIndex.{MessageIndex}
-use Rattle.queue_core.specs.Messages.{messages}
+use Rattle.queue_core.specs.Messages.{Effect, effect_of, messages}
 use Rattle.queue_core.specs.States.{state_of}
 use Rattle.queue_core.specs.Queue.{QueueHistory, at_moment, waiting_count}
 use Rattle.queue_core.specs.Tally.{births}
@@ -62,14 +62,12 @@ pub record CostsBetween (begun more : ℕ) (ticks records : ℕ) (x : Indices) (
 abbrev pub Costs : ℕ → ℕ → ℕ → MessageIndex → ℕ → MessageIndex → Type 0
 Costs begun more ticks x ticks' y = CostsBetween begun more ticks (index_map_len x.records) x.indices ticks' (index_map_len y.records) y.indices
 
--- how much at most an event adds, where so many wait for the dead-letter queue of a uid
+-- how much at most an effect adds, where so many wait for the dead-letter queue of a uid: 6 for each message that is due again, and 8 for each that begins or comes back
+abbrev pub effect_adds : (ℕ → ℕ) → Effect ContentText → ℕ
+effect_adds waiting effect = 6 * length effect.rescheduled + 8 * length effect.births + 8 * option_map_or waiting effect.lost_target 0
+
 abbrev pub event_adds : (ℕ → ℕ) → Event ContentText → ℕ
-event_adds waiting (Received timeout offered leaving target) = 6 * length offered
-event_adds waiting (Orphaned target) = 8 * waiting target
-event_adds waiting (Changed number timeout) = 6
-event_adds waiting (Sent delay content) = 8
-event_adds waiting (Arrived origin content) = 8
-event_adds waiting _ = 0
+event_adds waiting event = effect_adds waiting (effect_of event)
 
 abbrev pub left_count : MessageIndex → ℕ → ℕ
 left_count x target = count_by (λ n. is_left_for target (slots_in x n)) x.leaving.items

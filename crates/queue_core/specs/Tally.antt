@@ -1,19 +1,18 @@
 -- What the entries of a journal come to, and how many messages an event begins.
-use Rattle.std.specs.Prelude.{◌≡◌, ℕ, List, is_some, if◌then◌else◌}
-use Rattle.message.specs.Content.{ContentText}
-use Rattle.journal.specs.declared.entry.Entry.{Entry}
+use Rattle.std.specs.Prelude.{◌≡◌, ℕ, length}
 use Rattle.journal.specs.declared.entry.Event.{Event}
 use Rattle.queue_core.specs.declared.tally.Tally.{Tally}
-use Rattle.queue_core.specs.Messages.{effect_of, settings_of, created_time, modified_time, is_closed, message_count}
+use Rattle.queue_core.specs.Messages.{effect_of}
+use Rattle.queue_core.specs.Summary.{Summary}
 
 -- how many messages an event begins
 abbrev pub births : {C : Type 0} → Event C → ℕ
-births event = if is_some (effect_of event).birth then 1 else 0
+births event = length (effect_of event).births
 
--- what is kept is what going through the entries gives
-pub record Tallies (t : Tally) (lines : List (Entry ContentText)) : Type 0 where
-  pub settings : t.settings ≡ settings_of lines
-  pub created : t.created ≡ created_time lines
-  pub modified : t.modified ≡ modified_time lines
-  pub closed : t.is_closed ≡ is_closed lines
-  pub messages : t.messages ≡ message_count lines
+-- what is kept is what a summary has of it
+pub record Tallies (t : Tally) (s : Summary) : Type 0 where
+  pub settings : t.settings ≡ s.settings
+  pub created : t.created ≡ s.created
+  pub modified : t.modified ≡ s.modified
+  pub closed : t.is_closed ≡ s.closed
+  pub messages : t.messages ≡ length s.receives

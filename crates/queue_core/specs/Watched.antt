@@ -4,6 +4,7 @@ use Rattle.std.specs.List.{All, range_with_len}
 use Rattle.message.specs.Content.{ContentText, content_size}
 use Rattle.queue_config.specs.AlarmRules.{Rule}
 use Rattle.journal.specs.declared.entry.Entry.{Entry}
+use Rattle.metric_window.specs.declared.flows.Flows.{Flows}
 use Rattle.metric_window.specs.declared.row.Row.{Row}
 use Rattle.metric_window.specs.Flows.{minute_of, minute_flows}
 use Rattle.metric_window.specs.KeptRows.{keep_last}
@@ -34,12 +35,16 @@ abbrev pub told_alarm : List Row → Rule → KeptAlarm
 told_alarm rows rule = record { rule = rule; judged = keep_last rule.minutes (map (λ row. satisfies rule row) rows) }
 
 -- while a minute lasts: the rows before it, what has happened in it, and the alarms, which were told those rows
-pub record IsWatchOf (lines : List (Entry ContentText)) (present : ℕ) (rules : List Rule) (w : Watch) : Type 0 where
+pub record IsWatchOf (before : List Row) (flows : Flows) (present : ℕ) (rules : List Rule) (w : Watch) : Type 0 where
   pub minute : w.window.minute ≡ present
-  pub rows : w.window.rows ≡ rows_before lines present
-  pub current : w.window.current ≡ minute_flows content_size lines present
-  pub alarms : w.alarms.items ≡ map (told_alarm (rows_before lines present)) rules
+  pub rows : w.window.rows ≡ before
+  pub current : w.window.current ≡ flows
+  pub alarms : w.alarms.items ≡ map (told_alarm before) rules
   pub allowed : All (λ rule. rule.minutes ≤ longest_window) rules
+
+-- it is that of a journal
+abbrev pub IsWatchAt : List (Entry ContentText) → ℕ → List Rule → Watch → Type 0
+IsWatchAt lines present rules w = IsWatchOf (rows_before lines present) (minute_flows content_size lines present) present rules w
 
 -- while minutes end, after the queue's last line: the index has come to a time before which all minutes have ended, the window has the rows from a
 -- first minute on, and the alarms were told others before those

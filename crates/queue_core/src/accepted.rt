@@ -1,9 +1,11 @@
 //! The transfers that a queue has accepted, kept for good.
 
-ghost use Rattle.std.specs.Prelude.{◌≡◌, ◌≤◌, ◌++◌, true, false, [], ◌∷◌, Ok, OnOk, IfErr, IfSome};
+ghost use Rattle.std.specs.Prelude.{◌≡◌, ◌≤◌, ◌++◌, false, [], ◌∷◌, length, Ok, OnOk, IfErr, option_map, option_to_list};
+ghost use Rattle.std.specs.List.{All};
 ghost use Rattle.indexmap.specs.IndexSet.{spare};
 ghost use Rattle.message.specs.declared.fault.Fault.TheVariants.{OutOfMemory};
-ghost use Rattle.queue_core.specs.Accepted.{holds, origin_in, brings, keys_in};
+ghost use Rattle.queue_core.specs.Messages.{effect_of, key_of};
+ghost use Rattle.queue_core.specs.Accepted.{holds};
 
 use crate::effect::effect_of;
 use indexmap::IndexSet;
@@ -45,8 +47,8 @@ impl Accepted {
     /// `OutOfMemory` is the only refusal.
     pub(crate) fn make_place(&mut self, event: &Event<Content>) -> Result<(), Fault>
         ensures same { self.new.keys.keys ≡ self.old.keys.keys }
-        ensures calm { brings event.now ≡ false → result ≡ Ok tt }
-        ensures ok { OnOk result (brings event.now ≡ true → 1 ≤ spare self.new.keys) }
+        ensures calm { (effect_of event.now).accepted ≡ [] → result ≡ Ok tt }
+        ensures ok { OnOk result (length (effect_of event.now).accepted ≤ spare self.new.keys) }
         ensures errors { IfErr result (λ fault. fault ≡ OutOfMemory) }
     {
         if origin_of(event).is_some() {
@@ -58,9 +60,9 @@ impl Accepted {
     /// Adds the transfer by which an event begins a message, where it does, behind those before it. It is not among them yet, and
     /// there is room for it.
     pub(crate) fn note(&mut self, event: &Event<Content>)
-        requires room { brings event.now ≡ true → 1 ≤ spare self.old.keys }
-        requires first { IfSome (origin_in event.now) (λ origin. holds self.old origin.uid origin.number ≡ false) }
-        ensures { self.new.keys.keys ≡ self.old.keys.keys ++ keys_in event.now }
+        requires room { length (effect_of event.now).accepted ≤ spare self.old.keys }
+        requires first { All (λ key. holds self.old key.uid key.number ≡ false) (effect_of event.now).accepted }
+        ensures { self.new.keys.keys ≡ self.old.keys.keys ++ (effect_of event.now).accepted }
     {
         if let Some(origin) = origin_of(event) {
             self.add(origin.uid, origin.number);
@@ -79,7 +81,7 @@ impl Accepted {
 
 /// Where the message that an event begins came from, where it begins one that was not sent here.
 fn origin_of(event: &Event<Content>) -> Option<Origin>
-    ensures { result ≡ origin_in event.now }
+    ensures { option_to_list (option_map key_of result) ≡ (effect_of event.now).accepted }
 {
     effect_of(event).birth?.origin
 }

@@ -1,6 +1,6 @@
 //! What an event does to the messages of a queue.
 
-ghost use Rattle.std.specs.Prelude.{◌≡◌, ℕ, ◌+◌, ◌<◌, ◌≤◌, ◌^◌, ◌*◌, ◌==◌, ◌||◌, not, nat_eq, true, false, None, Some, [], ◌∷◌, ◌++◌, if◌then◌else◌, filter, option_map, position, length, slice_index, slice_set, IsSome};
+ghost use Rattle.std.specs.Prelude.{◌≡◌, ℕ, ◌+◌, ◌<◌, ◌≤◌, ◌^◌, ◌*◌, ◌==◌, ◌||◌, not, nat_eq, true, false, None, Some, [], ◌∷◌, ◌++◌, if◌then◌else◌, filter, map, option_map, option_to_list, position, length, slice_index, slice_set, IsSome};
 ghost use Rattle.std.specs.List.{AllPairs};
 ghost use Rattle.std.specs.Option.{OnSome};
 ghost use Rattle.std.specs.VecDeque.{deque_capacity};
@@ -36,7 +36,7 @@ impl MessageIndex {
     )
         requires indexed { IsIndexed self.old }
         requires few { born_in self.old < 2 ^ 62 }
-        requires born { born ≡ born_record at event.now }
+        requires born { option_to_list born ≡ map (born_record at) (effect_of event.now).births }
         requires ready { OnSome born (IsReady self.old) }
         requires about { CanApply event.now self.old }
         ensures indexed { IsIndexed self.new }

@@ -1,9 +1,8 @@
 //! What an event does to a queue, said once for each event.
 
-ghost use Rattle.std.specs.Prelude.{◌≡◌, ℕ, None};
+ghost use Rattle.std.specs.Prelude.{◌≡◌, None, option_to_list};
 ghost use Rattle.queue_core.specs.Messages.{effect_of, opens};
-ghost use Rattle.queue_core.specs.Spending.{event_adds};
-ghost use Rattle.queue_core.specs.Effects.{changed_by, adds_by, IsReceive};
+ghost use Rattle.queue_core.specs.Effects.{changed_by, accepted_with};
 
 use journal::{Event, Origin};
 use message::Content;
@@ -82,11 +81,10 @@ impl<'a> Effect<'a> {
 
 /// What an event does. No event is left out, and no other function of these asks which one it was.
 pub(crate) fn effect_of(event: &Event<Content>) -> Effect<'_>
-    ensures birth { result.birth ≡ (effect_of event.now).birth }
+    ensures births { option_to_list result.birth ≡ (effect_of event.now).births }
+    ensures accepted { accepted_with result.birth ≡ (effect_of event.now).accepted }
     ensures settings { result.settings ≡ (effect_of event.now).settings }
     ensures change { effect_of event.now ≡ record (changed_by result.change result.birth) { settings = result.settings; opens = opens event.now } }
-    ensures adds { (waiting : ℕ → ℕ) → event_adds waiting event.now ≡ adds_by waiting result.change result.birth }
-    ensures receive { IsReceive result.change event.now }
 {
     match event {
         Event::DeletedAgain | Event::Refused { .. } => Effect::of(Change::Nothing),

@@ -6,6 +6,7 @@ ghost use Rattle.message.specs.declared.fault.Fault.TheVariants.{OutOfMemory};
 ghost use Rattle.queue_core.specs.declared.slot.Stay.TheVariants.{Shown};
 ghost use Rattle.std.specs.VecDeque.{deque_capacity};
 ghost use Rattle.queue_core.specs.Messages.{effect_of};
+ghost use Rattle.queue_core.specs.Tally.{births};
 ghost use Rattle.queue_core.specs.Ages.{IsFirstHere};
 ghost use Rattle.queue_core.specs.Slots.{one_if, is_hidden, has_age, is_left_for, IsReplaced};
 ghost use Rattle.queue_core.specs.Records.{records_in, slots_in, born_in, with_stay, with_parts, records_settled, HasIndices, IsIndexed, IsReady, HasSame};
@@ -315,8 +316,8 @@ impl MessageIndex {
         requires few { born_in self.old < 2 ^ 30 }
         ensures same { HasSame self.old self.new }
         ensures indexed { IsIndexed self.new }
-        ensures calm { (effect_of event.now).birth ≡ None → (effect_of event.now).departures ≡ [] → result ≡ Ok tt }
-        ensures ready { OnOk result (is_some (effect_of event.now).birth ≡ true → IsReady self.new) }
+        ensures calm { (effect_of event.now).births ≡ [] → (effect_of event.now).departures ≡ [] → result ≡ Ok tt }
+        ensures ready { OnOk result (1 ≤ births event.now → IsReady self.new) }
         ensures room { OnOk result (length self.new.leaving.items + length (effect_of event.now).departures ≤ deque_capacity self.new.leaving) }
         ensures errors { IfErr result (λ fault. fault ≡ OutOfMemory) }
     {

@@ -122,8 +122,9 @@ pub fn refused_calls_change_nothing()
 
 /// A queue's own refusals are `InvalidParameterValue`, `ReceiptHandleIsInvalid`, `MessageNotInflight` and
 /// `OverLimit`: each adds the one entry that records it, and no other refusal adds an entry. That entry
-/// changes nothing but the count of refused calls: at every later moment the queue stands as the queue
-/// that never got the call, with the same messages due at the same times and expired.
+/// changes nothing but the count of refused calls, and the place in the journal that it takes: at every
+/// later moment the queue stands as the queue that never got the call, with the same messages due at the
+/// same times and expired.
 pub fn own_refusals_change_nothing_later()
     ensures entry { (q : QueueHistory) (at : ℕ) (command : Command) (fault : Fault)
         → (outcome_at q at command).reply ≡ Err fault → is_own_refusal fault ≡ true

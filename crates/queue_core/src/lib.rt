@@ -13,7 +13,8 @@
 //! - `Queue`: the outcome of each command;
 //! - `Run`: a queue over a list of commands;
 //! - `Cost`: how many operations a call may count;
-//! - `Ranges`, `Legal`: what commands carry, and which journals a queue can have.
+//! - `Ranges`, `Legal`: what commands carry, and which journals a queue can have;
+//! - `Summary`, `Standing`: what a queue has to know of its journal, and what follows from that alone.
 //!
 //! Want of memory of a command moves the clock and nothing else, and a command that adds no entry, but
 //! `FirstParcel`, never wants memory. That alone leaves the clock as it is, and may want memory without an
@@ -42,6 +43,7 @@ mod receive_laws;
 mod record;
 mod reply;
 mod slot;
+mod standing_laws;
 mod state;
 mod sum_laws;
 mod tally;
@@ -69,5 +71,6 @@ pub use parcel::{Arrival, Parcel};
 pub use reading::{closes, gives_settings, settings_after};
 pub use receive_laws::a_receive_stops_behind_its_last_offer;
 pub use reply::{Look, Posted, Reply};
+pub use standing_laws::{answers_follow_from_a_summary, summaries_go_on_alike};
 pub use state::QueueState;
 pub use sum_laws::no_number_of_a_row_is_cut;

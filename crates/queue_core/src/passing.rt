@@ -9,7 +9,7 @@ ghost use Rattle.queue_core.specs.Queue.{QueueHistory};
 ghost use Rattle.queue_core.specs.Legal.{IsLegal};
 ghost use Rattle.queue_core.specs.Records.{born_in, HasIndices};
 ghost use Rattle.queue_core.specs.Indexed.{IsIndexOf};
-ghost use Rattle.queue_core.specs.Watched.{IsWatchOf, IsPassing};
+ghost use Rattle.queue_core.specs.Watched.{IsWatchAt, IsPassing};
 ghost use Rattle.queue_core.specs.Spending.{Costs};
 
 use crate::index::MessageIndex;
@@ -30,8 +30,8 @@ pub(crate) fn catch_up(
     requires few { born_in index.old < 2 ^ 62 }
     requires past { watch.old.window.minute ≤ minute_of clock }
     ensures passed { (q : QueueHistory) → IsLegal q → q.clock ≤ clock → retention ≡ (settings_of q.lines).retention_seconds
-        → IsIndexOf q.lines q.clock index.old → IsWatchOf q.lines (minute_of q.clock) q.rules watch.old
-        → IsIndexOf q.lines clock index.new × IsWatchOf q.lines (minute_of clock) q.rules watch.new }
+        → IsIndexOf q.lines q.clock index.old → IsWatchAt q.lines (minute_of q.clock) q.rules watch.old
+        → IsIndexOf q.lines clock index.new × IsWatchAt q.lines (minute_of clock) q.rules watch.new }
     ensures cost { Costs 0 0 ticks.old index.old ticks.new index.new }
 {
     let end = minute_of(clock);

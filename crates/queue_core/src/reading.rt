@@ -1,8 +1,10 @@
 //! What a single event says of a queue's settings, its messages and its end. Each function has the name of the
 //! definition of `specs/` that it computes.
 
-ghost use Rattle.std.specs.Prelude.{◌≡◌, is_some};
-ghost use Rattle.queue_core.specs.Messages.{effect_of, settings_after, gives_settings, closes};
+ghost use Rattle.std.specs.Prelude.{◌≡◌};
+ghost use Rattle.queue_core.specs.Messages.{settings_after, gives_settings, closes};
+ghost use Rattle.queue_core.specs.Slots.{one_if};
+ghost use Rattle.queue_core.specs.Tally.{births};
 
 use crate::effect::{Change, effect_of};
 use journal::Event;
@@ -21,9 +23,9 @@ pub fn settings_after(settings: Settings, event: &Event<Content>) -> Settings
     }
 }
 
-/// Whether an event begins a message.
+/// Whether an event begins a message. None begins more than one.
 pub(crate) fn begins(event: &Event<Content>) -> bool
-    ensures { result ≡ is_some (effect_of event.now).birth }
+    ensures { births event.now ≡ one_if result }
 {
     effect_of(event).birth.is_some()
 }

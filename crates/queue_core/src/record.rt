@@ -1,8 +1,9 @@
 //! What is kept of one message.
 
-ghost use Rattle.std.specs.Prelude.{◌≡◌, true, false, None, Ok, IfOk, IfErr};
+ghost use Rattle.std.specs.Prelude.{◌≡◌, true, false, None, [], Ok, IfOk, IfErr, map, option_to_list};
 ghost use Rattle.message.specs.declared.fault.Fault.TheVariants.{OutOfMemory};
 ghost use Rattle.queue_core.specs.declared.slot.Stay.TheVariants.{Hidden};
+ghost use Rattle.queue_core.specs.Messages.{effect_of};
 ghost use Rattle.queue_core.specs.Records.{born_record};
 
 use crate::effect::effect_of;
@@ -30,8 +31,8 @@ pub(crate) struct Record {
 /// The record of the message that an event begins at a time, with a share of its content. Where it begins none, no
 /// memory is wanted.
 pub(crate) fn record_born(at: Moment, event: &Event<Content>) -> Result<Option<Record>, Fault>
-    ensures calm { born_record at event.now ≡ None → result ≡ Ok None }
-    ensures ok { IfOk result (λ born. born ≡ born_record at event.now) }
+    ensures calm { (effect_of event.now).births ≡ [] → result ≡ Ok None }
+    ensures ok { IfOk result (λ born. option_to_list born ≡ map (born_record at) (effect_of event.now).births) }
     ensures errors { IfErr result (λ fault. fault ≡ OutOfMemory) }
 {
     match effect_of(event).birth {

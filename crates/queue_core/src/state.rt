@@ -1,6 +1,6 @@
 //! A queue, kept as its journal, a clock, an index of its messages, and a watch of its last minutes.
 
-ghost use Rattle.std.specs.Prelude.{◌≡◌, ℕ, ◌+◌, ◌-◌, ◌<◌, ◌≤◌, ◌^◌, ◌/◌, ◌≢◌, nat_lt, nat_le, true, false, length, slice_get, option_map, if◌then◌else◌, unwrap_or, Some, None, IsTrue, IfSome, IfOk, OnOk, OnErr, IfErr};
+ghost use Rattle.std.specs.Prelude.{◌≡◌, ℕ, max, ◌+◌, ◌-◌, ◌<◌, ◌≤◌, ◌^◌, ◌/◌, ◌≢◌, nat_lt, nat_le, true, false, length, slice_get, option_map, if◌then◌else◌, unwrap_or, Some, None, Ok, Err, IsTrue, IfSome, IfOk, OnOk, OnErr, IfErr};
 ghost use Rattle.std.specs.Option.{ForSome, option_map_or};
 ghost use Rattle.message.specs.declared.fault.Fault.TheVariants.{OutOfMemory};
 ghost use Rattle.message.specs.Fault.{Meets, is_out_of_memory};
@@ -40,8 +40,12 @@ struct Scan {
     leaving: Numbers,
 }
 
-/// One queue. Contracts see its uid, its name, its limits, the rules of its alarms, its clock and its
-/// journal's lines.
+/// One queue. Contracts see its uid, its name, its limits, the rules of its alarms, its clock, its
+/// journal's lines, and its spare: for how many entries more there is room for sure. [`QueueState::reserve`]
+/// makes such room, and each entry takes one place of it, where there is one. A queue that is opened has none.
+///
+/// Where there is room for one entry more, a command wants memory only where it begins a message, is a receive
+/// or hands over a parcel: every other one, and every refusal, is never answered `OutOfMemory`.
 ///
 /// Each command but `FirstParcel` acts at the later of the moment that it is handed and the queue's
 /// clock, which it leaves there; `FirstParcel` leaves the clock as it is. A closed queue answers each
@@ -69,16 +73,17 @@ impl Model for QueueState {
     ghost use Rattle.queue_core.specs.Queue.{QueueHistory};
     ghost use Rattle.queue_core.specs.Kept.{IsKept};
     ghost use Rattle.queue_core.specs.Tally.{Tallies};
-    ghost use Rattle.queue_core.specs.Indexed.{IsIndexOf};
+    ghost use Rattle.queue_core.specs.Indexed.{Keeps};
+    ghost use Rattle.queue_core.specs.Summary.{summary_of};
     ghost use Rattle.queue_core.specs.Accepted.{AreAccepted};
     ghost use Rattle.metric_window.specs.Flows.{minute_of};
     ghost use Rattle.queue_core.specs.Watched.{IsWatchOf};
 
     ghost Value = { QueueHistory };
 
-    ghost view = { λ q. record { uid = q.uid; name = q.name; limits = q.limits; rules = q.rules.items; clock = q.clock; lines = q.journal.lines } };
+    ghost view = { λ q. record { uid = q.uid; name = q.name; limits = q.limits; rules = q.rules.items; clock = q.clock; lines = q.journal.lines; spare = q.journal.spare } };
 
-    ghost invariant = { λ q. IsKept (record { uid = q.uid; name = q.name; limits = q.limits; rules = q.rules.items; clock = q.clock; lines = q.journal.lines }) q.journal.limit × Tallies q.tally q.journal.lines × IsIndexOf q.journal.lines q.clock q.index × AreAccepted q.accepted q.journal.lines × IsWatchOf q.journal.lines (minute_of q.clock) q.rules.items q.watch };
+    ghost invariant = { λ q. IsKept (record { uid = q.uid; name = q.name; limits = q.limits; rules = q.rules.items; clock = q.clock; lines = q.journal.lines; spare = q.journal.spare }) q.journal.limit × Tallies q.tally (summary_of q.journal.lines q.clock) × Keeps q.index (summary_of q.journal.lines q.clock) q.clock × AreAccepted q.accepted (summary_of q.journal.lines q.clock).accepted × IsWatchOf (summary_of q.journal.lines q.clock).rows (summary_of q.journal.lines q.clock).flows (minute_of q.clock) q.rules.items q.watch };
 }
 
 // It does what a derived one does. It is written out since a derived one is gone through part by part in the proof of every
@@ -109,11 +114,11 @@ impl QueueState {
     ghost use Rattle.queue_core.specs.declared.facts.Candidate.{Candidate};
     ghost use Rattle.queue_core.specs.declared.facts.Message.{Message};
     ghost use Rattle.queue_core.specs.Recorded.{IsRecordOf};
-    ghost use Rattle.queue_core.specs.Queue.{QueueHistory, at_moment, is_full, first_refusal, in_flight_count, offer_limit, offered_candidates, leaving_candidates, numbers_of, policy_target, offer_of, offers_of, is_valid_handle, is_latest_handle, holds_in_flight, holds_live, passes_twelve_hours, change_refusal, look_of, outcome_of, outcome_at, IsExact, with_event, after_outcome, after_answer, as_reply};
+    ghost use Rattle.queue_core.specs.Queue.{QueueHistory, has_room, wants_place_alone, at_moment, is_full, first_refusal, in_flight_count, offer_limit, offered_candidates, leaving_candidates, numbers_of, policy_target, offer_of, offers_of, is_valid_handle, is_latest_handle, holds_in_flight, holds_live, passes_twelve_hours, change_refusal, look_of, outcome_of, outcome_at, IsExact, IsExactWithRoom, with_event, after_outcome, after_answer, as_reply};
     ghost use Rattle.queue_core.specs.Ranges.{IsDelay, IsTimeout, IsMaximum};
     ghost use Rattle.queue_core.specs.Legal.{IsLegal, IsCausedIn};
     ghost use Rattle.queue_core.specs.Kept.{opened_queue};
-    ghost use Rattle.queue_core.specs.Run.{AreAnswers, AreExact, after_all};
+    ghost use Rattle.queue_core.specs.Run.{AreAnswers, AreExact, AreExactWithRoom, after_all};
     ghost use Rattle.queue_core.specs.Cost.{most_ticks, most_ticks_of_all};
     ghost use Rattle.queue_core.specs.Spending.{HasCome};
 
@@ -225,11 +230,25 @@ impl QueueState {
     pub fn journal(&self) -> &Journal
         ensures lines { result.now.lines ≡ self.now.lines }
         ensures limit { result.now.limit ≡ self.now.limits.max_lines + 1 }
+        ensures spare { result.now.spare ≡ self.now.spare }
         ensures within { length self.now.lines ≤ max_lines_row.most + 1 }
     {
         // A number that is read tells the proof that it is in range.
         let _most = self.limits.max_lines;
         &self.journal
+    }
+
+    /// Makes room for so many entries in all. Each entry takes one place, that of a send or a receive too. As
+    /// long as a place is left, a change, a delete, a purge, new settings, a confirmation, an orphaning, a
+    /// close and every refusal answer what they answer where memory is ample. `OutOfMemory` is the only refusal, which cannot be where that
+    /// much room is there; the queue is then as it was. The clock stays where it is.
+    pub fn reserve(&mut self, alloc: Global, additional: usize) -> Result<(), Fault>
+        ensures ok { OnOk result (self.new ≡ record self.old { spare = max self.old.spare additional }) }
+        ensures err { OnErr result (self.new ≡ self.old) }
+        ensures errors { IfErr result (λ fault. fault ≡ OutOfMemory) }
+        ensures wants { OnErr result (self.old.spare < additional) }
+    {
+        self.journal.reserve(alloc, additional)
     }
 
     /// The settings in force.
@@ -512,6 +531,7 @@ impl QueueState {
         ensures ok { OnOk result (self.new ≡ with_event self.old event) }
         ensures err { OnErr result (self.new ≡ self.old) }
         ensures errors { IfErr result (λ fault. fault ≡ OutOfMemory) }
+        ensures room { has_room self.old ≡ true → wants_place_alone event ≡ true → result ≡ Ok tt }
         ensures cost { (p : QueueHistory) (before : ℕ) → HasCome before p ticks.old self.old → ticks.new ≤ before + most_ticks p self.new }
     {
         let at = self.clock;
@@ -538,6 +558,7 @@ impl QueueState {
         requires caused { IsCausedIn self.old (Refused fault) }
         requires refusal { fault ≢ OutOfMemory }
         ensures answer { Meets result (Err fault) }
+        ensures room { has_room self.old ≡ true → result ≡ Err fault }
         ensures state { self.new ≡ (if is_out_of_memory result then self.old else with_event self.old (Refused fault)) }
         ensures cost { (p : QueueHistory) (before : ℕ) → HasCome before p ticks.old self.old → ticks.new ≤ before + most_ticks p self.new }
     {
@@ -559,6 +580,7 @@ impl QueueState {
         requires { ForSome delay (λ seconds. IsDelay seconds) }
         ensures answer { Meets (as_reply Reply.Sent result) (outcome_at self.old at (Command.Send content delay)).reply }
         ensures exact { IsExact (outcome_at self.old at (Command.Send content delay)) (as_reply Reply.Sent result) }
+        ensures room { IsExactWithRoom self.old (outcome_at self.old at (Command.Send content delay)) (as_reply Reply.Sent result) }
         ensures state { self.new ≡ after_answer self.old at (Command.Send content delay) result }
         ensures cost { ticks.new ≤ ticks.old + most_ticks self.old self.new }
     {
@@ -578,6 +600,7 @@ impl QueueState {
         requires delay { ForSome delay (λ seconds. IsDelay seconds) }
         ensures answer { Meets (as_reply Reply.Sent result) (outcome_of self.old (Command.Send content delay)).reply }
         ensures exact { IsExact (outcome_of self.old (Command.Send content delay)) (as_reply Reply.Sent result) }
+        ensures room { IsExactWithRoom self.old (outcome_of self.old (Command.Send content delay)) (as_reply Reply.Sent result) }
         ensures state { self.new ≡ after_outcome self.old (outcome_of self.old (Command.Send content delay)) result }
         ensures cost { (p : QueueHistory) (before : ℕ) → HasCome before p ticks.old self.old → ticks.new ≤ before + most_ticks p self.new }
     {
@@ -589,6 +612,31 @@ impl QueueState {
         let delay = self.delay_or_own(delay);
         self.add(alloc, Event::Sent { delay, content }, ticks)?;
         Ok(Posted { number, id })
+    }
+
+    /// The same at a moment, for a content that stays where it is: it is shared, where nothing refuses the message.
+    fn send_shared(
+        &mut self,
+        alloc: Global,
+        at: Moment,
+        content: &Content,
+        delay: Option<u16>,
+        ticks: &mut Ticks,
+    ) -> Result<Posted, Fault>
+        requires { ForSome delay (λ seconds. IsDelay seconds) }
+        ensures answer { Meets (as_reply Reply.Sent result) (outcome_at self.old at (Command.Send content.now delay)).reply }
+        ensures exact { IsExact (outcome_at self.old at (Command.Send content.now delay)) (as_reply Reply.Sent result) }
+        ensures room { IsExactWithRoom self.old (outcome_at self.old at (Command.Send content.now delay)) (as_reply Reply.Sent result) }
+        ensures state { self.new ≡ after_answer self.old at (Command.Send content.now delay) result }
+        ensures cost { ticks.new ≤ ticks.old + most_ticks self.old self.new }
+    {
+        self.begin(at, ticks)?;
+        if self.is_too_large(content) {
+            let fault = Fault::InvalidParameterValue;
+            return self.refuse(alloc, fault, ticks);
+        }
+        let content = content.share()?;
+        self.send_now(alloc, content, delay, ticks)
     }
 
     /// Offers visible messages, the earliest due first and of those due at one time the lower number
@@ -610,6 +658,7 @@ impl QueueState {
         requires timeout { ForSome timeout (λ seconds. IsTimeout seconds) }
         ensures answer { Meets (as_reply Reply.Received result) (outcome_at self.old at (Command.Receive maximum timeout)).reply }
         ensures exact { IsExact (outcome_at self.old at (Command.Receive maximum timeout)) (as_reply Reply.Received result) }
+        ensures room { IsExactWithRoom self.old (outcome_at self.old at (Command.Receive maximum timeout)) (as_reply Reply.Received result) }
         ensures state { self.new ≡ after_answer self.old at (Command.Receive maximum timeout) result }
         ensures cost { ticks.new ≤ ticks.old + most_ticks self.old self.new }
     {
@@ -640,6 +689,7 @@ impl QueueState {
     ) -> Result<Reply, Fault>
         ensures answer { Meets result (outcome_at self.old at (Command.Receive maximum timeout)).reply }
         ensures exact { IsExact (outcome_at self.old at (Command.Receive maximum timeout)) result }
+        ensures room { IsExactWithRoom self.old (outcome_at self.old at (Command.Receive maximum timeout)) result }
         ensures state { self.new ≡ after_answer self.old at (Command.Receive maximum timeout) result }
         ensures cost { ticks.new ≤ ticks.old + most_ticks self.old self.new }
     {
@@ -664,6 +714,7 @@ impl QueueState {
         requires { IsTimeout timeout }
         ensures answer { Meets (as_reply (λ _. Reply.Done) result) (outcome_at self.old at (Command.Change handle timeout)).reply }
         ensures exact { IsExact (outcome_at self.old at (Command.Change handle timeout)) (as_reply (λ _. Reply.Done) result) }
+        ensures room { IsExactWithRoom self.old (outcome_at self.old at (Command.Change handle timeout)) (as_reply (λ _. Reply.Done) result) }
         ensures state { self.new ≡ after_answer self.old at (Command.Change handle timeout) result }
         ensures cost { ticks.new ≤ ticks.old + most_ticks self.old self.new }
     {
@@ -708,6 +759,7 @@ impl QueueState {
     ) -> Result<(), Fault>
         ensures answer { Meets (as_reply (λ _. Reply.Done) result) (outcome_at self.old at (Command.Delete handle)).reply }
         ensures exact { IsExact (outcome_at self.old at (Command.Delete handle)) (as_reply (λ _. Reply.Done) result) }
+        ensures room { IsExactWithRoom self.old (outcome_at self.old at (Command.Delete handle)) (as_reply (λ _. Reply.Done) result) }
         ensures state { self.new ≡ after_answer self.old at (Command.Delete handle) result }
         ensures cost { ticks.new ≤ ticks.old + most_ticks self.old self.new }
     {
@@ -737,6 +789,7 @@ impl QueueState {
     pub fn purge(&mut self, alloc: Global, at: Moment, ticks: &mut Ticks) -> Result<(), Fault>
         ensures answer { Meets (as_reply (λ _. Reply.Done) result) (outcome_at self.old at Command.Purge).reply }
         ensures exact { IsExact (outcome_at self.old at Command.Purge) (as_reply (λ _. Reply.Done) result) }
+        ensures room { IsExactWithRoom self.old (outcome_at self.old at Command.Purge) (as_reply (λ _. Reply.Done) result) }
         ensures state { self.new ≡ after_answer self.old at Command.Purge result }
         ensures cost { ticks.new ≤ ticks.old + most_ticks self.old self.new }
     {
@@ -757,6 +810,7 @@ impl QueueState {
     ) -> Result<(), Fault>
         ensures answer { Meets (as_reply (λ _. Reply.Done) result) (outcome_at self.old at (Command.Set wish.now target)).reply }
         ensures exact { IsExact (outcome_at self.old at (Command.Set wish.now target)) (as_reply (λ _. Reply.Done) result) }
+        ensures room { IsExactWithRoom self.old (outcome_at self.old at (Command.Set wish.now target)) (as_reply (λ _. Reply.Done) result) }
         ensures state { self.new ≡ after_answer self.old at (Command.Set wish.now target) result }
         ensures cost { ticks.new ≤ ticks.old + most_ticks self.old self.new }
     {
@@ -782,6 +836,7 @@ impl QueueState {
     pub fn close(&mut self, alloc: Global, at: Moment, ticks: &mut Ticks) -> Result<(), Fault>
         ensures answer { Meets (as_reply (λ _. Reply.Done) result) (outcome_at self.old at Command.Close).reply }
         ensures exact { IsExact (outcome_at self.old at Command.Close) (as_reply (λ _. Reply.Done) result) }
+        ensures room { IsExactWithRoom self.old (outcome_at self.old at Command.Close) (as_reply (λ _. Reply.Done) result) }
         ensures state { self.new ≡ after_answer self.old at Command.Close result }
         ensures cost { ticks.new ≤ ticks.old + most_ticks self.old self.new }
     {
@@ -834,9 +889,9 @@ impl QueueState {
         self.index.gauges(self.clock)
     }
 
-    /// Does what the call that the command names does. A send and an arrival share the content, where the
-    /// queue is open and its journal has room, and a share that is refused is `OutOfMemory`; an arrival
-    /// that was accepted before shares nothing.
+    /// Does what the call that the command names does. A send and an arrival share the content, and a share
+    /// that is refused is `OutOfMemory`; what the queue refuses, and an arrival that was accepted before,
+    /// shares nothing.
     pub fn perform(
         &mut self,
         alloc: Global,
@@ -846,15 +901,14 @@ impl QueueState {
     ) -> Result<Reply, Fault>
         ensures answer { Meets result (outcome_at self.old at command.now).reply }
         ensures exact { IsExact (outcome_at self.old at command.now) result }
+        ensures room { IsExactWithRoom self.old (outcome_at self.old at command.now) result }
         ensures state { self.new ≡ after_answer self.old at command.now result }
         ensures cost { ticks.new ≤ ticks.old + most_ticks self.old self.new }
     {
         match command {
             Command::Send { content, delay } => {
-                self.begin(at, ticks)?;
-                let content = content.share()?;
                 let delay = delay.map(|delay| delay.seconds());
-                Ok(Reply::Sent(self.send_now(alloc, content, delay, ticks)?))
+                Ok(Reply::Sent(self.send_shared(alloc, at, content, delay, ticks)?))
             }
             Command::Receive { maximum, timeout } => {
                 self.receive_checked(alloc, at, *maximum, *timeout, ticks)
@@ -903,6 +957,7 @@ impl QueueState {
     ) -> Result<Vec<Result<Reply, Fault>>, Fault>
         ensures answers { IfOk result (λ answers. AreAnswers self.old steps.now answers.items) }
         ensures exact { IfOk result (λ answers. AreExact self.old steps.now answers.items) }
+        ensures room { IfOk result (λ answers. AreExactWithRoom self.old steps.now answers.items) }
         ensures state { IfOk result (λ answers. self.new ≡ after_all self.old steps.now answers.items) }
         ensures err { OnErr result (self.new ≡ self.old) }
         ensures errors { IfErr result (λ fault. fault ≡ OutOfMemory) }

@@ -44,6 +44,19 @@ const NINTH: &str =
 1002 close => Done
 ";
 
+/// Room for seven entries, and the calls that take it, none of which begins a message or is a receive.
+const RESERVE: &str = "reserve 7";
+
+const WITH_ROOM: &str = "1002 change 1.1 9 => Done
+1002 change 1.2 9 => ReceiptHandleIsInvalid
+1002 delete 1.1 => Done
+1002 purge => Done
+1002 settle 0 => Settled(true)
+1002 settle 0 => Settled(false)
+1002 orphan 1 => Orphaned(0)
+1002 close => Done
+";
+
 /// What is read of a queue that was opened in the minute 2, before and after a send in the minute 4, and two
 /// minutes later.
 const READINGS: &str = r#"open 99 125000 DelaySeconds 0
@@ -101,5 +114,18 @@ fn refused_memory_for_answers(rt: HostRuntime) -> Result<(), Fail> {
         talk.list(STEPS)?;
     }
     talk.hold(&rt, LOOKED)?;
+    talk.end()
+}
+
+/// Behind `reserve` no entry that wants no more than its place finds no memory. This too is asked twice and
+/// forgiven once, and run with each allocation refused.
+#[test]
+fn refused_memory_with_room(rt: HostRuntime) -> Result<(), Fail> {
+    let mut talk = Talk::new(&rt)?;
+    for _ in 0..2 {
+        talk.hold(&rt, FIRST)?;
+        talk.hold(&rt, RESERVE)?;
+        talk.hold_with_room(&rt, WITH_ROOM)?;
+    }
     talk.end()
 }

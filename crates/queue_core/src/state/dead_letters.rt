@@ -33,7 +33,7 @@ impl QueueState {
     ghost use Rattle.queue_core.specs.Spending.{HasCome};
     ghost use Rattle.queue_core.specs.declared.facts.Message.{Message};
     ghost use Rattle.queue_core.specs.Recorded.{IsRecordOf};
-    ghost use Rattle.queue_core.specs.Queue.{QueueHistory, first_refusal, outcome_of, outcome_at, IsExact, after_outcome, after_answer, as_reply, is_pending, waiting_count, origin_of, first_transfer, first_parcel_of};
+    ghost use Rattle.queue_core.specs.Queue.{QueueHistory, first_refusal, outcome_of, outcome_at, reply_without_memory, IsExact, IsExactWithRoom, after_outcome, after_answer, as_reply, is_pending, waiting_count, origin_of, first_transfer, first_parcel_of};
 
     /// Accepts a dead letter of another queue. It comes now, and keeps its id and the time at which it
     /// was first sent; it was received 0 times here. A transfer that this queue has accepted before is
@@ -48,6 +48,7 @@ impl QueueState {
     ) -> Result<Arrival, Fault>
         ensures answer { Meets (as_reply Reply.Arrived result) (outcome_at self.old at (Command.Arrive parcel)).reply }
         ensures exact { IsExact (outcome_at self.old at (Command.Arrive parcel)) (as_reply Reply.Arrived result) }
+        ensures room { IsExactWithRoom self.old (outcome_at self.old at (Command.Arrive parcel)) (as_reply Reply.Arrived result) }
         ensures state { self.new ≡ after_answer self.old at (Command.Arrive parcel) result }
         ensures cost { ticks.new ≤ ticks.old + most_ticks self.old self.new }
     {
@@ -65,6 +66,7 @@ impl QueueState {
         requires new { has_accepted self.old.lines parcel.origin.uid parcel.origin.number ≡ false }
         ensures answer { Meets (as_reply Reply.Arrived result) (outcome_of self.old (Command.Arrive parcel)).reply }
         ensures exact { IsExact (outcome_of self.old (Command.Arrive parcel)) (as_reply Reply.Arrived result) }
+        ensures room { IsExactWithRoom self.old (outcome_of self.old (Command.Arrive parcel)) (as_reply Reply.Arrived result) }
         ensures state { self.new ≡ after_outcome self.old (outcome_of self.old (Command.Arrive parcel)) result }
         ensures cost { (p : QueueHistory) (before : ℕ) → HasCome before p ticks.old self.old → ticks.new ≤ before + most_ticks p self.new }
     {
@@ -87,6 +89,7 @@ impl QueueState {
     ) -> Result<Arrival, Fault>
         ensures answer { Meets (as_reply Reply.Arrived result) (outcome_at self.old at (Command.Arrive parcel.now)).reply }
         ensures exact { IsExact (outcome_at self.old at (Command.Arrive parcel.now)) (as_reply Reply.Arrived result) }
+        ensures room { IsExactWithRoom self.old (outcome_at self.old at (Command.Arrive parcel.now)) (as_reply Reply.Arrived result) }
         ensures state { self.new ≡ after_answer self.old at (Command.Arrive parcel.now) result }
         ensures cost { ticks.new ≤ ticks.old + most_ticks self.old self.new }
     {
@@ -102,6 +105,22 @@ impl QueueState {
         self.accept(alloc, parcel, ticks)
     }
 
+    /// What a parcel from this origin is answered, at whatever moment it comes, where that adds no entry:
+    /// what refuses it, or `Again`. It is none where the parcel is one to accept. So whoever has the parcel
+    /// still to make, which takes memory, can know before whether this queue has an entry to add for it.
+    pub fn arrival_answer(&self, origin: &Origin) -> Option<Result<Arrival, Fault>>
+        ensures { (parcel : Parcel) (at : ℕ) → parcel.origin ≡ origin.now
+            → option_map (λ answer. as_reply Reply.Arrived answer) result ≡ reply_without_memory (outcome_at self.now at (Command.Arrive parcel)) }
+    {
+        if let Some(fault) = self.first_refusal() {
+            return Some(Err(fault));
+        }
+        if self.has_accepted(origin) {
+            return Some(Ok(Arrival::Again));
+        }
+        None
+    }
+
     /// Confirms that the dead-letter queue has accepted the message of a number. The answer is whether
     /// it waited for that; where it did not, nothing is added. A full journal answers `JournalFull`; with
     /// `OutOfMemory` only the clock has moved.
@@ -114,6 +133,7 @@ impl QueueState {
     ) -> Result<bool, Fault>
         ensures answer { Meets (as_reply Reply.Settled result) (outcome_at self.old at (Command.Settle number)).reply }
         ensures exact { IsExact (outcome_at self.old at (Command.Settle number)) (as_reply Reply.Settled result) }
+        ensures room { IsExactWithRoom self.old (outcome_at self.old at (Command.Settle number)) (as_reply Reply.Settled result) }
         ensures state { self.new ≡ after_answer self.old at (Command.Settle number) result }
         ensures cost { ticks.new ≤ ticks.old + most_ticks self.old self.new }
     {
@@ -139,6 +159,7 @@ impl QueueState {
     ) -> Result<u64, Fault>
         ensures answer { Meets (as_reply Reply.Orphaned result) (outcome_at self.old at (Command.Orphan target)).reply }
         ensures exact { IsExact (outcome_at self.old at (Command.Orphan target)) (as_reply Reply.Orphaned result) }
+        ensures room { IsExactWithRoom self.old (outcome_at self.old at (Command.Orphan target)) (as_reply Reply.Orphaned result) }
         ensures state { self.new ≡ after_answer self.old at (Command.Orphan target) result }
         ensures cost { ticks.new ≤ ticks.old + most_ticks self.old self.new }
     {

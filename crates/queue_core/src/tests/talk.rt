@@ -416,7 +416,7 @@ impl Talk {
 
     /// Tells what is read: the `span` of the minutes and how many rows; how many rows are of `zeros`; the `state` of
     /// the alarm at a place, and all states; the `line` at a place, and the `marks` from there on, with the operations counted; of a dead letter that `arrives`
-    /// whether it was known. It may `advance` the clock or `open` another queue. Any other reading takes no memory.
+    /// whether it was known. It may `advance` the clock, `reserve` room for so many entries or `open` another queue. Any other reading takes no memory.
     fn read(&mut self, call: &str) -> Result<(), Fault> {
         let (word, rest) = first_word(call);
         let (at, alloc) = (number(rest) as usize, self.alloc);
@@ -437,6 +437,7 @@ impl Talk {
                 queue.advance(known_moment(rest)?, &mut self.ticks);
                 Ok(())
             }
+            "reserve" => queue.reserve(alloc, at),
             "arrives" => self.arrive(rest),
             "open" => self.reopen(rest),
             _ => tell_reading(text, queue, call),
@@ -472,6 +473,16 @@ impl Talk {
             same(line, self.text.as_str(), wanted)?;
         }
         Ok(())
+    }
+
+    /// The same, where no call may find no memory.
+    pub(super) fn hold_with_room(&mut self, rt: &HostRuntime, text: &str) -> Result<(), Fail> {
+        let before = self.refused;
+        self.hold(rt, text)?;
+        if self.refused == before {
+            return Ok(());
+        }
+        Err(Fail::new("a call found no memory where there was room"))
     }
 
     /// A failure where more than one call found no memory.

@@ -9,10 +9,11 @@ use Rattle.queue_core.specs.Legal.{IsCausedIn}
 use Rattle.queue_core.specs.Kept.{IsKept}
 use Rattle.queue_core.specs.Tally.{births, Tallies}
 use Rattle.queue_core.specs.Indexed.{IsIndexOf}
-use Rattle.queue_core.specs.Accepted.{AreAccepted}
+use Rattle.queue_core.specs.Accepted.{accepted_keys, AreAccepted}
+use Rattle.queue_core.specs.Summary.{summary_of}
 use Rattle.metric_window.specs.Flows.{minute_of}
-use Rattle.queue_core.specs.Watched.{IsWatchOf}
-use Rattle.queue_core.proofs.LegalLemmas.{place-left, IsKept-pushed}
+use Rattle.queue_core.specs.Watched.{IsWatchAt}
+use Rattle.queue_core.proofs.LegalLemmas.{place-left, kept-spare, IsKept-pushed}
 use Rattle.queue_core.proofs.TallyLemmas.{tallies-push, GoesOn}
 use Rattle.queue_core.proofs.IndexLemmas.{same-index, few_born, few-more, can_apply, event-index}
 use Rattle.queue_core.proofs.WatchLemmas.{watch-pushed}
@@ -55,7 +56,8 @@ invariant_of-self-in_err-reserve c =
     let limit = ap (λ (j : Lines). j.limit) c.reserve.ensures.lines in
     let index = same-index c.self.inside.journal.lines c.self.inside.clock c.self.inside.index c.self.invariant.2 c.make_room.new.self c.make_room.ensures.same c.make_room.ensures.indexed in
     let accepted = accepted-same c.self.inside.journal.lines c.self.inside.accepted c.make_place.new.self c.self.invariant.3 c.make_place.ensures.same in
-    rw (lines, limit) (c.self.invariant.0, c.self.invariant.1, index, accepted, c.self.invariant.4)
+    let q : QueueHistory = record { uid = c.self.inside.uid; name = c.self.inside.name; limits = c.self.inside.limits; rules = c.self.inside.rules.items; clock = c.self.inside.clock; lines = c.self.inside.journal.lines; spare = c.self.inside.journal.spare } in
+    rw (lines, limit) (kept-spare q c.self.inside.journal.limit c.reserve.new.self.spare c.self.invariant.0, c.self.invariant.1, index, accepted, c.self.invariant.4)
 
 -- ---- the event
 
@@ -68,7 +70,7 @@ apply-requires-clause-few c =
 
 pub apply-requires-clause-about : goal.apply-requires-clause-about
 apply-requires-clause-about c =
-    let q : QueueHistory = record { uid = c.self.inside.uid; name = c.self.inside.name; limits = c.self.inside.limits; rules = c.self.inside.rules.items; clock = c.self.inside.clock; lines = c.self.inside.journal.lines } in
+    let q : QueueHistory = record { uid = c.self.inside.uid; name = c.self.inside.name; limits = c.self.inside.limits; rules = c.self.inside.rules.items; clock = c.self.inside.clock; lines = c.self.inside.journal.lines; spare = c.self.inside.journal.spare } in
     let caused = subst (λ (q : QueueHistory). IsCausedIn q c.args.event) (sym c.self.view_is) c.requires in
     let index = same-index q.lines q.clock c.self.inside.index c.self.invariant.2 c.make_room.new.self c.make_room.ensures.same c.make_room.ensures.indexed in
     let lines = ap (λ (q : QueueHistory). length q.lines) c.self.view_is in
@@ -77,7 +79,7 @@ apply-requires-clause-about c =
 -- a transfer that the event brings was not accepted before
 pub note-requires-clause-first : goal.note-requires-clause-first
 note-requires-clause-first c =
-    let q : QueueHistory = record { uid = c.self.inside.uid; name = c.self.inside.name; limits = c.self.inside.limits; rules = c.self.inside.rules.items; clock = c.self.inside.clock; lines = c.self.inside.journal.lines } in
+    let q : QueueHistory = record { uid = c.self.inside.uid; name = c.self.inside.name; limits = c.self.inside.limits; rules = c.self.inside.rules.items; clock = c.self.inside.clock; lines = c.self.inside.journal.lines; spare = c.self.inside.journal.spare } in
     let caused = subst (λ (q : QueueHistory). IsCausedIn q c.args.event) (sym c.self.view_is) c.requires in
     unheld-caused q c.args.event c.make_place.new.self caused (accepted-same q.lines c.self.inside.accepted c.make_place.new.self c.self.invariant.3 c.make_place.ensures.same)
 
@@ -91,7 +93,7 @@ settle-requires-clause-few c =
 
 pub invariant_of-self-2 : goal.invariant_of-self-2
 invariant_of-self-2 c =
-    let q : QueueHistory = record { uid = c.self.inside.uid; name = c.self.inside.name; limits = c.self.inside.limits; rules = c.self.inside.rules.items; clock = c.self.inside.clock; lines = c.self.inside.journal.lines } in
+    let q : QueueHistory = record { uid = c.self.inside.uid; name = c.self.inside.name; limits = c.self.inside.limits; rules = c.self.inside.rules.items; clock = c.self.inside.clock; lines = c.self.inside.journal.lines; spare = c.self.inside.journal.spare } in
     let entry : Entry ContentText = record { at = q.clock; event = c.args.event } in
     let caused = subst (λ (q : QueueHistory). IsCausedIn q c.args.event) (sym c.self.view_is) c.requires in
     let index = same-index q.lines q.clock c.self.inside.index c.self.invariant.2 c.make_room.new.self c.make_room.ensures.same c.make_room.ensures.indexed in
@@ -108,7 +110,7 @@ invariant_of-self-2 c =
       closed = c.after-tally.ensures.closed;
       messages = c.after-tally.ensures.messages ∙ ap (λ n. n + births c.args.event) (c.messages_so_far.ensures.count ∙ sym (ap (λ (q : QueueHistory). message_count q.lines) c.self.view_is));
     } in
-    let tallies = tallies-push q q.lines entry c.self.inside.tally c.after-tally.result c.self.invariant.0.legal.caused c.self.invariant.1 goes in
+    let tallies = tallies-push q q.lines q.clock entry c.self.inside.tally c.after-tally.result c.self.invariant.0.legal.caused c.self.invariant.1 goes in
     let watch : Watch = record { window = c.count.new.self; alarms = c.self.inside.watch.alarms } in
     let behind =
     event-index q c.args.event c.self.inside.tally.settings _ c.make_room.new.self c.apply.new.self c.settle.new.self c.self.invariant.0.legal caused index c.self.invariant.1.settings
@@ -116,17 +118,17 @@ invariant_of-self-2 c =
     (ap (λ t. t.settings.retention_seconds) c.tally.view_is ∙ ap (λ s. s.retention_seconds) tallies.settings)
     (record { indices = c.settle.ensures.indices; records = c.settle.ensures.records; receives = c.settle.ensures.receives; leaving = c.settle.ensures.leaving }) in (
       kept,
-      subst (λ lines. Tallies c.after-tally.result lines) (sym lines) tallies,
+      subst (λ lines. Tallies c.after-tally.result (summary_of lines q.clock)) (sym lines) tallies,
       subst (λ lines. IsIndexOf lines q.clock c.settle.new.self) (sym lines) behind,
-      subst (λ lines. AreAccepted c.note.new.self lines) (sym lines)
+      subst (λ lines. AreAccepted c.note.new.self (accepted_keys lines)) (sym lines)
           (accepted-noted q.lines entry c.self.inside.accepted c.make_place.new.self c.note.new.self c.self.invariant.3 c.make_place.ensures.same c.note.ensures),
-      subst (λ lines. IsWatchOf lines (minute_of q.clock) q.rules watch) (sym lines)
+      subst (λ lines. IsWatchAt lines (minute_of q.clock) q.rules watch) (sym lines)
           (watch-pushed q c.args.event c.self.invariant.0.legal q.rules c.self.inside.watch watch c.self.invariant.4 c.count.ensures refl),
     )
 
 pub push_reserved-requires-clause-place : goal.push_reserved-requires-clause-place
 push_reserved-requires-clause-place c =
-    let q : QueueHistory = record { uid = c.self.inside.uid; name = c.self.inside.name; limits = c.self.inside.limits; rules = c.self.inside.rules.items; clock = c.self.inside.clock; lines = c.self.inside.journal.lines } in
+    let q : QueueHistory = record { uid = c.self.inside.uid; name = c.self.inside.name; limits = c.self.inside.limits; rules = c.self.inside.rules.items; clock = c.self.inside.clock; lines = c.self.inside.journal.lines; spare = c.self.inside.journal.spare } in
     let caused = subst (λ (q : QueueHistory). IsCausedIn q c.args.event) (sym c.self.view_is) c.requires in
     let place = place-left q c.self.inside.journal.limit c.args.event c.self.invariant.0 caused in
     let lines = ap (λ (j : Lines). length j.lines) c.reserve.ensures.lines in
@@ -153,7 +155,7 @@ returns-in_err-reserve-clause-cost c =
 pub returns-clause-cost : goal.returns-clause-cost
 returns-clause-cost c =
     λ p before come.
-    let q : QueueHistory = record { uid = c.self.inside.uid; name = c.self.inside.name; limits = c.self.inside.limits; rules = c.self.inside.rules.items; clock = c.self.inside.clock; lines = c.self.inside.journal.lines } in
+    let q : QueueHistory = record { uid = c.self.inside.uid; name = c.self.inside.name; limits = c.self.inside.limits; rules = c.self.inside.rules.items; clock = c.self.inside.clock; lines = c.self.inside.journal.lines; spare = c.self.inside.journal.spare } in
     let entry : Entry ContentText = record { at = q.clock; event = c.args.event } in
     let caused = subst (λ (q : QueueHistory). IsCausedIn q c.args.event) (sym c.self.view_is) c.requires in
     let index = same-index q.lines q.clock c.self.inside.index c.self.invariant.2 c.make_room.new.self c.make_room.ensures.same c.make_room.ensures.indexed in
@@ -167,7 +169,7 @@ returns-clause-cost c =
       closed = c.after-tally.ensures.closed;
       messages = c.after-tally.ensures.messages ∙ ap (λ n. n + births c.args.event) (c.messages_so_far.ensures.count ∙ sym (ap (λ (q : QueueHistory). message_count q.lines) c.self.view_is));
     } in
-    let tallies = tallies-push q q.lines entry c.self.inside.tally c.after-tally.result c.self.invariant.0.legal.caused c.self.invariant.1 goes in
+    let tallies = tallies-push q q.lines q.clock entry c.self.inside.tally c.after-tally.result c.self.invariant.0.legal.caused c.self.invariant.1 goes in
     let behind =
     event-index q c.args.event c.self.inside.tally.settings _ c.make_room.new.self c.apply.new.self c.settle.new.self c.self.invariant.0.legal caused index c.self.invariant.1.settings
     (record { indexed = c.apply.ensures.indexed; records = c.apply.ensures.records; receives = c.apply.ensures.receives; leaving = c.apply.ensures.leaving })

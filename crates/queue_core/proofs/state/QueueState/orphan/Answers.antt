@@ -8,3 +8,6 @@ add-requires c = record { command = commands.Orphan c.args.target; allowed = tt;
 
 pub returns-clause-answer : goal.returns-clause-answer
 returns-clause-answer c = answer-orphaned c.begin.new.self c.in_ok-begin.ensures.ok (at_moment c.args.self.now c.args.at) c.args.target c.waiting_count-count.result c.begin.ensures.state c.waiting_count-count.ensures
+
+pub returns-clause-room : goal.returns-clause-room
+returns-clause-room c = λ room alone. answer-orphaned c.begin.new.self c.in_ok-begin.ensures.ok (at_moment c.args.self.now c.args.at) c.args.target c.waiting_count-count.result c.begin.ensures.state c.waiting_count-count.ensures

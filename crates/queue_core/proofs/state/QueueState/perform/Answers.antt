@@ -12,3 +12,9 @@ returns-in-Receive-clause-answer c = rw c.in-Receive.is c.receive_checked.ensure
 
 pub returns-in-Receive-clause-state : goal.returns-in-Receive-clause-state
 returns-in-Receive-clause-state c = rw c.in-Receive.is c.receive_checked.ensures.state
+
+pub returns-in-Receive-clause-room : goal.returns-in-Receive-clause-room
+returns-in-Receive-clause-room c = rw c.in-Receive.is c.receive_checked.ensures.room
+
+pub returns-in-Look-clause-room : goal.returns-in-Look-clause-room
+returns-in-Look-clause-room c = λ room alone. rw (c.in-Look.is, c.look.ensures.answer) refl

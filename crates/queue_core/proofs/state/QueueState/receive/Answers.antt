@@ -2,7 +2,7 @@ use Rattle.std.proofs.Common.{refl, sym, ◌∙◌}
 use Rattle.queue_core.specs.declared.command.Command.TheVariants as commands
 use Rattle.journal.specs.declared.entry.Event.TheVariants.{Received}
 use Rattle.queue_core.specs.Queue.{at_moment}
-use Rattle.queue_core.proofs.LegalLemmas.{event-over_limit, event-received, answer-received, state-received}
+use Rattle.queue_core.proofs.LegalLemmas.{event-over_limit, event-received, answer-received, state-received, more-received}
 use Rattle.queue_core.proofs.state.QueueState.receive.Goals as goal
 
 pub refuse-requires-clause-caused : goal.refuse-requires-clause-caused
@@ -33,3 +33,23 @@ returns-clause-state c =
     (sym c.is_at_in_flight_limit.ensures ∙ c.if-is_at_in_flight_limit.false)
     (rw (c.timeout_or_own.ensures, c.in_ok-scan.ensures.offered, c.in_ok-scan.ensures.leaving, c.policy_target.ensures) refl)
     c.in_ok-add.ensures.ok
+
+pub returns-in_err-scan-clause-room : goal.returns-in_err-scan-clause-room
+returns-in_err-scan-clause-room c = λ room alone.
+    more-received c.begin.new.self c.in_ok-begin.ensures.ok (at_moment c.args.self.now c.args.at) c.args.maximum c.args.timeout c.begin.ensures.state
+    (sym c.is_at_in_flight_limit.ensures ∙ c.if-is_at_in_flight_limit.false) alone
+
+pub returns-in_err-offers-clause-room : goal.returns-in_err-offers-clause-room
+returns-in_err-offers-clause-room c = λ room alone.
+    more-received c.begin.new.self c.in_ok-begin.ensures.ok (at_moment c.args.self.now c.args.at) c.args.maximum c.args.timeout c.begin.ensures.state
+    (sym c.is_at_in_flight_limit.ensures ∙ c.if-is_at_in_flight_limit.false) alone
+
+pub returns-in_err-add-clause-room : goal.returns-in_err-add-clause-room
+returns-in_err-add-clause-room c = λ room alone.
+    more-received c.begin.new.self c.in_ok-begin.ensures.ok (at_moment c.args.self.now c.args.at) c.args.maximum c.args.timeout c.begin.ensures.state
+    (sym c.is_at_in_flight_limit.ensures ∙ c.if-is_at_in_flight_limit.false) alone
+
+pub returns-clause-room : goal.returns-clause-room
+returns-clause-room c = λ room alone.
+    more-received c.begin.new.self c.in_ok-begin.ensures.ok (at_moment c.args.self.now c.args.at) c.args.maximum c.args.timeout c.begin.ensures.state
+    (sym c.is_at_in_flight_limit.ensures ∙ c.if-is_at_in_flight_limit.false) alone
