@@ -1,15 +1,15 @@
 -- One step of going through a journal for its messages, and for what became of one.
-use Rattle.std.proofs.Common.{◌≡◌, ℕ, zero, suc, ◌+◌, ◌*◌, Bool, true, false, cond, ◌&&◌, ◌||◌, List, [], ◌∷◌, drop, Option, Some, None, refl, sym, ap, ◌∙◌, arith, add-one}
-use Rattle.std.specs.Prelude.{slice_get, count_by, option_map}
-use Rattle.std.specs.Option.{option_map_or}
+use Rattle.std.proofs.Common.{◌≡◌, ℕ, zero, suc, ◌+◌, Bool, true, false, cond, ◌&&◌, ◌||◌, List, [], ◌∷◌, ◌++◌, length, drop, Some, refl, sym, ap, ◌∙◌, arith, add-one}
+use Rattle.std.specs.Prelude.{slice_get, count_by}
 use Rattle.std.proofs.lemmas.List.Sums.{sum_by-cons}
 use Rattle.std.specs.List.{list_any}
 use Rattle.queue_config.specs.Settings.{QueueSettings}
 use Rattle.journal.specs.declared.entry.Entry.{Entry}
 use Rattle.queue_core.specs.declared.facts.Message.{Message}
 use Rattle.queue_core.specs.declared.facts.Course.{Course}
-use Rattle.queue_core.specs.Messages.{Birth, effect_of, message_of, messages_from, settings_after, RetentionPeriod, closes_period, periods_from, course_after, course_from}
-use Rattle.queue_core.proofs.Scans.{by_closing}
+use Rattle.queue_core.specs.Messages.{Birth, effect_of, message_in, messages_in, messages_from, settings_after, RetentionPeriod, closes_period, periods_from, course_after, course_from}
+use Rattle.queue_core.specs.Tally.{births}
+use Rattle.queue_core.proofs.Scans.{by_closing, length-messages_in}
 
 pub drop_entry : {X : Type 0} (xs : List X) (i : ℕ) (x : X) → slice_get xs i ≡ Some x → drop i xs ≡ x ∷ drop (i + 1) xs
 drop_entry [] i x h = absurd cc
@@ -17,13 +17,23 @@ drop_entry (y ∷ xs) zero x h = ap (λ z. z ∷ xs) (let e : y ≡ x = cc in e)
 drop_entry (y ∷ xs) (suc i) x h = rw add-one (rw add-one at (drop_entry xs i x h))
 
 module _ {C : Type 0} (lines : List (Entry C)) (place : ℕ) (e : Entry C) (at : slice_get lines place ≡ Some e) where
-  pub messages_from-some : (number : ℕ) (m : Message) → message_of place number e.at e.event ≡ Some m
-      → messages_from place number (drop place lines) ≡ m ∷ messages_from (place + 1) (number + 1) (drop (place + 1) lines)
-  messages_from-some number m is = rw (drop_entry lines place e at, is) (simp add-one)
+  messages_from-entry : (number count : ℕ) (ms : List Message) → ms ≡ messages_in place number e.at (effect_of e.event).births → count ≡ length ms
+      → messages_from place number (drop place lines) ≡ ms ++ messages_from (place + 1) (number + count) (drop (place + 1) lines)
+  messages_from-entry number count ms is long =
+      let next : number + births e.event ≡ number + count = let begun = ap (λ (xs : List Message). length xs) is in omega (arith, length-messages_in place number e.at (effect_of e.event).births) in
+      rw (drop_entry lines place e at)
+      (ap (λ (xs : List Message). xs ++ messages_from (suc place) (number + births e.event) (drop (place + 1) lines)) (sym is)
+      ∙ (ap (λ (n : ℕ). ms ++ messages_from (suc place) n (drop (place + 1) lines)) next ∙ ap (λ (i : ℕ). ms ++ messages_from i (number + count) (drop (place + 1) lines)) (sym (add-one place))))
 
-  pub messages_from-none : (number : ℕ) → message_of place number e.at e.event ≡ None
+  pub messages_from-some : (number : ℕ) (m : Message) → m ∷ [] ≡ messages_in place number e.at (effect_of e.event).births
+      → messages_from place number (drop place lines) ≡ m ∷ messages_from (place + 1) (number + 1) (drop (place + 1) lines)
+  messages_from-some number m is = messages_from-entry number 1 (m ∷ []) is refl
+
+  pub messages_from-none : (number : ℕ) → [] ≡ messages_in place number e.at (effect_of e.event).births
       → messages_from place number (drop place lines) ≡ messages_from (place + 1) number (drop (place + 1) lines)
-  messages_from-none number is = rw (drop_entry lines place e at, is) (simp add-one)
+  messages_from-none number is =
+      let same : number + 0 ≡ number = omega arith in
+      messages_from-entry number 0 [] is refl ∙ ap (λ (n : ℕ). messages_from (place + 1) n (drop (place + 1) lines)) same
 
   -- the first period that an entry closes, if any, and those after it
   pub list_any-periods_from : (p : RetentionPeriod → Bool) (s : QueueSettings) (clock : ℕ) → list_any p (periods_from place s clock (drop place lines))
@@ -55,13 +65,12 @@ module _ {C : Type 0} (lines : List (Entry C)) (place : ℕ) (e : Entry C) (at :
 -- ---- messages
 
 -- a message's place is that of its entry
-pub place-message_of : {C : Type 0} (place number at : ℕ) (birth : Option (Birth C)) (m : Message)
-    → option_map (λ b. record { number = number; place = place; enqueue_time = at; first_send_time = option_map_or (λ o. o.sent) b.origin at; first_due_time = at + 1000 * b.delay; origin = b.origin }) birth ≡ Some m → m.place ≡ place
-place-message_of place number at None m h = absurd cc
-place-message_of place number at (Some b) m h = cc
+place-messages_in : {C : Type 0} (place number at : ℕ) (bs : List (Birth C)) (m : Message) → m ∷ [] ≡ messages_in place number at bs → m.place ≡ place
+place-messages_in place number at [] m h = absurd cc
+place-messages_in place number at (b ∷ bs) m h = let same : m ≡ message_in place number at b = cc in ap (λ (x : Message). x.place) same
 
-pub messages_from-first : {C : Type 0} (lines : List (Entry C)) (place number : ℕ) (e : Entry C) (m : Message) → slice_get lines place ≡ Some e → message_of place number e.at e.event ≡ Some m
+pub messages_from-first : {C : Type 0} (lines : List (Entry C)) (place number : ℕ) (e : Entry C) (m : Message) → slice_get lines place ≡ Some e → m ∷ [] ≡ messages_in place number e.at (effect_of e.event).births
     → messages_from place number (drop place lines) ≡ m ∷ messages_from (m.place + 1) (number + 1) (drop (m.place + 1) lines)
 messages_from-first lines place number e m at is =
     messages_from-some lines place e at number m is
-    ∙ ap (λ (i : ℕ). m ∷ messages_from (i + 1) (number + 1) (drop (i + 1) lines)) (sym (place-message_of place number e.at (effect_of e.event).birth m is))
+    ∙ ap (λ (i : ℕ). m ∷ messages_from (i + 1) (number + 1) (drop (i + 1) lines)) (sym (place-messages_in place number e.at (effect_of e.event).births m is))

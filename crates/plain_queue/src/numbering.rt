@@ -1,17 +1,17 @@
 //! The messages of a journal, numbered in the order of their entries.
 
-ghost use Rattle.std.specs.Prelude.{◌≡◌, ◌+◌, ◌-◌, ◌^◌, ◌<◌, ◌≤◌, [], ◌∷◌, drop, length, slice_get, Some, IfSome, IfNone};
+ghost use Rattle.std.specs.Prelude.{◌≡◌, ◌+◌, ◌-◌, ◌^◌, ◌<◌, ◌≤◌, [], ◌∷◌, drop, length, slice_get, Some, IfSome, IfNone, option_to_list};
 ghost use Rattle.std.specs.Iterator.{YieldsFirst, item_count};
-ghost use Rattle.queue_core.specs.Messages.{message_of, messages_from, messages};
+ghost use Rattle.queue_core.specs.Messages.{effect_of, messages_in, messages_from, messages};
 
 use crate::entries::{Entries, line_at};
 use journal::{Event, Line};
 use queue_core::facts::Message;
 use std::marker::Model;
 
-/// The message that a line begins, if it begins one.
+/// The message that a line begins, if it begins one. None begins more than one.
 fn message_of(line: &Line, place: usize, number: u64) -> Option<Message>
-    ensures { result ≡ message_of place number line.now.at line.now.event }
+    ensures { option_to_list result ≡ messages_in place number line.now.at (effect_of line.now.event).births }
 {
     match &line.event {
         Event::Sent { delay, .. } => Some(Message {

@@ -1,9 +1,9 @@
 //! What a journal says of a queue and of its messages. A function that computes a definition of `queue_core` has
 //! its name.
 
-ghost use Rattle.std.specs.Prelude.{◌≡◌, if◌then◌else◌};
+ghost use Rattle.std.specs.Prelude.{◌≡◌, if◌then◌else◌, option_to_list};
 ghost use Rattle.std.specs.Option.{option_copied};
-ghost use Rattle.queue_core.specs.Messages.{messages, content_of, message_count, settings_of, settings_after, created_time, modified_time, gives_settings, opens, offers_number, first_receive_time, last_receive_time, course_of, waits_for, awaits_transfer, closes, is_closed};
+ghost use Rattle.queue_core.specs.Messages.{messages, contents_in, content_of, message_count, settings_of, settings_after, created_time, modified_time, gives_settings, opens, offers_number, first_receive_time, last_receive_time, course_of, waits_for, awaits_transfer, closes, is_closed};
 ghost use Rattle.queue_core.specs.declared.facts.Status.TheVariants.{Waiting};
 ghost use Rattle.queue_core.specs.States.{message_numbered};
 
@@ -30,14 +30,30 @@ pub fn message_numbered(lines: &Entries<'_>, number: u64) -> Option<Message>
     Messages::of(lines).nth(number as usize)
 }
 
-/// The content of a message.
-pub fn content_of<'a>(lines: &Entries<'a>, message: &Message) -> Option<&'a Content>
-    ensures { option_copied result ≡ content_of lines.now message.now }
+/// The content that a line brings, if it begins a message. None begins more than one.
+fn content_in(line: &Line) -> Option<&Content>
+    ensures { option_to_list (option_copied result) ≡ contents_in line.now.event }
 {
-    match &lines.get(message.place)?.event {
+    match &line.event {
         Event::Sent { content, .. } | Event::Arrived { content, .. } => Some(content),
         _ => None,
     }
+}
+
+/// The content of a message, which is the one of its number.
+pub fn content_of<'a>(lines: &Entries<'a>, message: &Message) -> Option<&'a Content>
+    ensures { option_copied result ≡ content_of lines.now message.now }
+{
+    let mut before = message.number;
+    for place in 0..lines.len() {
+        if let Some(content) = content_in(line_at(lines, place)) {
+            if before == 0 {
+                return Some(content);
+            }
+            before -= 1;
+        }
+    }
+    None
 }
 
 /// The settings in force.
