@@ -56,6 +56,28 @@ module _ {X K : Type 0} (e : K → K → Bool) (key : X → K) where
   IsDistinct-filter p [] h = tt
   IsDistinct-filter p (x ∷ xs) h = distinct-if (p x) x (filter p xs) (differ-filter (key x) p xs h.0) (IsDistinct-filter p xs h.1)
 
+  differ-found : (k : K) (p : X → Bool) (xs : List X) (y : X) → AllByRecursion (λ l. e k l ≡ false) (map key xs) → find p xs ≡ Some y → e k (key y) ≡ false
+  differ-found k p [] y h is = absurd (none-some y is)
+  differ-found k p (x ∷ xs) y h is = differ-cond k (p x) x y (find p xs) h.0 (λ e. differ-found k p xs y h.1 e) is
+    where
+      differ-cond : (k : K) (b : Bool) (x y : X) (rest : Option X) → e k (key x) ≡ false → (rest ≡ Some y → e k (key y) ≡ false) → cond b (Some x) rest ≡ Some y → e k (key y) ≡ false
+      differ-cond k true x y rest h next is = subst (λ (z : X). e k (key z) ≡ false) (same_Some x y is) h
+      differ-cond k false x y rest h next is = next is
+
+  unique-cond : (b : Bool) (x y : X) (xs : List X) (rest : Option X) → e (key y) (key y) ≡ true → (rest ≡ Some y → (e (key x) (key y) ≡ false) × (find (λ z. e (key z) (key y)) xs ≡ Some y))
+      → cond b (Some x) rest ≡ Some y → find (λ z. e (key z) (key y)) (x ∷ xs) ≡ Some y
+  unique-cond true x y xs rest itself next is =
+      let same : x ≡ y = same_Some x y is in
+      ap (λ b. cond b (Some x) (find (λ z. e (key z) (key y)) xs)) (subst (λ (z : X). e (key z) (key y) ≡ true) (sym same) itself) ∙ ap Some same
+  unique-cond false x y xs rest itself next is = let h = next is in ap (λ b. cond b (Some x) (find (λ z. e (key z) (key y)) xs)) h.0 ∙ h.1
+
+  -- what is found by another test is found by its key
+  pub find-unique : (p : X → Bool) (xs : List X) (y : X) → IsDistinct e (map key xs) → e (key y) (key y) ≡ true → find p xs ≡ Some y → find (λ x. e (key x) (key y)) xs ≡ Some y
+  unfolding IsDistinct
+  find-unique p [] y h itself is = absurd (none-some y is)
+  find-unique p (x ∷ xs) y h itself is =
+      unique-cond (p x) x y xs (find p xs) itself (λ e. (differ-found (key x) p xs y h.0 e, find-unique p xs y h.1 itself e)) is
+
   pub map-key : (f : X → X) → ((x : X) → key (f x) ≡ key x) → (xs : List X) → map key (map f xs) ≡ map key xs
   map-key f h [] = refl
   map-key f h (x ∷ xs) = rw (h x, map-key f h xs) refl

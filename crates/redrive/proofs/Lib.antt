@@ -5,12 +5,15 @@ pub mod OpeningLemmas
 pub mod ConfiguredLemmas
 pub mod OrderLemmas
 pub mod RegistryLemmas
+pub mod CostLemmas
 pub mod PlaceLemmas
 pub mod StoredNameLemmas
 pub mod DeletionLemmas
 pub mod MovingLemmas
 pub mod AnswerLemmas
+pub mod HandOverLemmas
 pub mod StepLemmas
+pub mod AloneLemmas
 pub mod CatalogLemmas
 pub mod HistoryLemmas
 pub mod ToldLemmas

@@ -1,5 +1,5 @@
 -- A parcel that was handed over and accepted still waits first at its source, so that it can be confirmed.
-use Rattle.std.proofs.Common.{◌≡◌, ℕ, Bool, true, false, cond, List, [], ◌∷◌, ◌++◌, Option, Some, None, Result, Ok, Err, refl, sym, ap, subst, inl, inr, ◌∙◌}
+use Rattle.std.proofs.Common.{◌≡◌, ℕ, ◌+◌, ◌≤◌, Bool, true, false, cond, List, [], ◌∷◌, ◌++◌, Option, Some, None, Result, Ok, Err, refl, sym, ap, subst, inl, inr, ◌∙◌, arith}
 use Rattle.std.specs.Prelude.{nat_eq, filter, is_some, option_map, option_and_then}
 use Rattle.std.specs.Option.{option_map_or}
 use Rattle.std.proofs.lemmas.Bool.{eq-eqb, or_right, false≢true}
@@ -23,6 +23,7 @@ use Rattle.queue_core.specs.Queue.{QueueHistory, Outcome, at_moment, first_refus
 use Rattle.redrive.specs.declared.moved.Moved.{Moved}
 use Rattle.redrive.specs.declared.moved.Moved.TheVariants as moved
 use Rattle.redrive.specs.World.{World, queue_of_uid, has_queue, first_parcel_in, Delivery, delivery_of, as_moved, delivered_answer, arrive_answer, world_after_command, world_after_hand_over, needs_confirmation, is_accepted, accepted_number, confirm_answer, confirm_takes_memory, world_after_confirm, answer_of_halves, IsHandedOver, IsMoved}
+use Rattle.redrive.specs.Cost.{hand_over_ticks, confirm_ticks, CostsMove}
 use Rattle.queue_core.proofs.PushLemmas.{Line, accepted-push, content-push, numbered-kept}
 use Rattle.queue_core.proofs.PendingLemmas.{filter_all, pending_transfers-push}
 use Rattle.redrive.proofs.RegistryLemmas.{after_answer-uid, changed-queue}
@@ -140,7 +141,7 @@ module _ (w : World) (source at : ℕ) (m : Moved) (confirmed : needs_confirmati
   at-source : (p : Parcel) → first_parcel_in w source ≡ Some p → (s : QueueHistory) × ((queue_of_uid w source ≡ Some s) × (first_parcel_of s ≡ Some p))
   at-source p h = option_and_then_some _ (queue_of_uid w source) p h (λ s here first. (s, (here, first)))
 
-  moved-number : Ok m ≡ arrive_answer w source at
+  pub moved-number : Ok m ≡ arrive_answer w source at
       → (p : Parcel) × ((first_parcel_in w source ≡ Some p) × (accepted_number (world_after_hand_over {T = Moved} w source at (Ok m)) source ≡ Some p.origin.number))
   moved-number h =
       let handed = handed-parcel (has_queue w source) (first_parcel_in w source) h in
@@ -161,7 +162,7 @@ handed-Ok old between source at m (inr h) = absurd (false≢true h.no_memory)
 
 module _ (old between new : World) (source at : ℕ) (half : Result Moved Fault) (meets : Meets half (arrive_answer old source at)) (first_half : IsHandedOver old source at half between) where
   -- with a confirmation
-  pub IsMoved-confirmed : (m : Moved) (answer : Result Moved Fault) (confirmed : Result Reply Fault) → half ≡ Ok m → needs_confirmation (Ok m) ≡ true
+  abbrev pub IsMoved-confirmed : (m : Moved) (answer : Result Moved Fault) (confirmed : Result Reply Fault) → half ≡ Ok m → needs_confirmation (Ok m) ≡ true
       → Meets confirmed (confirm_answer between source at) → (confirm_takes_memory between source at ≡ false → confirmed ≡ confirm_answer between source at)
       → answer ≡ answer_of_halves (Ok m) confirmed → new ≡ world_after_confirm between source at confirmed
       → IsMoved old source at answer new
@@ -185,3 +186,42 @@ module _ (old between new : World) (source at : ℕ) (half : Result Moved Fault)
         };
         no_second_half = λ h. absurd (false≢true (sym h ∙ rw is needs));
       }
+
+  pub CostsMove-confirmed : (m : Moved) (answer : Result Moved Fault) (confirmed : Result Reply Fault) → half ≡ Ok m → needs_confirmation (Ok m) ≡ true
+      → Meets confirmed (confirm_answer between source at) → (confirm_takes_memory between source at ≡ false → confirmed ≡ confirm_answer between source at)
+      → answer ≡ answer_of_halves (Ok m) confirmed → new ≡ world_after_confirm between source at confirmed
+      → (begun spent spent' : ℕ) → spent ≤ begun + hand_over_ticks old source at half → spent' ≤ spent + confirm_ticks between source at confirmed
+      → CostsMove old source at answer new begun spent'
+  CostsMove-confirmed m answer confirmed is needs second exact answered left begun spent spent' first_cost second_cost =
+      let yes : needs_confirmation half ≡ true = ap needs_confirmation is ∙ needs in
+      let same : confirm_ticks between source at answer ≡ confirm_ticks between source at confirmed = ap (λ (r : Result Moved Fault). confirm_ticks between source at r) answered ∙ as-confirmed m confirmed in
+      record {
+        move = IsMoved-confirmed m answer confirmed is needs second exact answered left;
+        within = subst (λ (b : Bool). spent' ≤ begun + hand_over_ticks old source at half + cond b (confirm_ticks between source at answer) 0) (sym yes)
+            (two-halves begun spent spent' (hand_over_ticks old source at half) (confirm_ticks between source at confirmed) (confirm_ticks between source at answer) first_cost second_cost same);
+      }
+    where
+      as-confirmed : (m : Moved) (confirmed : Result Reply Fault) → confirm_ticks {T = Moved} between source at (answer_of_halves (Ok m) confirmed) ≡ confirm_ticks {T = Reply} between source at confirmed
+      as-confirmed m (Ok reply) = refl
+      as-confirmed m (Err fault) = refl
+
+      two-halves : (begun spent spent' a b b' : ℕ) → spent ≤ begun + a → spent' ≤ spent + b → b' ≡ b → spent' ≤ begun + a + b'
+      two-halves begun spent spent' a b b' h k same = omega arith
+
+-- with none
+pub CostsMove-unconfirmed : (old new : World) (source at : ℕ) (half answer : Result Moved Fault) → Meets half (arrive_answer old source at) → IsHandedOver old source at half new
+    → needs_confirmation half ≡ false → answer ≡ half → (begun spent : ℕ) → spent ≤ begun + hand_over_ticks old source at half → CostsMove old source at answer new begun spent
+CostsMove-unconfirmed old new source at half answer meets first_half never same begun spent cost = record {
+  move = record {
+    handed_over = half;
+    between = new;
+    meets = meets;
+    first_half = first_half;
+    second_half = λ h. absurd (false≢true (sym never ∙ h));
+    no_second_half = λ h. (same, refl);
+  };
+  within = subst (λ (b : Bool). spent ≤ begun + hand_over_ticks old source at half + cond b (confirm_ticks new source at answer) 0) (sym never) (alone begun spent (hand_over_ticks old source at half) cost);
+}
+  where
+    alone : (begun spent a : ℕ) → spent ≤ begun + a → spent ≤ begun + a + 0
+    alone begun spent a h = omega arith

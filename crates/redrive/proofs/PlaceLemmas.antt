@@ -1,11 +1,11 @@
 -- The queue of a uid at its place in the list: what is done there is done to the queue of the uid.
-use Rattle.std.proofs.Common.{◌≡◌, ℕ, ◌<◌, true, false, List, length, get_or, Option, Some, Result, Ok, Err, sym, ap, ◌∙◌}
+use Rattle.std.proofs.Common.{◌≡◌, ℕ, ◌+◌, ◌<◌, ◌≤◌, true, false, List, length, get_or, set, Option, Some, None, Result, Ok, Err, refl, sym, ap, ◌∙◌}
 use Rattle.std.specs.Prelude.{nat_eq, remove, slice_get, IfSome, OnOk, OnErr, IfErr}
 use Rattle.std.specs.List.{position}
 use Rattle.std.proofs.lemmas.List.{set-get_or}
 use Rattle.std.proofs.lemmas.List.Elements.{All-get_or}
 use Rattle.std.proofs.lemmas.List.Quantifiers.{position-Some}
-use Rattle.std.proofs.lemmas.Option.{slice_get-get_or}
+use Rattle.std.proofs.lemmas.Option.{slice_get-get_or, same_Some, none-some}
 use Rattle.message.specs.declared.fault.Fault.{Fault}
 use Rattle.message.specs.declared.fault.Fault.TheVariants.{OutOfMemory}
 use Rattle.message.specs.Fault.{Meets}
@@ -13,9 +13,11 @@ use Rattle.queue_core.specs.declared.command.Command.{Command}
 use Rattle.queue_core.specs.declared.reply.Reply.{Reply}
 use Rattle.queue_core.specs.Messages.{is_closed}
 use Rattle.queue_core.specs.Queue.{QueueHistory, at_moment, outcome_at, takes_memory, after_answer}
+use Rattle.queue_core.specs.Cost.{most_ticks}
+use Rattle.redrive.specs.Cost.{change_ticks}
 use Rattle.redrive.specs.World.{World, queue_of_uid, queue_answer, takes_memory_in, with_queue_changed, world_after_command, closed_queue, take_answer, without_queue, world_after_delete, IsRegistry}
 use Rattle.redrive.specs.ByPlace.{with_place_changed, without_place, closes_queue}
-use Rattle.redrive.proofs.KeyedLemmas.{find-position, map-present, remove-present}
+use Rattle.redrive.proofs.KeyedLemmas.{find-position, find-no_position, map-present, remove-present}
 use Rattle.redrive.proofs.RegistryLemmas.{some_queue, IsRegistry-after_step, IsRegistry-without, IsRegistry-moved}
 
 abbrev uid_of : QueueHistory → ℕ
@@ -49,10 +51,16 @@ module _ (w : World) (uid place : ℕ) (here : position (λ q. nat_eq q.uid uid)
   changed-at f r =
       rw stands (ap (λ (queues : List QueueHistory). record w { queues = queues }) (map-present uid_of uid f w.queues place some_queue r.uids within own))
 
+  alike-at : (f g : QueueHistory → QueueHistory) → IsRegistry w → f there ≡ g there → with_queue_changed w uid f ≡ with_queue_changed w uid g
+  alike-at f g r same = sym (changed-at f r) ∙ rw stands (ap (λ (q : QueueHistory). record w { queues = set w.queues place q }) same) ∙ changed-at g r
+
   pub without-at : IsRegistry w → without_place w place ≡ without_queue w uid
   without-at r =
       ap (λ (queues : List QueueHistory). record w { queues = remove queues place }) (sym (set-get_or w.queues place some_queue))
       ∙ ap (λ (queues : List QueueHistory). record w { queues = queues }) (remove-present uid_of uid w.queues place some_queue there r.uids within own)
+
+  pub ticks-at : (change : QueueHistory → QueueHistory) (ticks ticks' : ℕ) → IfSome (slice_get w.queues place) (λ q. ticks' ≤ ticks + most_ticks q (change q)) → ticks' ≤ ticks + change_ticks w uid change
+  ticks-at change ticks ticks' h = rw found (rw stands at h)
 
   -- ---- a command
 
@@ -92,3 +100,13 @@ module _ (w : World) (uid place : ℕ) (here : position (λ q. nat_eq q.uid uid)
       → OnErr r (new ≡ with_place_changed w place (λ q. at_moment q at)) → IsRegistry new
   IsRegistry-delete_at at (Ok q) new kept ok err = rw (ok ∙ without-at kept) (IsRegistry-without w uid kept)
   IsRegistry-delete_at at (Err fault) new kept ok err = rw (err ∙ changed-at (λ q. at_moment q at) kept) (IsRegistry-moved w uid at kept)
+
+-- two changes that are alike for the queue of a uid
+pub changed-alike : (w : World) (uid : ℕ) (q : QueueHistory) → queue_of_uid w uid ≡ Some q → (f g : QueueHistory → QueueHistory) → IsRegistry w → f q ≡ g q
+    → with_queue_changed w uid f ≡ with_queue_changed w uid g
+changed-alike w uid q here f g r same = by_place (position (λ q. nat_eq q.uid uid) w.queues) refl where
+  by_place : (o : Option ℕ) → position (λ q. nat_eq q.uid uid) w.queues ≡ o → with_queue_changed w uid f ≡ with_queue_changed w uid g
+  by_place None e = absurd (none-some q (sym (find-no_position uid_of uid w.queues e) ∙ here))
+  by_place (Some place) e =
+      let is : there w uid place e ≡ q = same_Some (there w uid place e) q (sym (found w uid place e) ∙ here) in
+      alike-at w uid place e f g r (ap f is ∙ same ∙ sym (ap g is))

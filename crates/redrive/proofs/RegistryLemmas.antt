@@ -219,13 +219,21 @@ others-opened old new at name settings rules (Err fault) ok err other differs = 
 
 -- ---- every queue changed, one after another
 
+pub item-next : (f : QueueHistory → QueueHistory) (qs now : List QueueHistory) (i : ℕ) (item : QueueHistory) → now ≡ map f (take i qs) ++ drop i qs → i < length qs
+    → item ≡ get_or now i item → item ≡ get_or qs i item
+item-next f qs now i item is l read =
+    let done = map f (take i qs) in
+    let count : length done ≡ i = length-map (take i qs) f ∙ length-take-le i qs (omega arith) in
+    let split : now ≡ done ++ get_or qs i item ∷ drop (i + 1) qs = is ∙ ap (λ (rest : List QueueHistory). done ++ rest) (drop_more qs i item l) in
+    read ∙ ap (λ (all : List QueueHistory). get_or all i item) split ∙ get_or_at done (get_or qs i item) (drop (i + 1) qs) item i count
+
 pub map-next : (f : QueueHistory → QueueHistory) (qs now : List QueueHistory) (i : ℕ) (item new : QueueHistory) → now ≡ map f (take i qs) ++ drop i qs → i < length qs
     → item ≡ get_or now i item → new ≡ f item → set now i new ≡ map f (take (i + 1) qs) ++ drop (i + 1) qs
 map-next f qs now i item new is l read changed =
     let done = map f (take i qs) in
     let count : length done ≡ i = length-map (take i qs) f ∙ length-take-le i qs (omega arith) in
     let split : now ≡ done ++ get_or qs i item ∷ drop (i + 1) qs = is ∙ ap (λ (rest : List QueueHistory). done ++ rest) (drop_more qs i item l) in
-    let same : item ≡ get_or qs i item = read ∙ ap (λ (all : List QueueHistory). get_or all i item) split ∙ get_or_at done (get_or qs i item) (drop (i + 1) qs) item i count in
+    let same : item ≡ get_or qs i item = item-next f qs now i item is l read in
     ap (λ (all : List QueueHistory). set all i new) split ∙ set_at done (get_or qs i item) (drop (i + 1) qs) new i count
     ∙ ap (λ (q : QueueHistory). done ++ q ∷ drop (i + 1) qs) (changed ∙ ap f same)
     ∙ sym (append_assoc done (f (get_or qs i item) ∷ []) (drop (i + 1) qs))

@@ -1,13 +1,15 @@
 -- A run of steps in the registry: one step on, at its end, and what holds of all of it.
-use Rattle.std.proofs.Common.{◌≡◌, ℕ, ◌+◌, ◌<◌, ◌≤◌, false, length, List, [], ◌∷◌, ◌++◌, get_or, map, take, drop, Option, refl, sym, ap, subst, ◌∙◌, append_assoc}
+use Rattle.std.proofs.Common.{◌≡◌, ℕ, ◌+◌, ◌<◌, ◌≤◌, false, length, List, [], ◌∷◌, ◌++◌, get_or, map, take, drop, Option, refl, sym, ap, subst, ◌∙◌, append_assoc, arith}
 use Rattle.std.proofs.lemmas.List.{append-nil, drop_all, map_more}
 use Rattle.queue_core.specs.Queue.{QueueHistory}
 use Rattle.redrive.specs.declared.steps.HouseStep.{HouseStep}
 use Rattle.redrive.specs.declared.steps.QueueMetrics.{QueueMetrics}
 use Rattle.redrive.specs.World.{World, queue_of_uid, IsRegistry}
 use Rattle.redrive.specs.History.{AllQueues, IsWholeHistory}
+use Rattle.redrive.specs.Cost.{ticks_of_step, ticks_of_steps}
 use Rattle.redrive.specs.WorldRun.{Answer, answer_of_step, needs_memory, MeetsAnswer, IsAnswerOf, world_after, all_after, AreHouseAnswers, world_after_all, history_after, queue_after, IsAsIfAlone, AreTold, metrics_of}
-use Rattle.redrive.proofs.StepLemmas.{queue_after-world, IsOwnAnswer-world}
+use Rattle.redrive.proofs.StepLemmas.{queue_after-world}
+use Rattle.redrive.proofs.AloneLemmas.{answered_alone}
 use Rattle.redrive.proofs.HistoryLemmas.{IsWholeHistory-after}
 use Rattle.redrive.proofs.ToldLemmas.{IsToldBy-world}
 
@@ -44,6 +46,42 @@ Continues-end first steps answers now i past c =
       sym (ap (λ (all : List Answer). world_after_all first steps all) (sym (append-nil answers)) ∙ h.state []),
     )
 
+-- ---- what the run costs
+
+-- what the steps that are left may cost in the world as it is now, and what was spent, all steps may cost
+pub record Pays (begun : ℕ) (first : World) (steps : List HouseStep) (answers : List Answer) (spent : ℕ) (now : World) (left : List HouseStep) : Type 0 where
+  pub within : (rest : List Answer) → spent + ticks_of_steps now left rest ≤ begun + ticks_of_steps first steps (answers ++ rest)
+
+pub pays_first : (begun : ℕ) (w : World) (steps : List HouseStep) → Pays begun w steps [] begun w steps
+pays_first begun w steps = record { within = λ rest. omega arith }
+
+pub pays_step : (begun : ℕ) (first : World) (steps : List HouseStep) (answers : List Answer) (spent spent' : ℕ) (now : World) (left rest : List HouseStep) (step : HouseStep) (answer : Answer) (next : World)
+    → Pays begun first steps answers spent now left → left ≡ step ∷ rest → spent' ≤ spent + ticks_of_step now step answer → next ≡ world_after now step answer
+    → Pays begun first steps (answers ++ answer ∷ []) spent' next rest
+pays_step begun first steps answers spent spent' now left rest step answer next h is cost after = record {
+  within = λ others.
+      let was = h.within (answer ∷ others) in
+      let same : ticks_of_steps first steps (answers ++ answer ∷ others) ≡ ticks_of_steps first steps ((answers ++ answer ∷ []) ++ others) =
+      ap (λ (xs : List Answer). ticks_of_steps first steps xs) (sym (append_assoc answers (answer ∷ []) others)) in
+      let here : ticks_of_steps now left (answer ∷ others) ≡ ticks_of_step now step answer + ticks_of_steps next rest others =
+      ap (λ (xs : List HouseStep). ticks_of_steps now xs (answer ∷ others)) is ∙ ap (λ (w : World). ticks_of_step now step answer + ticks_of_steps w rest others) (sym after) in
+      paid begun spent spent' (ticks_of_step now step answer) (ticks_of_steps now left (answer ∷ others)) (ticks_of_steps next rest others)
+      (ticks_of_steps first steps (answers ++ answer ∷ others)) (ticks_of_steps first steps ((answers ++ answer ∷ []) ++ others)) was same here cost;
+}
+  where
+    paid : (begun spent spent' one left rest all all' : ℕ) → spent + left ≤ begun + all → all ≡ all' → left ≡ one + rest → spent' ≤ spent + one → spent' + rest ≤ begun + all'
+    paid begun spent spent' one left rest all all' was same here cost = omega arith
+
+pub pays_end : (begun : ℕ) (first : World) (steps : List HouseStep) (answers : List Answer) (spent : ℕ) (now : World) (i : ℕ) → length steps ≤ i
+    → Pays begun first steps answers spent now (drop i steps) → spent ≤ begun + ticks_of_steps first steps answers
+pays_end begun first steps answers spent now i past h =
+    let was = h.within [] in
+    let all : ticks_of_steps first steps (answers ++ []) ≡ ticks_of_steps first steps answers = ap (λ (xs : List Answer). ticks_of_steps first steps xs) (append-nil answers) in
+    ended begun spent (ticks_of_steps now (drop i steps) []) (ticks_of_steps first steps (answers ++ [])) (ticks_of_steps first steps answers) was all
+  where
+    ended : (begun spent left all all' : ℕ) → spent + left ≤ begun + all → all ≡ all' → spent ≤ begun + all'
+    ended begun spent left all all' was same = omega arith
+
 -- ---- what holds of the whole run
 
 pub AreHouseAnswers-run : (w : World) (steps : List HouseStep) (answers : List Answer) → AreAnswered w steps answers → AreHouseAnswers w steps answers
@@ -62,7 +100,7 @@ IsAsIfAlone-run w [] [] uid h = refl
 IsAsIfAlone-run w [] (answer ∷ answers) uid h = absurd h
 IsAsIfAlone-run w (step ∷ steps) [] uid h = absurd h
 IsAsIfAlone-run w (step ∷ steps) (answer ∷ answers) uid h = (
-  IsOwnAnswer-world w uid step answer h.1.0.meets,
+  answered_alone w uid step answer h.0 h.1.0.meets,
   alone-next (world_after w step answer) uid (queue_after w uid (queue_of_uid w uid) step answer) (queue_of_uid (world_after w step answer) uid) steps answers
       (queue_of_uid (world_after_all w (step ∷ steps) (answer ∷ answers)) uid)
       (queue_after-world w uid step answer h.0 h.1.0.meets) (IsAsIfAlone-run (world_after w step answer) steps answers uid h.1.1),

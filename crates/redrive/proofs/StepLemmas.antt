@@ -19,8 +19,8 @@ use Rattle.redrive.specs.declared.steps.HouseReply.{HouseReply}
 use Rattle.redrive.specs.declared.steps.HouseReply.TheVariants.{Created, Deleted, Performed, HandedOver, Confirmed, Advanced}
 use Rattle.redrive.specs.declared.steps.HouseStep.{HouseStep}
 use Rattle.redrive.specs.declared.steps.HouseStep.TheVariants as steps
-use Rattle.redrive.specs.World.{World, queue_named, queue_of_uid, may_name_target, target_uid, has_no_place, has_all_requested, existing_answer, create_answer, with_queue, new_queue, closed_queue, take_answer, without_queue, step_refusal, step_answer, with_queue_changed, world_after_command, first_parcel_in, delivery_of, accepted_number, IsRegistry}
-use Rattle.redrive.specs.WorldRun.{Answer, as_house_reply, answer_of_step, MeetsAnswer, world_after, answers_uid, after_command, queue_after, IsOwnAnswer}
+use Rattle.redrive.specs.World.{World, queue_named, queue_of_uid, may_name_target, target_uid, has_no_place, has_all_requested, existing_answer, create_answer, with_queue, new_queue, without_queue, step_refusal, with_queue_changed, world_after_command, first_parcel_in, delivery_of, accepted_number, IsRegistry}
+use Rattle.redrive.specs.WorldRun.{Answer, as_house_reply, answer_of_step, MeetsAnswer, world_after, answers_uid, after_command, queue_after}
 use Rattle.redrive.proofs.KeyedLemmas.{find-map, find-other, find-unused, find-without, find-without_other}
 use Rattle.redrive.proofs.RegistryLemmas.{after_answer-uid, changed-queue}
 
@@ -178,17 +178,3 @@ queue_after-world w uid (steps.HandOver at source) (Ok (HandedOver answer)) h me
 queue_after-world w uid (steps.HandOver at source) answer h meets = refl
 queue_after-world w uid (steps.Confirm at source) answer h meets = confirmed-queue w uid at source answer (accepted_number w source)
 queue_after-world w uid (steps.Advance at) answer h meets = find-map (λ x. nat_eq x.uid uid) (λ q. at_moment q at) (λ x. refl) w.queues
-
--- its own steps are answered by it alone
-pub IsOwnAnswer-world : (w : World) (uid : ℕ) (step : HouseStep) (answer : Answer) → MeetsAnswer answer (answer_of_step w step) → IsOwnAnswer w uid (queue_of_uid w uid) step answer
-IsOwnAnswer-world w uid (steps.Delete at own) answer meets = λ same.
-    subst (λ (u : ℕ). Meets answer (as_house_reply Deleted (option_map_or (λ q. Ok (closed_queue q at)) (queue_of_uid w u) (Err QueueDoesNotExist)))) same
-    (meets_deleted (take_answer w own at) answer meets)
-IsOwnAnswer-world w uid (steps.Perform at own command) answer meets = λ same unrefused.
-    let own_meets : Meets answer (as_house_reply Performed (step_answer w uid at command)) =
-    subst (λ (u : ℕ). Meets answer (as_house_reply Performed (step_answer w u at command))) same (meets_performed (step_answer w own at command) answer meets) in
-    rw unrefused at own_meets
-IsOwnAnswer-world w uid (steps.Create at name wish) answer meets = tt
-IsOwnAnswer-world w uid (steps.HandOver at source) answer meets = tt
-IsOwnAnswer-world w uid (steps.Confirm at source) answer meets = tt
-IsOwnAnswer-world w uid (steps.Advance at) answer meets = tt

@@ -6,6 +6,8 @@ pub mod ByPlace
 pub mod Halves
 pub mod History
 pub mod WorldRun
+pub mod HistorySteps
+pub mod Cost
 pub mod Places
 pub mod TransferExamples
 pub mod Waiting

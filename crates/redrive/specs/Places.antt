@@ -10,14 +10,14 @@ use Rattle.queue_core.specs.declared.facts.Message.{Message}
 use Rattle.queue_core.specs.declared.facts.Status.{Status}
 use Rattle.queue_core.specs.declared.facts.Status.TheVariants.{Waiting, Transferred}
 use Rattle.queue_core.specs.declared.facts.Transfer.{Transfer}
-use Rattle.queue_core.specs.Messages.{effect_of, contains_number, message_id, course_of, is_returned, loses, ends_transfer, accepts, has_accepted}
+use Rattle.queue_core.specs.Messages.{effect_of, contains_number, message_id, course_of, is_returned, loses, ends_transfer, accepts}
 use Rattle.queue_core.specs.States.{is_live, message_numbered, is_numbered}
 use Rattle.queue_core.specs.Queue.{QueueHistory}
-use Rattle.redrive.specs.declared.steps.HouseStep.{HouseStep}
 use Rattle.redrive.specs.declared.steps.HouseStep.TheVariants as steps
 use Rattle.redrive.specs.World.{queue_of_uid, new_world}
-use Rattle.redrive.specs.History.{AllQueues, journal_of}
-use Rattle.redrive.specs.WorldRun.{Answer, all_after}
+use Rattle.redrive.specs.History.{AllQueues, journal_of, was_accepted}
+use Rattle.redrive.specs.WorldRun.{Answer}
+use Rattle.redrive.specs.HistorySteps.{HistoryStep, Own, after_history_step}
 
 -- the beginning: the configured queues, and none deleted
 abbrev pub first_history : Configuration → ℕ → AllQueues
@@ -32,10 +32,6 @@ acceptance_count lines source number = count_by (λ e. accepts source number e.e
 -- no journal, of a queue that is there or was deleted, accepts a transfer twice
 abbrev pub EachAcceptedOnce : AllQueues → Type 0
 EachAcceptedOnce all = (uid source number : ℕ) → ForSome (journal_of all uid) (λ lines. acceptance_count lines source number ≤ 1)
-
--- whether the queue of a uid, which is there or was deleted, has accepted the transfer
-abbrev pub was_accepted : AllQueues → ℕ → ℕ → ℕ → Bool
-was_accepted all uid source number = option_map_or (λ lines. has_accepted lines source number) (journal_of all uid) false
 
 -- ---- what became of each message that left
 
@@ -141,12 +137,12 @@ pub record IsRelay (all : AllQueues) (uid : ℕ) : Type 0 where
   pub gone_on : was_accepted all next uid own_number ≡ true
 
 -- a step that does not delete such a queue; a deletion that finds no memory deletes none
-abbrev pub IsSpared : AllQueues → HouseStep → Answer → Type 0
-IsSpared all (steps.Delete at uid) (Ok reply) = IsRelay all uid → ⊥
+abbrev pub IsSpared : AllQueues → HistoryStep → Answer → Type 0
+IsSpared all (Own (steps.Delete at uid)) (Ok reply) = IsRelay all uid → ⊥
 IsSpared all step answer = ⊤
 
 -- no step of the list deletes such a queue
-abbrev pub NoRelayDeleted : AllQueues → List HouseStep → List Answer → Type 0
+abbrev pub NoRelayDeleted : AllQueues → List HistoryStep → List Answer → Type 0
 NoRelayDeleted all [] answers = ⊤
 NoRelayDeleted all (step ∷ steps) [] = ⊤
-NoRelayDeleted all (step ∷ steps) (answer ∷ answers) = IsSpared all step answer × NoRelayDeleted (all_after all step answer) steps answers
+NoRelayDeleted all (step ∷ steps) (answer ∷ answers) = IsSpared all step answer × NoRelayDeleted (after_history_step all step answer) steps answers

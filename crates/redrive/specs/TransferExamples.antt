@@ -12,15 +12,15 @@ use Rattle.queue_core.specs.States.{is_live}
 use Rattle.queue_core.specs.Queue.{QueueHistory}
 use Rattle.redrive.specs.declared.steps.HouseStep.{HouseStep}
 use Rattle.redrive.specs.declared.steps.HouseStep.TheVariants as steps
-use Rattle.redrive.specs.World.{World, new_world}
 use Rattle.redrive.specs.History.{AllQueues}
-use Rattle.redrive.specs.WorldRun.{Answer, answer_of_step, world_after, history_after}
+use Rattle.redrive.specs.WorldRun.{Answer}
+use Rattle.redrive.specs.HistorySteps.{HistoryStep, Own, Settle, answer_in_history, after_history_step, after_history_steps}
 use Rattle.redrive.specs.Places.{first_history}
 
--- what the registry answers where no memory is wanting
-abbrev pub answers_to : World → List HouseStep → List Answer
-answers_to w [] = []
-answers_to w (step ∷ steps) = answer_of_step w step ∷ answers_to (world_after w step (answer_of_step w step)) steps
+-- what is answered where no memory is wanting
+abbrev pub answers_to : AllQueues → List HistoryStep → List Answer
+answers_to all [] = []
+answers_to all (step ∷ steps) = answer_in_history all step ∷ answers_to (after_history_step all step (answer_in_history all step)) steps
 
 -- a message where it is live: the queue's uid, its number there, and its id
 pub record Standing : Type 0 where
@@ -55,9 +55,12 @@ three_queues = record {
   alarms = [];
 }
 
--- what is live after these steps
+-- what is live after these steps, and after such of the registry
+abbrev pub standing_after_all : List HistoryStep → List Standing
+standing_after_all steps = all_standing (after_history_steps (first_history three_queues 0) steps (answers_to (first_history three_queues 0) steps))
+
 abbrev pub standing_after : List HouseStep → List Standing
-standing_after steps = all_standing (history_after (first_history three_queues 0) steps (answers_to (new_world three_queues 0) steps))
+standing_after steps = standing_after_all (map Own steps)
 
 -- ---- steps
 
@@ -86,6 +89,13 @@ relayed_and_deleted = relayed ++ steps.Delete 1000 2 ∷ steps.HandOver 1000 1 �
 -- the same, where the transfer was confirmed before
 abbrev pub confirmed_and_deleted : List HouseStep
 confirmed_and_deleted = relayed ++ steps.Confirm 1000 1 ∷ steps.Delete 1000 2 ∷ steps.HandOver 1000 1 ∷ []
+
+-- uid 2 is deleted before uid 1 had its transfer confirmed, which threads confirm still, and the registry does not
+abbrev pub confirmed_late : List HistoryStep
+confirmed_late = map Own (handed_over ++ steps.Delete 1000 2 ∷ []) ++ Settle 1000 1 ∷ Own (steps.HandOver 1000 1) ∷ []
+
+abbrev pub confirmed_late_by_itself : List HouseStep
+confirmed_late_by_itself = handed_over ++ steps.Delete 1000 2 ∷ steps.Confirm 1000 1 ∷ steps.HandOver 1000 1 ∷ []
 
 -- the message is deleted in uid 2, and then uid 2, and uid 1 takes the message back
 abbrev pub deleted_with_its_queue : List HouseStep

@@ -248,16 +248,22 @@ pub record IsDelivered (old : World) (source at : ℕ) (answer : Result Moved Fa
   pub exact : hand_over_takes_memory old source at ≡ false → answer ≡ arrive_answer old source at
   pub left : new ≡ world_after_hand_over old source at answer
 
--- there is a parcel, which could not be made for want of memory
-pub record IsUnmade (old : World) (source : ℕ) (answer : Result Moved Fault) (new : World) : Type 0 where
-  pub waits : is_some (first_parcel_in old source) ≡ true
+-- whether the first parcel of the queue of a uid goes to a queue that is there
+abbrev pub goes_to_queue : World → ℕ → Bool
+goes_to_queue w source = option_map_or (λ p. has_queue w p.target) (first_parcel_in w source) false
+
+-- there is a parcel for a queue that is there and has an entry to add for it, and it could not be made for want of memory. A full queue, and one that has
+-- accepted it, is asked first, and for a queue that is gone no parcel is made
+pub record IsUnmade (old : World) (source at : ℕ) (answer : Result Moved Fault) (new : World) : Type 0 where
+  pub goes : goes_to_queue old source ≡ true
+  pub takes : hand_over_takes_memory old source at ≡ true
   pub no_memory : is_out_of_memory answer ≡ true
   pub left : new ≡ old
 
 -- What a hand-over leaves that is answered so. Memory may run out in two ways: where the queue that the parcel goes to finds none, that queue's clock has
 -- moved; where the parcel itself could not be made, nothing has changed
 abbrev pub IsHandedOver : World → ℕ → ℕ → Result Moved Fault → World → Type 0
-IsHandedOver old source at answer new = IsDelivered old source at answer new ⊎ IsUnmade old source answer new
+IsHandedOver old source at answer new = IsDelivered old source at answer new ⊎ IsUnmade old source at answer new
 
 -- whether the dead-letter queue has the parcel after a hand-over that is answered so: its source has to be told
 abbrev pub needs_confirmation : Result Moved Fault → Bool

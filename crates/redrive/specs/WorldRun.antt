@@ -1,11 +1,12 @@
 -- The queue registry over a list of steps: queues created and deleted, commands for one queue, and time that passes for all.
-use Rattle.std.specs.Prelude.{◌≡◌, ℕ, ◌==◌, Bool, false, if◌then◌else◌, is_some, IfSome, option_and_then, List, [], ◌∷◌, map, slice_get, option_map, Option, Some, None, unwrap_or, Result, Ok, Err}
+use Rattle.std.specs.Prelude.{◌≡◌, ℕ, ◌==◌, ◌&&◌, Bool, false, if◌then◌else◌, IfSome, option_and_then, List, [], ◌∷◌, map, slice_get, option_map, Option, Some, None, unwrap_or, Result, Ok, Err}
 use Rattle.std.specs.Option.{option_map, option_map_or}
+use Rattle.std.specs.Str.{bytes_eq}
 use Rattle.message.specs.Content.{content_size}
 use Rattle.message.specs.declared.fault.Fault.{Fault}
-use Rattle.message.specs.declared.fault.Fault.TheVariants.{QueueDoesNotExist}
+use Rattle.message.specs.declared.fault.Fault.TheVariants.{QueueDoesNotExist, InvalidAttributeValue}
 use Rattle.message.specs.Fault.{is_out_of_memory, Meets}
-use Rattle.queue_config.specs.Settings.{default_settings, settings_with}
+use Rattle.queue_config.specs.Settings.{RequestedAttributes, default_settings, settings_with}
 use Rattle.queue_core.specs.declared.command.Command.{Command}
 use Rattle.queue_core.specs.declared.command.Command.TheVariants as commands
 use Rattle.queue_core.specs.declared.reply.Reply.{Reply}
@@ -15,12 +16,13 @@ use Rattle.queue_core.specs.Metrics.{current_flows, row_of, alarm_state_in}
 use Rattle.queue_core.specs.Queue.{QueueHistory, at_moment, outcome_at, after_answer, offered_candidates, offers_of}
 use Rattle.queue_core.specs.Kept.{opened_queue}
 use Rattle.redrive.specs.declared.moved.Moved.{Moved}
+use Rattle.redrive.specs.declared.moved.Moved.TheVariants as moved
 use Rattle.redrive.specs.declared.steps.HouseReply.{HouseReply}
 use Rattle.redrive.specs.declared.steps.HouseReply.TheVariants.{Created, Deleted, Performed, HandedOver, Confirmed, Advanced}
 use Rattle.redrive.specs.declared.steps.HouseStep.{HouseStep}
 use Rattle.redrive.specs.declared.steps.HouseStep.TheVariants as steps
 use Rattle.redrive.specs.declared.steps.QueueMetrics.{QueueMetrics}
-use Rattle.redrive.specs.World.{World, queue_of_uid, has_queue, target_uid, opens_queue, step_refusal, closed_queue, create_answer, world_after_create, take_answer, world_after_delete, step_answer, takes_memory_at, world_after_step, first_parcel_in, delivery_of, hand_over_answer, hand_over_takes_memory, world_after_hand_over, accepted_number, confirm_answer, confirm_takes_memory, world_after_confirm, needs_confirmation, world_at_moment}
+use Rattle.redrive.specs.World.{World, queue_of_uid, has_queue, target_uid, may_name_target, existing_answer, opens_queue, step_refusal, closed_queue, create_answer, world_after_create, take_answer, world_after_delete, step_answer, takes_memory_at, world_after_step, first_parcel_in, delivery_of, as_moved, hand_over_answer, hand_over_takes_memory, world_after_hand_over, accepted_number, confirm_answer, confirm_takes_memory, world_after_confirm, needs_confirmation, world_at_moment}
 use Rattle.redrive.specs.History.{AllQueues}
 
 abbrev pub Answer : Type 0
@@ -44,14 +46,13 @@ answer_of_step w (steps.HandOver at source) = if_there w source (Ok (HandedOver 
 answer_of_step w (steps.Confirm at source) = if_there w source (as_house_reply Confirmed (confirm_answer w source at))
 answer_of_step w (steps.Advance at) = Ok Advanced
 
--- whether a step that is answered so needs memory: where it opens a queue, adds to the journal of one, or shares the content of a parcel. A parcel that came
--- to its queue was made, so that only this queue may find none
+-- whether a step that is answered so needs memory: where it opens a queue, adds to the journal of one, or shares the content of a parcel for its client. To
+-- hand a parcel over, memory is needed only where the queue that it goes to adds to its journal
 abbrev pub needs_memory : World → HouseStep → Answer → Bool
 needs_memory w (steps.Create at name wish) answer = opens_queue w name wish
 needs_memory w (steps.Delete at uid) answer = has_queue w uid
 needs_memory w (steps.Perform at uid command) answer = takes_memory_at w uid at command
-needs_memory w (steps.HandOver at source) (Ok (HandedOver answer)) = hand_over_takes_memory w source at
-needs_memory w (steps.HandOver at source) _ = is_some (first_parcel_in w source)
+needs_memory w (steps.HandOver at source) answer = hand_over_takes_memory w source at
 needs_memory w (steps.Confirm at source) answer = confirm_takes_memory w source at
 needs_memory w (steps.Advance at) answer = false
 
@@ -147,20 +148,40 @@ queue_after w uid q (steps.HandOver at source) _ = q
 queue_after w uid q (steps.Confirm at source) answer = after_command q at (command_for w uid (steps.Confirm at source)) answer
 queue_after w uid q (steps.Advance at) answer = option_map (λ q. at_moment q at) q
 
--- its own commands and its own deletion are answered by it alone
-abbrev pub IsOwnAnswer : World → ℕ → Option QueueHistory → HouseStep → Answer → Type 0
-IsOwnAnswer w uid q (steps.Delete at own) answer =
-    own ≡ uid → Meets answer (as_house_reply Deleted (option_map_or (λ q. Ok (closed_queue q at)) q (Err QueueDoesNotExist)))
-IsOwnAnswer w uid q (steps.Perform at own command) answer =
-    own ≡ uid → step_refusal w uid command ≡ None → Meets answer (as_house_reply Performed (option_map_or (λ q. (outcome_at q at command).reply) q (Err QueueDoesNotExist)))
-IsOwnAnswer w uid q step answer = Unit {0}
+-- the reply of a queue, if it is there
+abbrev pub reply_alone : Option QueueHistory → ℕ → Command → Result Reply Fault
+reply_alone q at command = option_map_or (λ q. (outcome_at q at command).reply) q (Err QueueDoesNotExist)
 
--- the queue of a uid answers its own steps, and becomes what the commands for it leave, as if no other queue were there
+-- what the queue of a uid answers to a create: where it has the name, and where it is the queue that is opened
+abbrev pub created_alone : World → ℕ → Option QueueHistory → List ℕ → RequestedAttributes → Option Answer
+created_alone w uid (Some q) name wish =
+    if bytes_eq q.name name
+    then Some (as_house_reply Created (if may_name_target w name wish then existing_answer wish (target_uid w wish) q else Err InvalidAttributeValue)) else None
+created_alone w uid None name wish = if (w.next_uid == uid) && opens_queue w name wish then Some (Ok (Created uid)) else None
+
+-- what the queue of a uid answers by itself: to a create of its name, its deletion, its commands, a parcel that comes to it or comes back, its confirmations,
+-- and, as a source, that no parcel waits or that it is not there. A create that is refused and of no queue's name is for none
+abbrev pub answer_alone : World → ℕ → Option QueueHistory → HouseStep → Option Answer
+answer_alone w uid q (steps.Create at name wish) = created_alone w uid q name wish
+answer_alone w uid q (steps.Delete at own) =
+    if own == uid then Some (as_house_reply Deleted (option_map_or (λ q. Ok (closed_queue q at)) q (Err QueueDoesNotExist))) else None
+answer_alone w uid q (steps.Perform at own command) =
+    if own == uid then Some (as_house_reply Performed (option_map_or (λ fault. Err fault) (step_refusal w uid command) (reply_alone q at command))) else None
+answer_alone w uid q (steps.HandOver at source) =
+    option_map_or (λ p. if (delivery_of w source p).uid == uid then Some (Ok (HandedOver (as_moved (reply_alone q at (delivery_of w source p).command)))) else None)
+    (first_parcel_in w source) (if source == uid then Some (option_map_or (λ q. Ok (HandedOver (Ok moved.None))) q (Err QueueDoesNotExist)) else None)
+answer_alone w uid q (steps.Confirm at source) =
+    if source == uid
+    then Some (option_map_or (λ q. as_house_reply Confirmed (option_map_or (λ number. (outcome_at q at (commands.Settle number)).reply) (accepted_number w source)
+    (Ok (replies.Settled false)))) q (Err QueueDoesNotExist)) else None
+answer_alone w uid q (steps.Advance at) = Some (Ok Advanced)
+
+-- the queue of a uid answers all that is for it, and becomes what the commands for it leave, as if no other queue were there
 abbrev pub IsAsIfAlone : World → ℕ → Option QueueHistory → List HouseStep → List Answer → Option QueueHistory → Type 0
 IsAsIfAlone w uid q [] answers new = new ≡ q
 IsAsIfAlone w uid q (step ∷ steps) [] new = new ≡ q
 IsAsIfAlone w uid q (step ∷ steps) (answer ∷ answers) new =
-    IsOwnAnswer w uid q step answer × IsAsIfAlone (world_after w step answer) uid (queue_after w uid q step answer) steps answers new
+    IfSome (answer_alone w uid q step) (λ wanted. MeetsAnswer answer wanted) × IsAsIfAlone (world_after w step answer) uid (queue_after w uid q step answer) steps answers new
 
 -- ---- what is told of the queues is recomputed from their journals
 

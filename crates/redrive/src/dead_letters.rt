@@ -1,10 +1,11 @@
 //! Dead letters that go from one queue of the registry to another.
 
-ghost use Rattle.std.specs.Prelude.{◌≡◌, true, false, None, Ok, Err, IfOk, OnErr};
+ghost use Rattle.std.specs.Prelude.{◌≡◌, ℕ, ◌+◌, ◌≤◌, true, false, Some, None, Ok, Err, IfOk, OnErr, option_map, option_and_then};
 ghost use Rattle.std.specs.Option.{option_map_or};
 ghost use Rattle.message.specs.Fault.{Meets};
 ghost use Rattle.queue_core.specs.Messages.{has_accepted};
-ghost use Rattle.redrive.specs.World.{moved_of, needs_confirmation};
+ghost use Rattle.queue_core.specs.Queue.{outcome_at, reply_without_memory, as_reply};
+ghost use Rattle.redrive.specs.World.{moved_of, as_moved, needs_confirmation, goes_to_queue};
 
 use crate::house::House;
 use crate::moved::Moved;
@@ -25,6 +26,17 @@ fn moved_of(reply: &Reply) -> Moved
     }
 }
 
+/// What an arrival that is answered so says of the parcel.
+fn as_moved(answer: Result<Arrival, Fault>) -> Result<Moved, Fault>
+    ensures { result ≡ as_moved (as_reply Reply.Arrived answer) }
+{
+    match answer {
+        Ok(Arrival::New) => Ok(Moved::Arrived),
+        Ok(Arrival::Again) => Ok(Moved::Again),
+        Err(fault) => Err(fault),
+    }
+}
+
 /// Whether the dead-letter queue has the parcel, and the source has to be told.
 fn needs_confirmation(moved: Moved) -> bool
     ensures { result ≡ needs_confirmation (Ok moved) }
@@ -33,9 +45,10 @@ fn needs_confirmation(moved: Moved) -> bool
 }
 
 impl House {
-    ghost use Rattle.redrive.specs.World.{queue_of_uid, has_queue, first_parcel_in, delivery_of, delivered_answer, hand_over_answer, arrive_answer, hand_over_takes_memory, takes_memory_in, world_after_command, world_after_hand_over, accepted_number, confirm_answer, confirm_takes_memory, world_after_confirm, IsHandedOver, move_answer, IsMoved};
+    ghost use Rattle.redrive.specs.World.{queue_of_uid, has_queue, queue_answer, first_parcel_in, arrive_answer, hand_over_takes_memory, takes_memory_in, world_after_command, world_after_hand_over, accepted_number, confirm_answer, confirm_takes_memory, world_after_confirm, IsHandedOver, move_answer, IsMoved};
     ghost use Rattle.redrive.specs.ByPlace.{closes_queue};
     ghost use Rattle.redrive.specs.Halves.{handed_over, MeetsHandOver};
+    ghost use Rattle.redrive.specs.Cost.{command_ticks, hand_over_ticks, confirm_ticks, CostsMove};
 
     /// The first parcel of the queue of a uid.
     fn first_parcel(&self, alloc: Global, source: u64) -> Result<Option<Parcel>, Fault>
@@ -48,42 +61,83 @@ impl House {
         }
     }
 
-    /// The uid of the queue that a parcel goes to, and the command that it gets.
-    fn delivery_of(&self, source: u64, parcel: Parcel) -> (u64, Command)
-        ensures uid { result.0 ≡ (delivery_of self.now source parcel).uid }
-        ensures command { result.1 ≡ (delivery_of self.now source parcel).command }
-        ensures stays { closes_queue result.1 ≡ false }
+    /// Where the first parcel of the queue of a uid comes from, and the uid of the queue that it is for. It
+    /// takes no memory.
+    fn first_waiting(&self, source: u64) -> Option<(Origin, u64)>
+        ensures { result ≡ option_map (λ p. (p.origin, p.target)) (first_parcel_in self.now source) }
     {
-        let target = parcel.target;
-        if self.has_queue(target) {
-            (target, Command::Arrive { parcel })
-        } else {
-            (source, Command::Orphan { target })
+        self.state(source)?.first_waiting()
+    }
+
+    /// What the queue of a uid answers, at any moment, to a parcel from this origin that it does not accept.
+    fn arrival_answer(&self, target: u64, origin: &Origin) -> Option<Result<Arrival, Fault>>
+        ensures { (parcel : Parcel) (at : ℕ) → parcel.origin ≡ origin.now
+            → option_map (λ answer. as_reply Reply.Arrived answer) result ≡ option_and_then (λ q. reply_without_memory (outcome_at q at (Command.Arrive parcel))) (queue_of_uid self.now target) }
+    {
+        match self.state(target) {
+            Some(queue) => queue.arrival_answer(origin),
+            None => None,
         }
     }
 
-    /// Hands a parcel to its queue, or takes it back where that queue is gone.
+    /// Does a command by which a parcel is handed over, or comes back, in the queue of a uid.
     fn deliver(
+        &mut self,
+        alloc: Global,
+        uid: u64,
+        at: Moment,
+        command: &Command,
+        ticks: &mut Ticks,
+    ) -> Result<Moved, Fault>
+        requires { closes_queue command.now ≡ false }
+        ensures answer { Meets result (as_moved (queue_answer self.old uid at command.now)) }
+        ensures exact { takes_memory_in self.old uid at command.now ≡ false → result ≡ as_moved (queue_answer self.old uid at command.now) }
+        ensures state { self.new ≡ world_after_command self.old uid at command.now result }
+        ensures cost { ticks.new ≤ ticks.old + command_ticks self.old uid at command.now result }
+    {
+        let reply = self.command_in(alloc, uid, at, command, ticks)?;
+        Ok(moved_of(&reply))
+    }
+
+    /// Hands over the first parcel of the queue of a uid, which comes from this origin and is for the queue
+    /// of the uid `target`. That queue is asked first whether it takes the parcel, which is made only then.
+    fn hand_over_first(
         &mut self,
         alloc: Global,
         source: u64,
         at: Moment,
-        parcel: Parcel,
+        origin: &Origin,
+        target: u64,
         ticks: &mut Ticks,
-    ) -> Result<Moved, Fault>
-        ensures answer { Meets result (delivered_answer self.old at (delivery_of self.old source parcel)) }
-        ensures exact { takes_memory_in self.old (delivery_of self.old source parcel).uid at (delivery_of self.old source parcel).command ≡ false
-            → result ≡ delivered_answer self.old at (delivery_of self.old source parcel) }
-        ensures state { self.new ≡ world_after_command self.old (delivery_of self.old source parcel).uid at
-            (delivery_of self.old source parcel).command result }
+    ) -> Result<Result<Moved, Fault>, Fault>
+        requires there { has_queue self.old source ≡ true }
+        requires first { option_map {U = Origin × ℕ} (λ p. (p.origin, p.target)) (first_parcel_in self.old source) ≡ Some (origin.now, target) }
+        ensures answer { MeetsHandOver result (handed_over self.old source at) }
+        ensures exact { hand_over_takes_memory self.old source at ≡ false → result ≡ handed_over self.old source at }
+        ensures ok { IfOk result (λ answer. self.new ≡ world_after_hand_over self.old source at answer) }
+        ensures err { OnErr result (self.new ≡ self.old) }
+        ensures goes { OnErr result (goes_to_queue self.old source ≡ true) }
+        ensures cost { IfOk result (λ answer. ticks.new ≤ ticks.old + hand_over_ticks self.old source at answer) }
+        ensures calm { OnErr result (ticks.new ≡ ticks.old) }
     {
-        let (uid, command) = self.delivery_of(source, parcel);
-        let reply = self.command_in(alloc, uid, at, &command, ticks)?;
-        Ok(moved_of(&reply))
+        self.keep_registry();
+        if !self.has_queue(target) {
+            return Ok(self.deliver(alloc, source, at, &Command::Orphan { target }, ticks));
+        }
+        if let Some(answer) = self.arrival_answer(target, origin) {
+            self.advance_in(target, at, ticks);
+            return Ok(as_moved(answer));
+        }
+        match self.first_parcel(alloc, source)? {
+            Some(parcel) => {
+                Ok(self.deliver(alloc, target, at, &Command::Arrive { parcel }, ticks))
+            }
+            None => unreachable!(),
+        }
     }
 
     /// Hands over the first parcel of the queue of a uid. Where the parcel cannot be made for want of
-    /// memory, nothing is done.
+    /// memory, nothing is done; where the queue that it goes to has no entry to add, none is wanted.
     pub(crate) fn hand_over(
         &mut self,
         alloc: Global,
@@ -92,16 +146,20 @@ impl House {
         ticks: &mut Ticks,
     ) -> Result<Result<Moved, Fault>, Fault>
         ensures answer { MeetsHandOver result (handed_over self.old source at) }
-        ensures none { first_parcel_in self.old source ≡ None → result ≡ handed_over self.old source at }
-        ensures exact { IfOk result (λ answer. hand_over_takes_memory self.old source at ≡ false → Ok answer ≡ handed_over self.old source at) }
+        ensures exact { hand_over_takes_memory self.old source at ≡ false → result ≡ handed_over self.old source at }
         ensures ok { IfOk result (λ answer. self.new ≡ world_after_hand_over self.old source at answer) }
         ensures err { OnErr result (self.new ≡ self.old) }
+        ensures goes { OnErr result (has_queue self.old source ≡ true → goes_to_queue self.old source ≡ true) }
+        ensures cost { IfOk result (λ answer. ticks.new ≤ ticks.old + hand_over_ticks self.old source at answer) }
+        ensures calm { OnErr result (ticks.new ≡ ticks.old) }
     {
         if !self.has_queue(source) {
             return Err(Fault::QueueDoesNotExist);
         }
-        match self.first_parcel(alloc, source)? {
-            Some(parcel) => Ok(self.deliver(alloc, source, at, parcel, ticks)),
+        match self.first_waiting(source) {
+            Some((origin, target)) => {
+                self.hand_over_first(alloc, source, at, &origin, target, ticks)
+            }
             None => Ok(Ok(Moved::None)),
         }
     }
@@ -112,9 +170,9 @@ impl House {
     /// back everything that waited for it, and its policy is cleared where it names that queue. Where no
     /// queue has the uid it is `QueueDoesNotExist`; where no parcel waits it is `None`, and no clock moves;
     /// neither needs memory. A refusal of the queue that the parcel goes to, as `JournalFull`, leaves the
-    /// parcel waiting, and that queue's clock alone has moved. With `OutOfMemory` not even that has moved
-    /// where the parcel itself could not be made; a parcel that was made is answered `OutOfMemory` only
-    /// where that queue has an entry to add.
+    /// parcel waiting, and that queue's clock alone has moved. The answer is `OutOfMemory` only where that
+    /// queue has an entry to add: whether it has one is judged before the parcel is made. Where the parcel
+    /// itself could not be made, that queue's clock has not moved either.
     pub fn arrive_one(
         &mut self,
         alloc: Global,
@@ -123,8 +181,9 @@ impl House {
         ticks: &mut Ticks,
     ) -> Result<Moved, Fault>
         ensures answer { Meets result (arrive_answer self.old source at) }
-        ensures exact { first_parcel_in self.old source ≡ None → result ≡ arrive_answer self.old source at }
+        ensures exact { hand_over_takes_memory self.old source at ≡ false → result ≡ arrive_answer self.old source at }
         ensures state { IsHandedOver self.old source at result self.new }
+        ensures cost { ticks.new ≤ ticks.old + hand_over_ticks self.old source at result }
     {
         match self.hand_over(alloc, source, at, ticks) {
             Ok(answer) => answer,
@@ -168,6 +227,7 @@ impl House {
         ensures answer { Meets result (confirm_answer self.old source at) }
         ensures exact { confirm_takes_memory self.old source at ≡ false → result ≡ confirm_answer self.old source at }
         ensures state { self.new ≡ world_after_confirm self.old source at result }
+        ensures cost { ticks.new ≤ ticks.old + confirm_ticks self.old source at result }
     {
         match self.accepted_number(source) {
             Some(number) => self.command_in(alloc, source, at, &Command::Settle { number }, ticks),
@@ -187,6 +247,7 @@ impl House {
         ensures answer { has_queue self.old source ≡ true → Meets result (confirm_answer self.old source at) }
         ensures exact { has_queue self.old source ≡ true → confirm_takes_memory self.old source at ≡ false → result ≡ confirm_answer self.old source at }
         ensures state { self.new ≡ world_after_confirm self.old source at result }
+        ensures cost { ticks.new ≤ ticks.old + confirm_ticks self.old source at result }
     {
         if !self.has_queue(source) {
             return Err(Fault::QueueDoesNotExist);
@@ -209,6 +270,7 @@ impl House {
         ensures answer { Meets result (move_answer self.old source at) }
         ensures exact { first_parcel_in self.old source ≡ None → result ≡ move_answer self.old source at }
         ensures state { IsMoved self.old source at result self.new }
+        ensures cost { CostsMove self.old source at result self.new ticks.old ticks.new }
     {
         let moved = self.arrive_one(alloc, source, at, ticks)?;
         if !needs_confirmation(moved) {

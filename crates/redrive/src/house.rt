@@ -1,11 +1,11 @@
 //! The queue registry.
 
-ghost use Rattle.std.specs.Prelude.{◌≡◌, ◌≢◌, ℕ, ◌<◌, ◌≤◌, ◌==◌, List, [], ◌∷◌, length, map, vec_capacity, IfSome, IfOk, OnOk, OnErr, IfErr, true, false};
+ghost use Rattle.std.specs.Prelude.{◌≡◌, ◌≢◌, ℕ, ◌+◌, ◌<◌, ◌≤◌, ◌==◌, List, [], ◌∷◌, length, map, vec_capacity, IfSome, IfOk, OnOk, OnErr, IfErr, true, false};
 ghost use Rattle.std.specs.List.{position};
 ghost use Rattle.std.specs.Option.{option_copied, option_map};
 ghost use Rattle.message.specs.Fault.{Meets};
 ghost use Rattle.queue_config.specs.Config.{names_of, configured_uid, rules_of};
-ghost use Rattle.queue_core.specs.Queue.{QueueHistory};
+ghost use Rattle.queue_core.specs.Queue.{QueueHistory, at_moment};
 ghost use Rattle.redrive.specs.Listed.{items_of};
 ghost use Rattle.redrive.specs.WorldRun.{metrics_of};
 
@@ -21,7 +21,8 @@ use std::marker::Model;
 
 /// The queue registry: all queues, each under a name of its own and a uid of its own. Contracts see
 /// the limits that every queue gets, the uid of the next queue, and the queues in the order in which
-/// they were created.
+/// they were created. Each call that is handed a counter of operations counts at most what the queues
+/// that it comes to may, by what it makes of each, also where it is refused or finds no memory.
 #[derive(Debug, Drop)]
 pub struct House {
     queues: Queues,
@@ -114,9 +115,10 @@ fn metrics_of(minute: u64, alarm: usize, queue: &QueueState) -> QueueMetrics
 }
 
 impl House {
-    ghost use Rattle.redrive.specs.World.{empty_world, new_world, next_queue, queue_named, queue_of_uid, has_queue, found_uid, target_uid, may_name_target, may_have_target, may_set, has_no_place, opens_queue, create_answer, with_queue, world_after_create, step_refusal, queue_answer, step_answer, takes_memory_in, takes_memory_at, world_after_command, world_after_step, sources_in_world, sources_answer, take_answer, delete_answer, world_after_delete, names_in_world, world_at_moment, IsRegistry};
+    ghost use Rattle.redrive.specs.World.{empty_world, new_world, next_queue, queue_named, queue_of_uid, has_queue, found_uid, target_uid, may_name_target, may_have_target, may_set, has_no_place, opens_queue, create_answer, with_queue, world_after_create, step_refusal, queue_answer, step_answer, takes_memory_in, takes_memory_at, with_queue_changed, world_after_command, world_after_step, sources_in_world, sources_answer, take_answer, delete_answer, world_after_delete, names_in_world, world_at_moment, IsRegistry};
     ghost use Rattle.redrive.specs.ByPlace.{closes_queue};
     ghost use Rattle.redrive.specs.History.{journal_of, closed_journal};
+    ghost use Rattle.redrive.specs.Cost.{change_ticks, command_ticks, step_ticks, deletion_ticks, moment_ticks};
 
     /// A registry with these limits and no queue.
     fn empty(alloc: Global, limits: Limits) -> House
@@ -275,10 +277,21 @@ impl House {
         ensures answer { Meets result (queue_answer self.old uid at command.now) }
         ensures exact { takes_memory_in self.old uid at command.now ≡ false → result ≡ queue_answer self.old uid at command.now }
         ensures state { self.new ≡ world_after_command self.old uid at command.now result }
+        ensures cost { ticks.new ≤ ticks.old + command_ticks self.old uid at command.now result }
     {
         match self.place_of(uid) {
             Some(place) => self.queues.perform_at(alloc, place, at, command, ticks),
             None => Err(Fault::QueueDoesNotExist),
+        }
+    }
+
+    /// Moves the clock of the queue of a uid to a moment, where that is later.
+    pub(crate) fn advance_in(&mut self, uid: u64, at: Moment, ticks: &mut Ticks)
+        ensures state { self.new ≡ with_queue_changed self.old uid (λ q. at_moment q at) }
+        ensures cost { ticks.new ≤ ticks.old + change_ticks self.old uid (λ q. at_moment q at) }
+    {
+        if let Some(place) = self.place_of(uid) {
+            self.queues.advance_at(place, at, ticks);
         }
     }
 
@@ -337,6 +350,7 @@ impl House {
         ensures refused { IfSome (step_refusal self.old uid command.now) (λ fault. result ≡ Err fault) }
         ensures exact { takes_memory_at self.old uid at command.now ≡ false → result ≡ step_answer self.old uid at command.now }
         ensures state { self.new ≡ world_after_step self.old uid at command.now result }
+        ensures cost { ticks.new ≤ ticks.old + step_ticks self.old uid at command.now result }
     {
         match self.step_refusal(uid, command) {
             Some(fault) => Err(fault),
@@ -357,6 +371,7 @@ impl House {
         ensures answer { Meets result (take_answer self.old uid at) }
         ensures absent { queue_of_uid self.old uid ≡ None → result ≡ Err Fault.QueueDoesNotExist }
         ensures state { self.new ≡ world_after_delete self.old uid at result }
+        ensures cost { ticks.new ≤ ticks.old + deletion_ticks self.old uid at result }
         ensures journal { IfOk result (λ q. (deleted : List QueueHistory)
             → journal_of (record { world = self.new; deleted = q ∷ deleted }) uid
             ≡ option_map (λ old. closed_journal old at) (queue_of_uid self.old uid)) }
@@ -383,6 +398,7 @@ impl House {
         ensures answer { Meets result (delete_answer self.old uid) }
         ensures absent { queue_of_uid self.old uid ≡ None → result ≡ Err Fault.QueueDoesNotExist }
         ensures state { self.new ≡ world_after_delete self.old uid at result }
+        ensures cost { ticks.new ≤ ticks.old + deletion_ticks self.old uid at result }
     {
         self.take_queue(alloc, uid, at, ticks)?;
         Ok(())
@@ -435,7 +451,8 @@ impl House {
 
     /// Looks at every queue at a moment, so that each clock is there at least.
     pub fn advance_all(&mut self, at: Moment, ticks: &mut Ticks)
-        ensures { self.new ≡ world_at_moment self.old at }
+        ensures state { self.new ≡ world_at_moment self.old at }
+        ensures cost { ticks.new ≤ ticks.old + moment_ticks at self.old.queues }
     {
         self.queues.advance_all(at, ticks);
     }

@@ -8,8 +8,9 @@
 //! [`House::move_one`] is two, a hand-over and a confirmation, and [`House::run`] one for each of its steps.
 //! `History` has the deleted queues beside it, whose journals the program does not keep: [`House::take_queue`] hands
 //! a deleted queue over, closed. `WorldRun` is the registry over a list of steps, of which each queue
-//! sees only its own; [`House::run`] is the main theorem for the whole registry. `Listing` is the order
-//! of names, of which [`listed_names_ascend`] is a law.
+//! sees only its own; [`House::run`] is the main theorem for the whole registry. `Cost` bounds what a
+//! call counts by the queues that it comes to. `Listing` is the order of names, of which
+//! [`listed_names_ascend`] is a law.
 #![tactic(auto)]
 
 mod catalog;
@@ -33,5 +34,5 @@ pub use moved::Moved;
 pub use steps::{HouseReply, HouseRun, HouseStep, QueueMetrics};
 pub use transfer_laws::{
     each_departure_has_its_fate, each_message_has_one_place, moves_are_steps, moves_leave_fewer,
-    no_queue_is_its_own_target, transfers_are_accepted_once,
+    no_queue_is_its_own_target, own_steps_are_history_steps, transfers_are_accepted_once,
 };

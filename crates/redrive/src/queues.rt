@@ -1,10 +1,12 @@
 //! The list of the queues that are there.
 
-ghost use Rattle.std.specs.Prelude.{◌≡◌, ◌<◌, false, length, slice_get, Ok, IfSome, OnOk, OnErr, IfErr};
+ghost use Rattle.std.specs.Prelude.{◌≡◌, ◌+◌, ◌<◌, ◌≤◌, false, length, slice_get, Ok, IfSome, OnOk, OnErr, IfErr};
 ghost use Rattle.message.specs.declared.fault.Fault.TheVariants.{OutOfMemory};
 ghost use Rattle.message.specs.Fault.{Meets};
 ghost use Rattle.queue_core.specs.Messages.{is_closed};
 ghost use Rattle.queue_core.specs.Queue.{at_moment, outcome_at, takes_memory, after_answer};
+ghost use Rattle.queue_core.specs.Cost.{most_ticks};
+ghost use Rattle.redrive.specs.Cost.{after_deletion, moment_ticks};
 ghost use Rattle.redrive.specs.World.{closed_queue};
 
 use crate::catalog::UID_LIMIT;
@@ -41,6 +43,7 @@ fn close(queue: &mut QueueState, alloc: Global, at: Moment, ticks: &mut Ticks) -
     ensures closed { OnOk result (queue.new ≡ closed_queue queue.old at) }
     ensures moved { OnErr result (queue.new ≡ at_moment queue.old at) }
     ensures errors { IfErr result (λ fault. fault ≡ OutOfMemory) }
+    ensures cost { ticks.new ≤ ticks.old + most_ticks queue.old queue.new }
 {
     queue.close(alloc, at, ticks)
 }
@@ -118,6 +121,7 @@ impl Queues {
         ensures exact { IfSome (slice_get self.old.queues place) (λ q. takes_memory (outcome_at q at command.now) ≡ false
             → result ≡ (outcome_at q at command.now).reply) }
         ensures state { self.new ≡ with_place_changed self.old place (λ q. after_answer q at command.now result) }
+        ensures cost { IfSome (slice_get self.old.queues place) (λ q. ticks.new ≤ ticks.old + most_ticks q (after_answer q at command.now result)) }
     {
         self.queues[place].perform(alloc, at, command, ticks)
     }
@@ -137,6 +141,7 @@ impl Queues {
         ensures ok { OnOk result (self.new ≡ without_place self.old place) }
         ensures err { OnErr result (self.new ≡ with_place_changed self.old place (λ q. at_moment q at)) }
         ensures errors { IfErr result (λ fault. fault ≡ OutOfMemory) }
+        ensures cost { IfSome (slice_get self.old.queues place) (λ q. ticks.new ≤ ticks.old + most_ticks q (after_deletion q at result)) }
     {
         match close(&mut self.queues[place], alloc, at, ticks) {
             Ok(()) => Ok(self.queues.remove(place)),
@@ -144,9 +149,19 @@ impl Queues {
         }
     }
 
+    /// Moves the clock of the queue at a place to a moment, where that is later.
+    pub(crate) fn advance_at(&mut self, place: usize, at: Moment, ticks: &mut Ticks)
+        requires { place < length self.old.queues }
+        ensures state { self.new ≡ with_place_changed self.old place (λ q. at_moment q at) }
+        ensures cost { IfSome (slice_get self.old.queues place) (λ q. ticks.new ≤ ticks.old + most_ticks q (at_moment q at)) }
+    {
+        self.queues[place].advance(at, ticks);
+    }
+
     /// Looks at every queue at a moment, so that each clock is there at least.
     pub(crate) fn advance_all(&mut self, at: Moment, ticks: &mut Ticks)
-        ensures { self.new ≡ world_at_moment self.old at }
+        ensures state { self.new ≡ world_at_moment self.old at }
+        ensures cost { ticks.new ≤ ticks.old + moment_ticks at self.old.queues }
     {
         for queue in self.queues.iter_mut() {
             queue.look(at, ticks);

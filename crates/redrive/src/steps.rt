@@ -1,6 +1,6 @@
 //! The queue registry over a list of steps.
 
-ghost use Rattle.std.specs.Prelude.{◌≡◌, ℕ, false, IfOk, OnErr, IfErr};
+ghost use Rattle.std.specs.Prelude.{◌≡◌, ℕ, ◌+◌, ◌≤◌, false, IfOk, OnErr, IfErr};
 
 use crate::house::House;
 use crate::moved::Moved;
@@ -91,6 +91,7 @@ pub struct HouseRun {
 impl House {
     ghost use Rattle.redrive.specs.History.{AllQueues, IsWholeHistory};
     ghost use Rattle.redrive.specs.World.{queue_of_uid, IsRegistry};
+    ghost use Rattle.redrive.specs.Cost.{ticks_of_step, ticks_of_steps};
     ghost use Rattle.redrive.specs.WorldRun.{answer_of_step, needs_memory, MeetsAnswer, world_after, AreHouseAnswers, world_after_all, history_after, IsAsIfAlone, AreRecomputed};
 
     /// Does one step.
@@ -103,6 +104,7 @@ impl House {
         ensures answer { MeetsAnswer result (answer_of_step self.old step.now) }
         ensures exact { needs_memory self.old step.now result ≡ false → result ≡ answer_of_step self.old step.now }
         ensures state { self.new ≡ world_after self.old step.now result }
+        ensures cost { ticks.new ≤ ticks.old + ticks_of_step self.old step.now result }
         ensures registry { IsRegistry self.old }
     {
         self.keep_registry();
@@ -151,6 +153,8 @@ impl House {
             → IsWholeHistory (history_after all steps.now run.answers.items)) }
         ensures recomputed { IfOk result (λ run. AreRecomputed self.old self.new steps.now run.answers.items minute alarm run.metrics.items) }
         ensures err { OnErr result (self.new ≡ self.old) }
+        ensures cost { IfOk result (λ run. ticks.new ≤ ticks.old + ticks_of_steps self.old steps.now run.answers.items) }
+        ensures calm { OnErr result (ticks.new ≡ ticks.old) }
         ensures errors { IfErr result (λ fault. fault ≡ Fault.OutOfMemory) }
     {
         let mut answers = Vec::with_capacity(alloc, steps.len())?;

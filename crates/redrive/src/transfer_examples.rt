@@ -2,16 +2,15 @@
 //! computes what its contract says.
 
 ghost use Rattle.std.specs.Prelude.{◌≡◌, List, [], ◌∷◌};
-ghost use Rattle.redrive.specs.declared.steps.HouseStep.{HouseStep};
-ghost use Rattle.redrive.specs.World.{World};
-ghost use Rattle.redrive.specs.WorldRun.{AreHouseAnswers};
+ghost use Rattle.redrive.specs.History.{AllQueues};
+ghost use Rattle.redrive.specs.HistorySteps.{HistoryStep, AreHistoryAnswers};
 ghost use Rattle.redrive.specs.TransferExamples.{answers_to};
 ghost use Rattle.redrive.specs.TransferExamples as example;
 
-/// The runs are such as the laws speak of: whatever the steps are, each of these answers is that of
-/// the registry.
+/// The runs are such as the laws speak of: whatever the steps are, each of these answers is the one
+/// that is wanted.
 pub fn steps_are_answered()
-    ensures { (w : World) (steps : List HouseStep) → AreHouseAnswers w steps (answers_to w steps) }
+    ensures { (all : AllQueues) (steps : List HistoryStep) → AreHistoryAnswers all steps (answers_to all steps) }
 {}
 
 /// A message moves on from queue to queue, and is in one of them only.
@@ -29,6 +28,13 @@ pub fn deleting_a_relay_doubles_a_message()
         ≡ example.stands_at 1 0 ∷ example.stands_at 3 0 ∷ [] }
     ensures confirmed_before { example.standing_after example.confirmed_and_deleted
         ≡ example.stands_at 3 0 ∷ [] }
+{}
+
+/// A transfer that was accepted can be confirmed after its queue was deleted, by threads: then the
+/// message went with that queue. The registry, which keeps no journal of it, takes the message back.
+pub fn transfers_are_confirmed_late()
+    ensures confirmed { example.standing_after_all example.confirmed_late ≡ [] }
+    ensures by_itself { example.standing_after example.confirmed_late_by_itself ≡ example.stands_at 1 0 ∷ [] }
 {}
 
 /// A message that is deleted in a dead-letter queue comes back to its source, where that queue is

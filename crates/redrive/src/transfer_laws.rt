@@ -1,7 +1,8 @@
-//! Laws about dead letters, over every list of steps of the registry. Nothing runs here: each
-//! function is empty, and its contract is the law.
+//! Laws about dead letters, over every list of steps of everything that a registry ever had: those of
+//! the registry, and confirmations that ask deleted queues too, as threads can give them. Nothing runs
+//! here: each function is empty, and its contract is the law.
 
-ghost use Rattle.std.specs.Prelude.{◌≡◌, ◌≢◌, ℕ, ◌<◌, length, false, List, [], ◌∷◌, Result, Ok};
+ghost use Rattle.std.specs.Prelude.{◌≡◌, ◌≢◌, ℕ, ◌<◌, length, false, List, [], ◌∷◌, map, Result, Ok};
 ghost use Rattle.std.specs.Option.{ForSome};
 ghost use Rattle.std.specs.List.{All};
 ghost use Rattle.message.specs.declared.fault.Fault.{Fault};
@@ -13,6 +14,8 @@ ghost use Rattle.redrive.specs.declared.steps.HouseStep.TheVariants.{HandOver};
 ghost use Rattle.redrive.specs.declared.moved.Moved.{Moved};
 ghost use Rattle.redrive.specs.World.{World, new_world, queue_of_uid, arrive_answer, IsHandedOver, IsMoved, has_target};
 ghost use Rattle.redrive.specs.Waiting.{waiting_in};
+ghost use Rattle.redrive.specs.History.{AllQueues};
+ghost use Rattle.redrive.specs.HistorySteps.{HistoryStep, Own, AreHistoryAnswers, after_history_steps};
 ghost use Rattle.redrive.specs.WorldRun.{Answer, AreHouseAnswers, AreStepsTo, steps_of_move, world_after_all, history_after};
 ghost use Rattle.redrive.specs.Places.{first_history, EachAcceptedOnce, EachHasItsFate, EachHasOnePlace, NoRelayDeleted};
 
@@ -20,9 +23,9 @@ ghost use Rattle.redrive.specs.Places.{first_history, EachAcceptedOnce, EachHasI
 /// of a queue that is there or was deleted has two entries that accept the same message of the same
 /// source.
 pub fn transfers_are_accepted_once()
-    ensures { (config : Configuration) (at : ℕ) (steps : List HouseStep) (answers : List Answer)
-        → AreHouseAnswers (new_world config at) steps answers
-        → EachAcceptedOnce (history_after (first_history config at) steps answers) }
+    ensures { (config : Configuration) (at : ℕ) (steps : List HistoryStep) (answers : List Answer)
+        → AreHistoryAnswers (first_history config at) steps answers
+        → EachAcceptedOnce (after_history_steps (first_history config at) steps answers) }
 {}
 
 /// In each queue that is there, each message that left for a dead-letter queue waits for it still, or
@@ -30,9 +33,9 @@ pub fn transfers_are_accepted_once()
 /// that queue is gone. A message that left more than once has such a fate each time; the first entry
 /// behind the departure that ends the transfer tells which.
 pub fn each_departure_has_its_fate()
-    ensures { (config : Configuration) (at : ℕ) (steps : List HouseStep) (answers : List Answer)
-        → AreHouseAnswers (new_world config at) steps answers
-        → EachHasItsFate (history_after (first_history config at) steps answers) }
+    ensures { (config : Configuration) (at : ℕ) (steps : List HistoryStep) (answers : List Answer)
+        → AreHistoryAnswers (first_history config at) steps answers
+        → EachHasItsFate (after_history_steps (first_history config at) steps answers) }
 {}
 
 /// Each message is in one place at most: live in one queue under one number, or in transit from one.
@@ -40,10 +43,19 @@ pub fn each_departure_has_its_fate()
 /// transfer by which the message came there is not confirmed at its source, although a next queue has
 /// accepted it from there. The source would take the message back, since it cannot know.
 pub fn each_message_has_one_place()
-    ensures { (config : Configuration) (at : ℕ) (steps : List HouseStep) (answers : List Answer)
-        → AreHouseAnswers (new_world config at) steps answers
+    ensures { (config : Configuration) (at : ℕ) (steps : List HistoryStep) (answers : List Answer)
+        → AreHistoryAnswers (first_history config at) steps answers
         → NoRelayDeleted (first_history config at) steps answers
-        → EachHasOnePlace (history_after (first_history config at) steps answers) }
+        → EachHasOnePlace (after_history_steps (first_history config at) steps answers) }
+{}
+
+/// The registry's own steps are steps of everything that it ever had: they are answered so, and leave
+/// the same. So the laws over lists of such steps are laws of [`House::run`](crate::House::run).
+pub fn own_steps_are_history_steps()
+    ensures answered { (all : AllQueues) (steps : List HouseStep) (answers : List Answer)
+        → AreHouseAnswers all.world steps answers → AreHistoryAnswers all (map Own steps) answers }
+    ensures left { (all : AllQueues) (steps : List HouseStep) (answers : List Answer)
+        → after_history_steps all (map Own steps) answers ≡ history_after all steps answers }
 {}
 
 /// What [`House::arrive_one`](crate::House::arrive_one) and [`House::move_one`](crate::House::move_one)

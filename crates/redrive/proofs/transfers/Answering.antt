@@ -1,9 +1,9 @@
--- What the registry answers where no memory is wanting meets what is wanted.
+-- What is answered where no memory is wanting meets what is wanted.
 use Rattle.std.proofs.Common.{List, [], ◌∷◌, Ok, refl}
 use Rattle.redrive.specs.declared.steps.HouseReply.TheVariants as replies
-use Rattle.redrive.specs.declared.steps.HouseStep.{HouseStep}
-use Rattle.redrive.specs.World.{World}
-use Rattle.redrive.specs.WorldRun.{Answer, answer_of_step, world_after, MeetsAnswer, AreHouseAnswers}
+use Rattle.redrive.specs.History.{AllQueues}
+use Rattle.redrive.specs.WorldRun.{Answer, MeetsAnswer}
+use Rattle.redrive.specs.HistorySteps.{HistoryStep, Own, Settle, answer_in_history, IsHistoryAnswer, after_history_step, AreHistoryAnswers}
 use Rattle.redrive.specs.TransferExamples.{answers_to}
 use Rattle.redrive.proofs.AnswerLemmas.{meets-itself}
 
@@ -11,6 +11,10 @@ answer-meets_itself : (answer : Answer) → MeetsAnswer answer answer
 answer-meets_itself (Ok (replies.HandedOver answer)) = meets-itself answer
 answer-meets_itself answer = meets-itself answer
 
-pub answered : (w : World) (steps : List HouseStep) → AreHouseAnswers w steps (answers_to w steps)
-answered w [] = tt
-answered w (step ∷ steps) = (record { meets = answer-meets_itself (answer_of_step w step); exact = λ h. refl }, answered (world_after w step (answer_of_step w step)) steps)
+wanted : (all : AllQueues) (step : HistoryStep) → IsHistoryAnswer all step (answer_in_history all step)
+wanted all (Own step) = record { meets = answer-meets_itself (answer_in_history all (Own step)); exact = λ h. refl }
+wanted all (Settle at source) = meets-itself (answer_in_history all (Settle at source))
+
+pub answered : (all : AllQueues) (steps : List HistoryStep) → AreHistoryAnswers all steps (answers_to all steps)
+answered all [] = tt
+answered all (step ∷ steps) = (wanted all step, answered (after_history_step all step (answer_in_history all step)) steps)

@@ -57,7 +57,7 @@ module _ (old new : World) (source at : ℕ) (answer : Result Moved Fault) where
   handed meets (inl h) = delivered (has_queue old source) refl meets h.exact h.left
   handed meets (inr h) = record {
     answer = Err OutOfMemory;
-    answered = record { meets = tt; exact = λ none. absurd (false≢true (sym none ∙ h.waits)) };
+    answered = record { meets = tt; exact = λ none. absurd (false≢true (sym none ∙ h.takes)) };
     left = h.left;
   }
 

@@ -36,18 +36,12 @@ leaving-present q maximum timeout n h =
 -- what an entry says that a command of a request adds
 abbrev pub IsOwn : Lines → Event ContentText → Type 0
 IsOwn lines (Opened uid settings) = ⊥
-IsOwn lines (Sent delay content) = ⊤
 IsOwn lines (Arrived origin content) = ⊥
 IsOwn lines (Received timeout offered leaving target) = ArePresent lines leaving
-IsOwn lines (Changed number timeout) = ⊤
-IsOwn lines (Deleted number) = ⊤
-IsOwn lines DeletedAgain = ⊤
-IsOwn lines Purged = ⊤
-IsOwn lines (Set settings) = ⊤
 IsOwn lines (Settled number) = ⊥
 IsOwn lines (Orphaned target) = ⊥
-IsOwn lines (Refused fault) = ⊤
 IsOwn lines Closed = ⊥
+IsOwn lines event = ⊤
 
 pub if_some-at : (P : Event ContentText → Type 0) (o : Option (Event ContentText)) (event : Event ContentText) → IfSome o P → o ≡ Some event → P event
 if_some-at P o event h e = subst (λ (o : Option (Event ContentText)). IfSome o P) e h

@@ -1,9 +1,9 @@
 -- Each departure from an open queue has its fate, and what is among the pending transfers waits.
-use Rattle.std.proofs.Common.{◌≡◌, ℕ, zero, suc, ◌<◌, Bool, true, false, not, ◌||◌, cond, [], ◌∷◌, length, drop, Option, Some, None, refl, sym, ap, subst, inl, inr, ◌∙◌, arith, eqb-true}
-use Rattle.std.specs.Prelude.{◌⊎◌, nat_eq, slice_get, filter}
+use Rattle.std.proofs.Common.{◌≡◌, ℕ, zero, suc, ◌<◌, ◌≤◌, Bool, true, false, not, ◌||◌, cond, [], ◌∷◌, length, drop, Option, Some, None, refl, sym, ap, subst, inl, inr, ◌∙◌, arith, eqb-true}
+use Rattle.std.specs.Prelude.{◌⊎◌, ◌-◌, nat_lt, slice_get, filter}
 use Rattle.std.specs.Option.{option_map_or, option_or}
 use Rattle.std.specs.List.{list_any, Contains}
-use Rattle.std.proofs.lemmas.Bool.{or_parts, or_right, not-true, false≢true}
+use Rattle.std.proofs.lemmas.Bool.{ltb-false, or_parts, or_right, not-true, false≢true}
 use Rattle.std.proofs.lemmas.List.{drop-append-le, drop_all, length-append}
 use Rattle.std.proofs.lemmas.List.Elements.{Contains-append_cases}
 use Rattle.std.proofs.lemmas.List.Folds.{find-append}
@@ -19,7 +19,7 @@ use Rattle.queue_core.specs.declared.facts.Transfer.{Transfer}
 use Rattle.queue_core.specs.Messages.{effect_of, contains_number, status_after, course_of, returns, is_returned, loses, departures, ends_transfer, pending_transfers, closes, has_accepted}
 use Rattle.queue_core.specs.States.{message_numbered, is_numbered}
 use Rattle.redrive.specs.Places.{status_numbered, end_of, IsDeparture, StillWaits, CameBack}
-use Rattle.queue_core.proofs.PushLemmas.{slice_get-push, numbered-kept, course-kept}
+use Rattle.queue_core.proofs.PushLemmas.{slice_get-append, slice_get-only, numbered-kept, course-kept}
 use Rattle.queue_core.proofs.OfferLemmas.{Contains-from_filter}
 use Rattle.queue_core.proofs.PendingLemmas.{Contains-nil, departed, status-leaving, status-kept}
 use Rattle.redrive.proofs.transfers.Journals.{Line, Lines, more, stands_from, stands_gives, stands_once, stands_kept, accepted_kept}
@@ -222,19 +222,22 @@ module _ (v : View) (u : ℕ) (e : Line) (step : IsStep v u e.event) (fates : Ar
       inl (record { unended = refl; waits = status_kept (v.lines u) e t.number Present d.0 ∙ (ap Some d.1 ∙ ap (λ (i : ℕ). Some (Waiting i)) target) })
 
   fates-at : (place : ℕ) (t : Transfer) (entry : Line) → contains_number t.number (effect_of entry.event).departures ≡ true → (effect_of entry.event).target ≡ t.target
-      → (b : Bool) → nat_eq place (length (v.lines u)) ≡ b → cond b (Some e) (slice_get (v.lines u) place) ≡ Some entry → Fate (accepted_from v u) (more (v.lines u) e) t (drop (suc place) (more (v.lines u) e))
-  fates-at place t entry leaves target false differs stands =
+      → (b : Bool) → nat_lt place (length (v.lines u)) ≡ b → cond b (slice_get (v.lines u) place) (slice_get (e ∷ []) (place - length (v.lines u))) ≡ Some entry
+      → Fate (accepted_from v u) (more (v.lines u) e) t (drop (suc place) (more (v.lines u) e))
+  fates-at place t entry leaves target true before stands =
       let within : place < length (v.lines u) = slice_get_within (v.lines u) place entry stands in
       subst (Fate (accepted_from v u) (more (v.lines u) e) t) (sym (drop-append-le (suc place) (v.lines u) (e ∷ []) within))
       (fate-more t (drop (suc place) (v.lines u)) (fates place t (record { entry = entry; stands = stands; leaves = leaves; target = target })))
-  fates-at place t entry leaves target true last same =
-      let is : entry ≡ e = sym (same_Some e entry same) in
-      let end : place ≡ length (v.lines u) = eqb-true place (length (v.lines u)) last in
+  fates-at place t entry leaves target false behind same =
+      let only = slice_get-only e entry (place - length (v.lines u)) same in
+      let is : entry ≡ e = sym only.1 in
+      let past : length (v.lines u) ≤ place = ltb-false place (length (v.lines u)) behind in
+      let end : place ≡ length (v.lines u) = omega (arith, only.0) in
       subst (Fate (accepted_from v u) (more (v.lines u) e) t) (sym (drop_all (suc place) (more (v.lines u) e) (rw length-append (omega arith))))
       (fate-new t (subst (λ (x : Line). contains_number t.number (effect_of x.event).departures ≡ true) is leaves) (subst (λ (x : Line). (effect_of x.event).target ≡ t.target) is target))
 
   fates-more : AreFates (accepted_from v u) (more (v.lines u) e)
-  fates-more place t d = fates-at place t d.entry d.leaves d.target (nat_eq place (length (v.lines u))) refl (sym (slice_get-push (v.lines u) (Some e) place) ∙ d.stands)
+  fates-more place t d = fates-at place t d.entry d.leaves d.target (nat_lt place (length (v.lines u))) refl (sym (slice_get-append (v.lines u) (e ∷ []) place) ∙ d.stands)
 
 -- ---- fates after a step
 

@@ -1,5 +1,5 @@
 -- Who holds a message: no two numbers of open queues hold one of the same id.
-use Rattle.std.proofs.Common.{◌≡◌, ℕ, ◌≤◌, ◌<◌, Bool, true, false, ◌&&◌, cond, [], length, Option, Some, None, refl, sym, ap, subst, inl, inr, ◌∙◌, arith, eqb-true, eq-eqb}
+use Rattle.std.proofs.Common.{◌≡◌, ℕ, ◌≤◌, ◌<◌, Bool, true, false, ◌&&◌, cond, [], Option, Some, None, refl, sym, ap, subst, inl, inr, ◌∙◌, arith, eqb-true, eq-eqb}
 use Rattle.std.specs.Prelude.{⊤, ◌⊎◌, nat_eq}
 use Rattle.std.specs.Option.{option_map_or}
 use Rattle.std.proofs.lemmas.Bool.{cases_eq, and_parts, or_right, false≢true}
@@ -15,8 +15,8 @@ use Rattle.queue_core.specs.declared.facts.Status.TheVariants.{Present, Removed,
 use Rattle.queue_core.specs.Messages.{Birth, effect_of, contains_number, messages, message_count, own_id, message_id, status_after, course_of, loses, accepts, has_accepted}
 use Rattle.queue_core.specs.States.{message_numbered}
 use Rattle.redrive.specs.Places.{status_numbered, came_from}
-use Rattle.queue_core.proofs.PushLemmas.{born_by, IsNew, numbered-below, numbered-cases, numbered-kept, count-push, accepted-push}
-use Rattle.redrive.proofs.transfers.Journals.{Line, Lines, more, Stands, stands_from, stands_gives, stands_once, stands_kept, Stood, Before, New, stood, Came, accepted_came}
+use Rattle.queue_core.proofs.PushLemmas.{slice_get-only, IsNew, numbered-below, numbered-cases, numbered-kept, count-push, accepted-push}
+use Rattle.redrive.proofs.transfers.Journals.{Line, Lines, more, Stands, stands_from, stands_gives, stands_once, stands_kept, Stood, Before, New, stood, Came, accepted_came, Begins, begun, unbegun}
 use Rattle.redrive.proofs.transfers.Views.{View, IsArrival, IsSettling, IsStep, Grows, IsOpened, IsClosed, Change, Stays, Steps, Opens, Closes, by_uid, by_growth}
 use Rattle.redrive.proofs.transfers.Fates.{open_stays, confirmed-settling, HasFates, accepted_from, Keeps, keeps-same, keeps-grown, pending-waits, fates-opened, fates-after}
 
@@ -40,10 +40,10 @@ pub record Continues (v v' : View) : Type 0 where
   pub born : (u n : ℕ) (m : Message) → message_numbered (v'.lines u) n ≡ Some m → (message_numbered (v.lines u) n ≡ Some m) ⊎ IsBorn v v' u n m
   pub count : (u : ℕ) → message_count (v.lines u) ≤ message_count (v'.lines u)
 
-beginning-step : (v : View) (u : ℕ) (event : Event ContentText) (b : Birth ContentText) (m : Message) → IsStep v u event → (effect_of event).birth ≡ Some b → m.origin ≡ b.origin → Beginning v u m
-beginning-step v u (Sent delay content) b m step h o = WasSent (o ∙ sym (ap (λ (x : Birth ContentText). x.origin) (same_Some _ b h)))
-beginning-step v u (Arrived origin content) b m step h o = HasCome origin (o ∙ sym (ap (λ (x : Birth ContentText). x.origin) (same_Some _ b h))) step
-beginning-step v u event b m step h o = absurd cc
+beginning-step : (v : View) (u : ℕ) (event : Event ContentText) (b : Birth ContentText) (m : Message) → IsStep v u event → Begins event b → m.origin ≡ b.origin → Beginning v u m
+beginning-step v u (Sent delay content) b m step h o = WasSent (o ∙ sym (ap (λ (x : Birth ContentText). x.origin) (slice_get-only _ b h.0 h.1).1))
+beginning-step v u (Arrived origin content) b m step h o = HasCome origin (o ∙ sym (ap (λ (x : Birth ContentText). x.origin) (slice_get-only _ b h.0 h.1).1)) step
+beginning-step v u event b m step h o = absurd (unbegun event b refl h)
 
 module _ (v v' : View) where
   continues-same : ((w : ℕ) → v'.lines w ≡ v.lines w) → Continues v v'
@@ -61,17 +61,17 @@ module _ (v v' : View) where
     count-grown w = by_growth v v' u e g (λ one other. message_count one ≤ message_count other) (omega (arith, count-push (v.lines u) e)) (λ ls. omega arith) w
 
     -- where it is known how what the entry begins comes to be
-    module _ (says : (b : Birth ContentText) (m : Message) → (effect_of e.event).birth ≡ Some b → m.origin ≡ b.origin → Beginning v u m) where
+    module _ (says : (b : Birth ContentText) (m : Message) → Begins e.event b → m.origin ≡ b.origin → Beginning v u m) where
       born-cases : (n : ℕ) (m : Message) → message_numbered (v'.lines u) n ≡ Some m → (message_numbered (v.lines u) n ≡ Some m) ⊎ IsNew (v.lines u) e n m
           → (message_numbered (v.lines u) n ≡ Some m) ⊎ IsBorn v v' u n m
       born-cases n m is (inl h) = inl h
       born-cases n m is (inr h) =
-          let b = born_by (length (v.lines u)) n e m h.1 in
+          let b = begun (v.lines u) e n m h in
           inr (record {
-            its_number = b.numbered;
-            last = h.0;
+            its_number = b.its_number;
+            last = b.last;
             counted = numbered-below (v'.lines u) n m is;
-            beginning = says b.birth_is.0 m b.birth_is.1 b.birth_is.2;
+            beginning = says b.birth m b.begins b.origin;
           })
 
       born-here : (n : ℕ) (m : Message) → message_numbered (v'.lines u) n ≡ Some m → (message_numbered (v.lines u) n ≡ Some m) ⊎ IsBorn v v' u n m
@@ -85,8 +85,8 @@ module _ (v v' : View) where
       continues-grown : Continues v v'
       continues-grown = record { kept = kept-grown; born = born-grown; count = count-grown }
 
-  no-birth : (event other : Event ContentText) → event ≡ other → (effect_of other).birth ≡ None → (u : ℕ) (b : Birth ContentText) (m : Message) → (effect_of event).birth ≡ Some b → m.origin ≡ b.origin → Beginning v u m
-  no-birth event other e h u b m k o = absurd (none-some b (sym h ∙ (ap (λ (x : Event ContentText). (effect_of x).birth) (sym e) ∙ k)))
+  no-birth : (event other : Event ContentText) → event ≡ other → (effect_of other).births ≡ [] → (u : ℕ) (b : Birth ContentText) (m : Message) → Begins event b → m.origin ≡ b.origin → Beginning v u m
+  no-birth event other e h u b m k o = absurd (unbegun event b (ap (λ (x : Event ContentText). (effect_of x).births) e ∙ h) k)
 
   pub continues-opened : (u : ℕ) (e : Line) → Grows v v' u e → IsOpened v v' u e → Continues v v'
   continues-opened u e g o = continues-grown u e g (no-birth e.event (Opened u o.settings) o.opening refl u)
@@ -197,17 +197,17 @@ module _ (v v' : View) where
   taken-same : Keeps v v' → AreTaken v → (u n : ℕ) (m : Message) → v'.lines u ≡ v.lines u → v.is_open u ≡ true → Stands (v'.lines u) n m Transferred → WasTaken v' u n
   taken-same keeps taken u n m same here s = taken-kept keeps u n (taken u n m here (subst (λ (ls : Lines). Stands ls n m Transferred) same s))
 
-  nothing-stands : (e : Line) (lines : Lines) (n : ℕ) (m : Message) (s : Status) → lines ≡ [] → (effect_of e.event).birth ≡ None → Stands (more lines e) n m s → ⊥
+  nothing-stands : (e : Line) (lines : Lines) (n : ℕ) (m : Message) (s : Status) → lines ≡ [] → (effect_of e.event).births ≡ [] → Stands (more lines e) n m s → ⊥
   nothing-stands e lines n m s empty none h =
       no_message (numbered-cases [] e n m (subst (λ (ls : Lines). message_numbered (more ls e) n ≡ Some m) empty h.numbered))
     where
       no_message : (message_numbered {C = ContentText} [] n ≡ Some m) ⊎ IsNew [] e n m → ⊥
       no_message (inl k) = none-some m k
-      no_message (inr k) = let b = (born_by 0 n e m k.1).birth_is in none-some b.0 (sym none ∙ b.1)
+      no_message (inr k) = let b = begun [] e n m k in unbegun e.event b.birth none b.begins
 
   opened-empty : (u : ℕ) (e : Line) → Grows v v' u e → IsOpened v v' u e → (n : ℕ) (m : Message) (s : Status) → Stands (v'.lines u) n m s → ⊥
   opened-empty u e g o n m s h =
-      nothing-stands e (v.lines u) n m s o.unused (ap (λ (x : Event ContentText). (effect_of x).birth) o.opening) (subst (λ (ls : Lines). Stands ls n m s) g.here h)
+      nothing-stands e (v.lines u) n m s o.unused (ap (λ (x : Event ContentText). (effect_of x).births) o.opening) (subst (λ (ls : Lines). Stands ls n m s) g.here h)
 
   pub taken-opened : (u : ℕ) (e : Line) → Grows v v' u e → IsOpened v v' u e → AreTaken v → AreTaken v'
   taken-opened u e g o taken w n m there =
@@ -311,16 +311,17 @@ lost-shut : (v : View) (u target : ℕ) (event : Event ContentText) → IsStep v
 lost-shut v u target (Orphaned other) step h = subst (λ (i : ℕ). v.is_open i ≡ false) (eqb-true other target h) step
 lost-shut v u target event step h = absurd (false≢true h)
 
-waits_at_birth : (n target : ℕ) (event : Event ContentText) (b : Birth ContentText) → (effect_of event).birth ≡ Some b → status_after n (Waiting target) event ≡ Waiting target
+waits_at_birth : (n target : ℕ) (event : Event ContentText) (b : Birth ContentText) → Begins event b → status_after n (Waiting target) event ≡ Waiting target
 waits_at_birth n target (Sent delay content) b h = refl
 waits_at_birth n target (Arrived origin content) b h = refl
-waits_at_birth n target event b h = absurd cc
+waits_at_birth n target event b h = absurd (unbegun event b refl h)
 
-accepts_its_origin : (event : Event ContentText) (b : Birth ContentText) (o : Origin) → (effect_of event).birth ≡ Some b → b.origin ≡ Some o → accepts o.uid o.number event ≡ true
-accepts_its_origin event b o h k =
-    ap (λ (x : Option (Birth ContentText)). option_map_or (λ birth. option_map_or (λ p. nat_eq p.uid o.uid && nat_eq p.number o.number) birth.origin false) x false) h
-    ∙ (ap (λ (x : Option Origin). option_map_or (λ p. nat_eq p.uid o.uid && nat_eq p.number o.number) x false) k
-    ∙ (ap (λ b. b && nat_eq o.number o.number) (eq-eqb o.uid o.uid refl) ∙ eq-eqb o.number o.number refl))
+accepts_its_origin : (event : Event ContentText) (b : Birth ContentText) (o : Origin) → Begins event b → b.origin ≡ Some o → accepts o.uid o.number event ≡ true
+accepts_its_origin (Sent delay content) b o h k = absurd (none-some o (ap (λ (x : Birth ContentText). x.origin) (slice_get-only _ b h.0 h.1).1 ∙ k))
+accepts_its_origin (Arrived origin content) b o h k =
+    let same : origin ≡ o = same_Some origin o (ap (λ (x : Birth ContentText). x.origin) (slice_get-only _ b h.0 h.1).1 ∙ k) in
+    rw (eq-eqb origin.uid o.uid (ap (λ (x : Origin). x.uid) same), eq-eqb origin.number o.number (ap (λ (x : Origin). x.number) same)) refl
+accepts_its_origin event b o h k = absurd (unbegun event b refl h)
 
 module _ (v v' : View) (u : ℕ) (e : Line) (g : Grows v v' u e) (gates : (w : ℕ) → v'.is_open w ≡ v.is_open w) (here : v.is_open u ≡ true) (step : IsStep v u e.event) (sound : IsSound v) where
   keeps : Keeps v v'
@@ -346,7 +347,7 @@ module _ (v v' : View) (u : ℕ) (e : Line) (g : Grows v v' u e) (gates : (w : �
   holds-was n Transferred h = absurd (transferred-before n ((effect_of e.event).closes) (open_stays v u e.event step) h)
 
   -- the message at an origin waits, before and after
-  stays-waiting : (o : Origin) (b : Birth ContentText) → (effect_of e.event).birth ≡ Some b → (m : Message) → Stands (v.lines o.uid) o.number m (Waiting u) → Stands (v'.lines o.uid) o.number m (Waiting u)
+  stays-waiting : (o : Origin) (b : Birth ContentText) → Begins e.event b → (m : Message) → Stands (v.lines o.uid) o.number m (Waiting u) → Stands (v'.lines o.uid) o.number m (Waiting u)
   stays-waiting o b birth m s =
       elim (cases_eq o.uid u) [
         | inl same ↦ subst (λ (i : ℕ). Stands (v'.lines i) o.number m (Waiting u)) (sym same)
@@ -361,7 +362,7 @@ module _ (v v' : View) (u : ℕ) (e : Line) (g : Grows v v' u e) (gates : (w : �
       stands_from (v.lines o.uid) o.number (Waiting u)
       (pending-waits (accepted_from v o.uid) (v.lines o.uid) (record { number = o.number; target = u }) (sound.fates o.uid a.there) a.pending)
 
-  newcomer : (id : MessageId) (n : ℕ) (m : Message) (b : Birth ContentText) → (effect_of e.event).birth ≡ Some b → m.origin ≡ b.origin → m.number ≡ message_count (v.lines u) → message_id u m ≡ id → Beginning v u m
+  newcomer : (id : MessageId) (n : ℕ) (m : Message) (b : Birth ContentText) → Begins e.event b → m.origin ≡ b.origin → m.number ≡ message_count (v.lines u) → message_id u m ≡ id → Beginning v u m
       → Newcomer v v' id u
   newcomer id n m b birth origin number named (WasSent h) = SentNow (sym named ∙ id-sent u (message_count (v.lines u)) m h number)
   newcomer id n m b birth origin number named (HasCome o h a) =
@@ -384,8 +385,8 @@ module _ (v v' : View) (u : ℕ) (e : Line) (g : Grows v v' u e) (gates : (w : �
   ancestor-here id n m s named holds (Before was stands is) =
       Same (record { there = here; message = m; status = was; stands = stands; named = named; holds = holds-was n was (subst (Holds v' u n) (sym is) holds) })
   ancestor-here id n m s named holds (New new is) =
-      let b = born_by (length (v.lines u)) n e m new.1 in
-      Newly refl new.0 (newcomer id n m b.birth_is.0 b.birth_is.1 b.birth_is.2 (b.numbered ∙ new.0) named (beginning-step v u e.event b.birth_is.0 m step b.birth_is.1 b.birth_is.2))
+      let b = begun (v.lines u) e n m new in
+      Newly refl b.last (newcomer id n m b.birth b.begins b.origin (b.its_number ∙ b.last) named (beginning-step v u e.event b.birth m step b.begins b.origin))
 
   ancestor : (id : MessageId) (w n : ℕ) → Holder v' id w n → Ancestor v v' u id w n
   ancestor id w n h =

@@ -1,19 +1,22 @@
 -- Where the message of a number stands one entry on, and which message an accepted transfer brought.
-use Rattle.std.proofs.Common.{◌≡◌, ℕ, suc, ◌+◌, ◌*◌, Bool, true, false, ◌&&◌, ◌||◌, List, [], ◌∷◌, ◌++◌, Option, Some, None, refl, sym, ap, inl, inr, ◌∙◌}
-use Rattle.std.specs.Prelude.{◌⊎◌, slice_get, option_map, nat_eq}
+use Rattle.std.proofs.Common.{◌≡◌, ℕ, suc, ◌+◌, Bool, true, false, ◌&&◌, ◌||◌, List, [], ◌∷◌, ◌++◌, length, Option, Some, None, refl, sym, ap, inl, inr, ◌∙◌}
+use Rattle.std.specs.Prelude.{◌⊎◌, ◌-◌, slice_get, option_map, nat_eq}
 use Rattle.std.specs.Option.{option_map_or}
 use Rattle.std.specs.List.{list_any}
 use Rattle.std.proofs.lemmas.Bool.{false≢true}
 use Rattle.std.proofs.lemmas.Option.{none-some, same_Some}
 use Rattle.message.specs.Content.{ContentText}
 use Rattle.journal.specs.declared.entry.Entry.{Entry}
+use Rattle.journal.specs.declared.entry.Event.{Event}
+use Rattle.journal.specs.declared.entry.Event.TheVariants.{Arrived}
 use Rattle.queue_core.specs.declared.facts.Message.{Message}
 use Rattle.queue_core.specs.declared.facts.Course.{Course}
 use Rattle.queue_core.specs.declared.facts.Status.{Status}
 use Rattle.queue_core.specs.declared.facts.Status.TheVariants.{Present}
-use Rattle.queue_core.specs.Messages.{Birth, effect_of, message_of, messages_from, messages, status_after, course_of, accepts, has_accepted}
+use Rattle.queue_core.specs.Tally.{births}
+use Rattle.queue_core.specs.Messages.{Birth, effect_of, message_in, messages_in, messages_from, messages, message_count, status_after, course_of, accepts, has_accepted}
 use Rattle.queue_core.specs.States.{message_numbered}
-use Rattle.queue_core.proofs.PushLemmas.{IsNew, numbered-cases, numbered-kept, newborn, accepted-push}
+use Rattle.queue_core.proofs.PushLemmas.{or_false, slice_get-prefix, slice_get-behind, numbered_in, IsNew, numbered-cases, numbered-kept, new_birth, new_number, new_course, accepted-push}
 use Rattle.queue_core.proofs.PendingLemmas.{status-push}
 use Rattle.redrive.specs.Places.{status_numbered, came_from}
 pub use Rattle.queue_core.proofs.PushLemmas.{Line}
@@ -60,7 +63,7 @@ module _ (lines : Lines) (e : Line) (n : ℕ) (m : Message) where
   stood_by : (s : Status) → Stands (more lines e) n m s → (message_numbered lines n ≡ Some m) ⊎ IsNew lines e n m → Stood s
   stood_by s h (inl old) =
       Before (course_of lines m).status (record { numbered = old; status = refl }) (sym (status-push lines e n m old) ∙ h.status)
-  stood_by s h (inr new) = New new (sym h.status ∙ ap (λ (c : Course). c.status) (newborn lines e n m new.1).course)
+  stood_by s h (inr new) = New new (sym h.status ∙ ap (λ (c : Course). c.status) (new_course lines e n m new))
 
   pub stood : (s : Status) → Stands (more lines e) n m s → Stood s
   stood s h = stood_by s h (numbered-cases lines e n m h.numbered)
@@ -77,26 +80,41 @@ pub record Came (ms : List Message) (u n : ℕ) : Type 0 where
   pub numbered : slice_get ms place ≡ Some message
   pub came : came_from u n message ≡ true
 
--- the message that a birth begins
-abbrev born_as : ℕ → ℕ → ℕ → Birth ContentText → Message
-born_as place number at b =
-    record { number = number; place = place; enqueue_time = at; first_send_time = option_map_or (λ o. o.sent) b.origin at; first_due_time = at + 1000 * b.delay; origin = b.origin }
+-- an event begins a message so
+abbrev pub Begins : Event ContentText → Birth ContentText → Type 0
+Begins event b = (i : ℕ) × (slice_get (effect_of event).births i ≡ Some b)
 
-came_by-birth : (place number at : ℕ) (u n : ℕ) (b : Option (Birth ContentText)) (xs ys : List Message)
-    → option_map_or (λ birth. option_map_or (λ o. nat_eq o.uid u && nat_eq o.number n) birth.origin false) b false ≡ true
-    → Came (option_map_or (λ m. m ∷ xs) (option_map (λ b. born_as place number at b) b) ys) u n
-came_by-birth place number at u n None xs ys h = absurd (false≢true h)
-came_by-birth place number at u n (Some b) xs ys h = record { place = 0; message = born_as place number at b; numbered = refl; came = h }
+-- an accepted transfer brings a message
+brought : (event : Event ContentText) (u n : ℕ) → accepts u n event ≡ true → (b : Birth ContentText) × Begins event b × (option_map_or (λ o. nat_eq o.uid u && nat_eq o.number n) b.origin false ≡ true)
+brought (Arrived origin content) u n h = (record { content = content; delay = 0; origin = Some origin }, (0, refl), sym (or_false (nat_eq origin.uid u && nat_eq origin.number n)) ∙ h)
+brought event u n h = absurd (false≢true h)
 
-came_later : (u n : ℕ) (o : Option Message) (xs ys : List Message) → Came xs u n → Came ys u n → Came (option_map_or (λ m. m ∷ xs) o ys) u n
-came_later u n None xs ys h k = k
-came_later u n (Some m) xs ys h k = record { place = suc h.place; message = h.message; numbered = h.numbered; came = h.came }
+came_here : (place number u n : ℕ) (x : Line) (rest : List Message) → accepts u n x.event ≡ true → Came (messages_in place number x.at (effect_of x.event).births ++ rest) u n
+came_here place number u n x rest h =
+    let p = brought x.event u n h in
+    let i = p.1.0 in
+    let bs = (effect_of x.event).births in
+    record {
+      place = i;
+      message = message_in place (number + i) x.at p.0;
+      numbered = slice_get-prefix (messages_in place number x.at bs) rest i (message_in place (number + i) x.at p.0)
+          (numbered_in place number x.at bs i (number + i) refl ∙ ap (option_map (message_in place (number + i) x.at)) p.1.1);
+      came = p.2;
+    }
+
+came_later : (u n : ℕ) (ms rest : List Message) → Came rest u n → Came (ms ++ rest) u n
+came_later u n ms rest h = record {
+  place = length ms + h.place;
+  message = h.message;
+  numbered = slice_get-behind ms rest (length ms + h.place) h.place refl ∙ h.numbered;
+  came = h.came;
+}
 
 came_at : (place number u n : ℕ) (b : Bool) (x : Line) (xs : Lines) → accepts u n x.event ≡ b → (b || list_any (λ e. accepts u n e.event) xs) ≡ true
     → (list_any (λ e. accepts u n e.event) xs ≡ true → (i k : ℕ) → Came (messages_from i k xs) u n) → Came (messages_from place number (x ∷ xs)) u n
-came_at place number u n true x xs e h f = came_by-birth place number x.at u n (effect_of x.event).birth (messages_from (suc place) (suc number) xs) (messages_from (suc place) number xs) e
+came_at place number u n true x xs e h f = came_here place number u n x (messages_from (suc place) (number + births x.event) xs) e
 came_at place number u n false x xs e h f =
-    came_later u n (message_of place number x.at x.event) (messages_from (suc place) (suc number) xs) (messages_from (suc place) number xs) (f h (suc place) (suc number)) (f h (suc place) number)
+    came_later u n (messages_in place number x.at (effect_of x.event).births) (messages_from (suc place) (number + births x.event) xs) (f h (suc place) (number + births x.event))
 
 came_from_entries : (u n : ℕ) (xs : Lines) → list_any (λ e. accepts u n e.event) xs ≡ true → (place number : ℕ) → Came (messages_from place number xs) u n
 came_from_entries u n [] h place number = absurd (false≢true h)
@@ -105,3 +123,26 @@ came_from_entries u n (x ∷ xs) h place number = came_at place number u n (acce
 -- an accepted transfer brought a message
 pub accepted_came : (lines : Lines) (u n : ℕ) → has_accepted lines u n ≡ true → Came (messages lines) u n
 accepted_came lines u n h = came_from_entries u n lines h 0 0
+
+-- ---- a message that an entry begins
+
+pub record IsBegun (lines : Lines) (e : Line) (n : ℕ) (m : Message) : Type 0 where
+  pub birth : Birth ContentText
+  pub begins : Begins e.event birth
+  pub origin : m.origin ≡ birth.origin
+  pub its_number : m.number ≡ n
+  pub last : n ≡ message_count lines
+
+pub begun : (lines : Lines) (e : Line) (n : ℕ) (m : Message) → IsNew lines e n m → IsBegun lines e n m
+begun lines e n m new =
+    let b = new_birth lines e n m new in
+    record {
+      birth = b.0;
+      begins = (n - message_count lines, b.1);
+      origin = ap (λ (x : Message). x.origin) (sym b.2);
+      its_number = ap (λ (x : Message). x.number) (sym b.2);
+      last = new_number lines e n m new;
+    }
+
+pub unbegun : (event : Event ContentText) (b : Birth ContentText) → (effect_of event).births ≡ [] → Begins event b → ⊥
+unbegun event b none begins = none-some b (sym (ap (λ (bs : List (Birth ContentText)). slice_get bs begins.0) none) ∙ begins.1)

@@ -1,5 +1,5 @@
 -- The laws of dead letters, over every list of steps.
-use Rattle.std.proofs.Common.{◌≡◌, ℕ, suc, ◌≤◌, true, false, List, [], drop, Option, Some, None, Ok, refl, sym, ap, subst, inl, inr, ◌∙◌, unwrap_or, arith}
+use Rattle.std.proofs.Common.{◌≡◌, ℕ, suc, ◌≤◌, true, false, List, [], ◌∷◌, map, drop, Option, Some, None, Ok, refl, sym, ap, subst, inl, inr, ◌∙◌, unwrap_or, arith}
 use Rattle.std.specs.Prelude.{is_some}
 use Rattle.std.specs.Option.{option_map_or}
 use Rattle.std.proofs.lemmas.Bool.{false≢true}
@@ -18,11 +18,12 @@ use Rattle.redrive.specs.declared.steps.HouseStep.TheVariants as steps
 use Rattle.redrive.specs.World.{new_world, queue_of_uid}
 use Rattle.redrive.specs.History.{AllQueues, journal_of}
 use Rattle.redrive.specs.WorldRun.{Answer, all_after, AreHouseAnswers, history_after}
+use Rattle.redrive.specs.HistorySteps.{HistoryStep, Own, AreHistoryAnswers, after_history_step, after_history_steps}
 use Rattle.redrive.specs.Places.{first_history, acceptance_count, EachAcceptedOnce, HasFate, EachHasItsFate, status_numbered, IsNumbered, IsStanding, IsInTransit, Standing, InTransit, EachHasOnePlace, came_from, IsRelay, IsSpared, NoRelayDeleted}
 use Rattle.queue_core.proofs.PendingLemmas.{live-present}
 use Rattle.redrive.proofs.transfers.Journals.{Lines, Stands, stands_gives}
 use Rattle.redrive.proofs.transfers.Views.{View, view_of, Change}
-use Rattle.redrive.proofs.transfers.Worlds.{IsDeletion, uid_of_open, lines_there, open_there}
+use Rattle.redrive.proofs.transfers.Worlds.{IsEnding, uid_of_open, lines_there, open_there}
 use Rattle.redrive.proofs.transfers.Fates.{Fate, AreFates, accepted_from, HasFates, fates-opened, fates-after}
 use Rattle.redrive.proofs.transfers.Holders.{IsSound, sound-opened, sound-after, Holds, Holder, HasOneHolder, Relays, one-opened, one-after}
 use Rattle.redrive.proofs.transfers.Once.{IsOnce, once-opened, once-after}
@@ -31,11 +32,11 @@ use Rattle.redrive.proofs.transfers.Runs.{Begins, begins, through, through_spare
 journal-lines : (all : AllQueues) (uid : ℕ) (lines : Lines) → journal_of all uid ≡ Some lines → (view_of all).lines uid ≡ lines
 journal-lines all uid lines h = ap (λ (o : Option Lines). unwrap_or o []) h
 
-pub accepted_once : (config : Configuration) (at : ℕ) (steps : List HouseStep) (answers : List Answer) → AreHouseAnswers (new_world config at) steps answers
-    → EachAcceptedOnce (history_after (first_history config at) steps answers)
+pub accepted_once : (config : Configuration) (at : ℕ) (steps : List HistoryStep) (answers : List Answer) → AreHistoryAnswers (first_history config at) steps answers
+    → EachAcceptedOnce (after_history_steps (first_history config at) steps answers)
 accepted_once config at steps answers are uid source number lines is =
     let b : Begins IsOnce (new_world config at) = begins IsOnce (λ v v' u e g o h. once-opened v v' u e g o h) (λ u s n. omega arith) config at in
-    let all : AllQueues = history_after (first_history config at) steps answers in
+    let all : AllQueues = after_history_steps (first_history config at) steps answers in
     let once : IsOnce (view_of all) =
     through IsOnce (λ all step answer change h. once-after _ _ change h) (first_history config at) steps answers are b.fresh b.so in
     subst (λ (ls : Lines). acceptance_count ls source number ≤ 1) (journal-lines all uid lines is) (once uid source number)
@@ -58,11 +59,11 @@ module _ (all : AllQueues) (uid : ℕ) (q : QueueHistory) (here : queue_of_uid a
       }))
   fate-told (inr (inr h)) = inr (inr h)
 
-pub each_has_its_fate : (config : Configuration) (at : ℕ) (steps : List HouseStep) (answers : List Answer) → AreHouseAnswers (new_world config at) steps answers
-    → EachHasItsFate (history_after (first_history config at) steps answers)
+pub each_has_its_fate : (config : Configuration) (at : ℕ) (steps : List HistoryStep) (answers : List Answer) → AreHistoryAnswers (first_history config at) steps answers
+    → EachHasItsFate (after_history_steps (first_history config at) steps answers)
 each_has_its_fate config at steps answers are uid place t q here d =
     let b : Begins HasFates (new_world config at) = begins HasFates (λ v v' u e g o h. fates-opened v v' u e g o h) (λ u h. absurd (false≢true h)) config at in
-    let all : AllQueues = history_after (first_history config at) steps answers in
+    let all : AllQueues = after_history_steps (first_history config at) steps answers in
     let fates : HasFates (view_of all) =
     through HasFates (λ all step answer change h. fates-after _ _ change h) (first_history config at) steps answers are b.fresh b.so in
     fate-told all uid q here t (drop (suc place) q.lines)
@@ -103,8 +104,8 @@ relay_told all uid here r =
       gone_on = accepted-lines (journal_of all r.next) uid r.own_number r.gone_on;
     }
 
-spared_told : (all : AllQueues) (step : HouseStep) (answer : Answer) → IsSpared all step answer → (uid : ℕ) → (view_of all).is_open uid ≡ true → IsDeletion step answer uid → Relays (view_of all) uid → ⊥
-spared_told all (steps.Delete at own) (Ok reply) spared uid here is r = spared (subst (IsRelay all) (sym is) (relay_told all uid here r))
+spared_told : (all : AllQueues) (step : HistoryStep) (answer : Answer) → IsSpared all step answer → (uid : ℕ) → (view_of all).is_open uid ≡ true → IsEnding step answer uid → Relays (view_of all) uid → ⊥
+spared_told all (Own (steps.Delete at own)) (Ok reply) spared uid here is r = spared (subst (IsRelay all) (sym is) (relay_told all uid here r))
 spared_told all step answer spared uid here is r = absurd is
 
 -- what holds a place holds the message
@@ -112,10 +113,10 @@ record IsHeld (all : AllQueues) : Type 0 where
   sound : IsSound (view_of all)
   one : HasOneHolder (view_of all)
 
-held-after : (all : AllQueues) (step : HouseStep) (answer : Answer) → Change (IsDeletion step answer) (view_of all) (view_of (all_after all step answer)) → IsSpared all step answer → IsHeld all → IsHeld (all_after all step answer)
+held-after : (all : AllQueues) (step : HistoryStep) (answer : Answer) → Change (IsEnding step answer) (view_of all) (view_of (after_history_step all step answer)) → IsSpared all step answer → IsHeld all → IsHeld (after_history_step all step answer)
 held-after all step answer change spared h = record {
-  sound = sound-after (view_of all) (view_of (all_after all step answer)) change h.sound;
-  one = one-after (view_of all) (view_of (all_after all step answer)) change h.sound (spared_told all step answer spared) h.one;
+  sound = sound-after (view_of all) (view_of (after_history_step all step answer)) change h.sound;
+  one = one-after (view_of all) (view_of (after_history_step all step answer)) change h.sound (spared_told all step answer spared) h.one;
 }
 
 holder_of : (all : AllQueues) (id : MessageId) (uid n : ℕ) (q : QueueHistory) (m : Message) (s : Status) → IsNumbered all id uid n q m → (course_of q.lines m).status ≡ s → Holds (view_of all) uid n s → Holder (view_of all) id uid n
@@ -161,8 +162,8 @@ one_place all one id (InTransit u n) (InTransit w k) h h' =
 abbrev IsWell : View → Type 0
 IsWell v = IsSound v × HasOneHolder v
 
-pub each_has_one_place : (config : Configuration) (at : ℕ) (steps : List HouseStep) (answers : List Answer) → AreHouseAnswers (new_world config at) steps answers
-    → NoRelayDeleted (first_history config at) steps answers → EachHasOnePlace (history_after (first_history config at) steps answers)
+pub each_has_one_place : (config : Configuration) (at : ℕ) (steps : List HistoryStep) (answers : List Answer) → AreHistoryAnswers (first_history config at) steps answers
+    → NoRelayDeleted (first_history config at) steps answers → EachHasOnePlace (after_history_steps (first_history config at) steps answers)
 each_has_one_place config at steps answers are spared =
     let nothing : IsSound (record { is_open = λ u. false; lines = λ u. [] }) = record {
       fates = λ u h. absurd (false≢true h);
@@ -172,6 +173,19 @@ each_has_one_place config at steps answers are spared =
     } in
     let b : Begins IsWell (new_world config at) =
     begins IsWell (λ v v' u e g o h. (sound-opened v v' u e g o h.0, one-opened v v' u e g o h.1)) (nothing, λ id u n w k h h'. absurd (false≢true h.there)) config at in
-    let held : IsHeld (history_after (first_history config at) steps answers) =
+    let held : IsHeld (after_history_steps (first_history config at) steps answers) =
     through_spared IsHeld held-after (first_history config at) steps answers are spared b.fresh (record { sound = b.so.0; one = b.so.1 }) in
-    one_place (history_after (first_history config at) steps answers) held.one
+    one_place (after_history_steps (first_history config at) steps answers) held.one
+
+-- ---- the registry's own steps
+
+pub own-answered : (all : AllQueues) (steps : List HouseStep) (answers : List Answer) → AreHouseAnswers all.world steps answers → AreHistoryAnswers all (map Own steps) answers
+own-answered all [] [] h = tt
+own-answered all [] (answer ∷ answers) h = absurd h
+own-answered all (step ∷ steps) [] h = absurd h
+own-answered all (step ∷ steps) (answer ∷ answers) h = (h.0, own-answered (all_after all step answer) steps answers h.1)
+
+pub own-left : (all : AllQueues) (steps : List HouseStep) (answers : List Answer) → after_history_steps all (map Own steps) answers ≡ history_after all steps answers
+own-left all [] answers = refl
+own-left all (step ∷ steps) [] = refl
+own-left all (step ∷ steps) (answer ∷ answers) = own-left (all_after all step answer) steps answers

@@ -1,5 +1,5 @@
 -- No journal accepts a transfer twice.
-use Rattle.std.proofs.Common.{◌≡◌, ℕ, ◌+◌, ◌≤◌, Bool, true, false, cond, [], ◌∷◌, refl, sym, ap, subst, ◌∙◌, arith, eqb-true}
+use Rattle.std.proofs.Common.{◌≡◌, ℕ, ◌+◌, ◌≤◌, Bool, true, false, ◌&&◌, cond, [], ◌∷◌, refl, sym, ap, subst, ◌∙◌, arith, eqb-true}
 use Rattle.std.specs.Prelude.{count_by, nat_eq}
 use Rattle.std.specs.List.{list_any}
 use Rattle.std.proofs.lemmas.Bool.{and_parts, or_parts, false≢true}
@@ -8,6 +8,7 @@ use Rattle.message.specs.Content.{ContentText}
 use Rattle.journal.specs.declared.entry.Event.{Event}
 use Rattle.journal.specs.declared.entry.Event.TheVariants.{Opened, Arrived, Closed}
 use Rattle.queue_core.specs.Messages.{accepts, has_accepted}
+use Rattle.queue_core.proofs.PushLemmas.{or_false}
 use Rattle.redrive.specs.Places.{acceptance_count}
 use Rattle.redrive.proofs.transfers.Journals.{Line, Lines, more}
 use Rattle.redrive.proofs.transfers.Views.{View, IsStep, Grows, IsOpened, Change, Stays, Steps, Opens, Closes, by_growth}
@@ -43,7 +44,7 @@ module _ (lines : Lines) (e : Line) (s n : ℕ) where
 
 accept-first : (v : View) (u : ℕ) (event : Event ContentText) (s n : ℕ) → IsStep v u event → accepts s n event ≡ true → has_accepted (v.lines u) s n ≡ false
 accept-first v u (Arrived origin content) s n step h =
-    let k = and_parts (nat_eq origin.uid s) (nat_eq origin.number n) h in
+    let k = and_parts (nat_eq origin.uid s) (nat_eq origin.number n) (sym (or_false (nat_eq origin.uid s && nat_eq origin.number n)) ∙ h) in
     subst (λ (i : ℕ). has_accepted (v.lines u) i n ≡ false) (eqb-true origin.uid s k.0)
     (subst (λ (i : ℕ). has_accepted (v.lines u) origin.uid i ≡ false) (eqb-true origin.number n k.1) step.unaccepted)
 accept-first v u event s n step h = absurd (false≢true h)

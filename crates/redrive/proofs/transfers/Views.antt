@@ -47,18 +47,12 @@ ArePresent lines numbers = (n : ℕ) → contains_number n numbers ≡ true → 
 -- what an entry says that comes to an open queue
 abbrev pub IsStep : View → ℕ → Event ContentText → Type 0
 IsStep v u (Opened uid settings) = ⊥
-IsStep v u (Sent delay content) = ⊤
 IsStep v u (Arrived origin content) = IsArrival v u origin
 IsStep v u (Received timeout offered leaving target) = ArePresent (v.lines u) leaving
-IsStep v u (Changed number timeout) = ⊤
-IsStep v u (Deleted number) = ⊤
-IsStep v u DeletedAgain = ⊤
-IsStep v u Purged = ⊤
-IsStep v u (Set settings) = ⊤
 IsStep v u (Settled number) = IsSettling v u number
 IsStep v u (Orphaned target) = v.is_open target ≡ false
-IsStep v u (Refused fault) = ⊤
 IsStep v u Closed = ⊥
+IsStep v u event = ⊤
 
 -- the journal of a uid gets an entry more
 pub record Grows (v v' : View) (u : ℕ) (e : Line) : Type 0 where

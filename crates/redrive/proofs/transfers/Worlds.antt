@@ -28,8 +28,9 @@ use Rattle.redrive.specs.declared.steps.HouseReply.TheVariants as replies
 use Rattle.redrive.specs.declared.steps.HouseStep.{HouseStep}
 use Rattle.redrive.specs.declared.steps.HouseStep.TheVariants as steps
 use Rattle.redrive.specs.World.{World, queue_of_uid, has_queue, with_queue, with_queue_changed, world_after_command, without_queue, closed_queue, is_internal, may_set, step_refusal, step_answer, first_parcel_in, Delivery, delivery_of, hand_over_answer, is_accepted, confirm_answer, target_uid, opens_queue, new_queue, create_answer, take_answer, world_at_moment}
-use Rattle.redrive.specs.History.{AllQueues}
+use Rattle.redrive.specs.History.{AllQueues, journal_of, was_accepted}
 use Rattle.redrive.specs.WorldRun.{Answer, as_house_reply, answer_of_step, if_there, with_deleted, all_after, MeetsAnswer}
+use Rattle.redrive.specs.HistorySteps.{HistoryStep, Own, Settle, IsHistoryAnswer, after_history_step}
 use Rattle.redrive.proofs.transfers.Journals.{Line, Lines, more}
 use Rattle.redrive.proofs.transfers.Views.{View, view_of, IsStep, Grows, IsOpened, Change, Stays, Steps, Opens, Closes, by_uid}
 use Rattle.redrive.proofs.KeyedLemmas.{find-map, find-passes, find-without, find-without_other}
@@ -168,18 +169,12 @@ same-not_internal true false c f g h e = refl
 
 own-step : (v : View) (u : ℕ) (event : Event ContentText) → IsOwn (v.lines u) event → IsStep v u event
 own-step v u (Opened uid settings) h = h
-own-step v u (Sent delay content) h = h
 own-step v u (Arrived origin content) h = absurd h
 own-step v u (Received timeout offered leaving target) h = h
-own-step v u (Changed number timeout) h = h
-own-step v u (Deleted number) h = h
-own-step v u DeletedAgain h = h
-own-step v u Purged h = h
-own-step v u (Set settings) h = h
 own-step v u (Settled number) h = absurd h
 own-step v u (Orphaned target) h = absurd h
-own-step v u (Refused fault) h = h
 own-step v u Closed h = h
+own-step v u event h = h
 
 module _ {T : Type 0} (all : AllQueues) (uid at : ℕ) (command : Command) (answer : Result T Fault) (fresh : IsFresh all) where
   performed-refused : {ending : ℕ → Type 0} → (r : Option Fault) → step_refusal all.world uid command ≡ r
@@ -243,13 +238,17 @@ module _ {T : Type 0} (all : AllQueues) (source at : ℕ) (answer : Result T Fau
   accepted-there (Some q) e h =
       ap (λ (ls : Lines). has_accepted ls source p.origin.number) (lines_there all p.target q e) ∙ subst (λ (u : ℕ). has_accepted q.lines u p.origin.number ≡ true) its.uid h
 
-  confirmed-led : {ending : ℕ → Type 0} → (b : Bool) → is_accepted all.world p ≡ b
+  settled-led : {ending : ℕ → Type 0} → (b : Bool) → (b ≡ true → has_accepted ((view_of all).lines p.target) source p.origin.number ≡ true)
       → LeadsTo ending all (record { world = option_map_or (λ number. world_after_command all.world source at (commands.Settle number) answer) (cond b (Some p.origin.number) None) all.world; deleted = all.deleted })
-  confirmed-led false e = nothing-led all fresh
-  confirmed-led true e =
+  settled-led false e = nothing-led all fresh
+  settled-led true e =
       command-led all source at (commands.Settle p.origin.number) answer fresh (λ q event h added.
       subst (IsStep (view_of all) source) (sym (settled-at q at event p.origin.number added))
-      (record { target = p.target; pending = its.pending; accepted = accepted-there (queue_of_uid all.world p.target) refl e }))
+      (record { target = p.target; pending = its.pending; accepted = e refl }))
+
+accepted-ever : (o : Option Lines) (u n : ℕ) → option_map_or (λ lines. has_accepted lines u n) o false ≡ true → has_accepted (unwrap_or o []) u n ≡ true
+accepted-ever None u n h = h
+accepted-ever (Some lines) u n h = h
 
 module _ {T : Type 0} (all : AllQueues) (source at : ℕ) (answer : Result T Fault) (fresh : IsFresh all) where
   handed_over-led : {ending : ℕ → Type 0} → (o : Option Parcel) → first_parcel_in all.world source ≡ o
@@ -263,7 +262,22 @@ module _ {T : Type 0} (all : AllQueues) (source at : ℕ) (answer : Result T Fau
         deleted = all.deleted;
       })
   confirmation-led None e = nothing-led all fresh
-  confirmation-led (Some p) e = confirmed-led all source at answer fresh p (parcel_of_found all source (queue_of_uid all.world source) p refl e) (is_accepted all.world p) refl
+  confirmation-led (Some p) e =
+      let its : IsParcelOf all source p = parcel_of_found all source (queue_of_uid all.world source) p refl e in
+      settled-led all source at answer fresh p its (is_accepted all.world p) (accepted-there all source at answer fresh p its (queue_of_uid all.world p.target) refl)
+
+  -- the same, where deleted queues are asked too
+  late-led : {ending : ℕ → Type 0} → (o : Option Parcel) → first_parcel_in all.world source ≡ o
+      → LeadsTo ending all (record {
+        world = option_map_or (λ number. world_after_command all.world source at (commands.Settle number) answer)
+            (option_and_then (λ p. cond (was_accepted all p.target p.origin.uid p.origin.number) (Some p.origin.number) None) o) all.world;
+        deleted = all.deleted;
+      })
+  late-led None e = nothing-led all fresh
+  late-led (Some p) e =
+      let its : IsParcelOf all source p = parcel_of_found all source (queue_of_uid all.world source) p refl e in
+      settled-led all source at answer fresh p its (was_accepted all p.target p.origin.uid p.origin.number)
+      (λ h. subst (λ (u : ℕ). has_accepted ((view_of all).lines p.target) u p.origin.number ≡ true) its.uid (accepted-ever (journal_of all p.target) p.origin.uid p.origin.number h))
 
 -- ---- opening a queue
 
@@ -446,7 +460,7 @@ time-led all at fresh = record {
     lines-moved u o e = ap (λ (x : Option QueueHistory). journal_found x (find (λ q. nat_eq q.uid u) all.deleted)) e ∙ same-journal o (find (λ q. nat_eq q.uid u) all.deleted)
 
 -- whether a step with this answer deletes the queue of a uid
-abbrev pub IsDeletion : HouseStep → Answer → ℕ → Type 0
+abbrev IsDeletion : HouseStep → Answer → ℕ → Type 0
 IsDeletion (steps.Delete at own) (Ok reply) uid = own ≡ uid
 IsDeletion step answer uid = ⊥
 
@@ -454,7 +468,7 @@ deletion-known : (at uid : ℕ) (answer : Answer) → AtOk answer (IsDeletion (s
 deletion-known at uid (Ok reply) = refl
 deletion-known at uid (Err fault) = tt
 
-pub step-led : (all : AllQueues) (step : HouseStep) (answer : Answer) → IsFresh all → MeetsAnswer answer (answer_of_step all.world step) → LeadsTo (IsDeletion step answer) all (all_after all step answer)
+step-led : (all : AllQueues) (step : HouseStep) (answer : Answer) → IsFresh all → MeetsAnswer answer (answer_of_step all.world step) → LeadsTo (IsDeletion step answer) all (all_after all step answer)
 step-led all (steps.Create at name wish) answer fresh meets =
     with_same all _ answer (not_deleted answer (as_house_reply replies.Created (create_answer all.world name wish)) all.deleted meets (other_kind replies.Created (create_answer all.world name wish) (λ x q e. cc)))
     (either-led all (is_out_of_memory answer) all.world (cond (opens_queue all.world name wish) (with_queue all.world (new_queue all.world at name wish)) all.world) all.deleted (nothing-led all fresh)
@@ -484,3 +498,13 @@ step-led all (steps.Confirm at source) answer fresh meets =
     (confirmation-led all source at answer fresh (first_parcel_in all.world source) refl)
 step-led all (steps.Advance at) answer fresh meets =
     with_same all _ answer (not_deleted answer (Ok replies.Advanced) all.deleted meets (λ q e. cc)) (time-led all at fresh)
+
+-- ---- every step of everything
+
+abbrev pub IsEnding : HistoryStep → Answer → ℕ → Type 0
+IsEnding (Own step) answer uid = IsDeletion step answer uid
+IsEnding (Settle at source) answer uid = ⊥
+
+pub history-led : (all : AllQueues) (step : HistoryStep) (answer : Answer) → IsFresh all → IsHistoryAnswer all step answer → LeadsTo (IsEnding step answer) all (after_history_step all step answer)
+history-led all (Own step) answer fresh h = step-led all step answer fresh h.meets
+history-led all (Settle at source) answer fresh h = late-led all source at answer fresh (first_parcel_in all.world source) refl

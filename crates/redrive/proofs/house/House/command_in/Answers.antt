@@ -1,6 +1,9 @@
-use Rattle.std.proofs.Common.{sym, ◌∙◌}
+use Rattle.std.proofs.Common.{◌+◌, ◌≤◌, sym, subst, ◌∙◌}
+use Rattle.queue_core.specs.Queue.{after_answer}
+use Rattle.redrive.specs.World.{World}
+use Rattle.redrive.specs.Cost.{command_ticks}
 use Rattle.redrive.proofs.RegistryLemmas.{command-absent_answer, changed-absent}
-use Rattle.redrive.proofs.PlaceLemmas.{place-shown, answer-at, exact-at, step-at, IsRegistry-step_at}
+use Rattle.redrive.proofs.PlaceLemmas.{place-shown, ticks-at, answer-at, exact-at, step-at, IsRegistry-step_at}
 use Rattle.redrive.proofs.house.House.command_in.Goals as goal
 
 pub returns-in-None-clause-answer : goal.returns-in-None-clause-answer
@@ -38,3 +41,10 @@ returns-in-Some-clause-state c =
     let here = place-shown c.args.uid c.self.view_is c.place_of.ensures c.in-Some.is in
     rw (← c.self.view_is)
     (step-at w c.args.uid c.in-Some.place here c.args.at c.args.command.now c.perform_at.result c.perform_at.new.self c.self.invariant c.perform_at.ensures.state)
+
+pub returns-in-Some-clause-cost : goal.returns-in-Some-clause-cost
+returns-in-Some-clause-cost c =
+    let w = c.self.inside.queues in
+    let here = place-shown c.args.uid c.self.view_is c.place_of.ensures c.in-Some.is in
+    subst (λ (w : World). c.perform_at.new.ticks ≤ c.args.ticks.now + command_ticks w c.args.uid c.args.at c.args.command.now c.perform_at.result) c.self.view_is
+    (ticks-at w c.args.uid c.in-Some.place here (λ q. after_answer q c.args.at c.args.command.now c.perform_at.result) c.args.ticks.now c.perform_at.new.ticks c.perform_at.ensures.cost)

@@ -1,4 +1,4 @@
-use Rattle.std.proofs.Common.{◌≡◌, ℕ, ◌<◌, List, ap, subst, ◌∙◌, length, get_or, take, ◌≤◌}
+use Rattle.std.proofs.Common.{◌≡◌, ℕ, ◌<◌, List, ap, subst, ◌∙◌, length, get_or, ◌≤◌}
 use Rattle.std.proofs.lemmas.List.{take_all}
 use Rattle.queue_config.specs.Config.{Configuration, AreConfigured, rules_of}
 use Rattle.queue_config.specs.AlarmRules.{Rule}

@@ -3,7 +3,7 @@ use Rattle.std.proofs.lemmas.List.{drop_more}
 use Rattle.redrive.specs.declared.steps.HouseStep.{HouseStep}
 use Rattle.redrive.specs.World.{World, queue_of_uid}
 use Rattle.redrive.specs.WorldRun.{IsAsIfAlone}
-use Rattle.redrive.proofs.RunLemmas.{AreAnswered, Continues-step, Continues-end, AreHouseAnswers-run, IsAsIfAlone-run, IsWholeHistory-run, AreTold-run}
+use Rattle.redrive.proofs.RunLemmas.{AreAnswered, pays_step, pays_end, Continues-step, Continues-end, AreHouseAnswers-run, IsAsIfAlone-run, IsWholeHistory-run, AreTold-run}
 use Rattle.redrive.proofs.house.House.run.Goals as goal
 
 pub loop-step-preserved : goal.loop-step-preserved
@@ -15,6 +15,10 @@ loop-step-preserved c =
     record {
       counted = omega arith;
       room = omega arith;
+      pays =
+          rw c.push_reserved.ensures.items
+          (pays_step c.args.ticks.now c.args.self.now steps c.loop-step.answers.items c.loop-step.ticks c.take_step-answer.new.ticks c.loop-step.self (drop i steps) (drop (i + 1) steps) c.step-item.result
+          c.take_step-answer.result c.take_step-answer.new.self c.loop-step.invariant.pays left c.take_step-answer.ensures.cost c.take_step-answer.ensures.state);
       continues =
           rw c.push_reserved.ensures.items
           (Continues-step c.args.self.now steps c.loop-step.answers.items c.loop-step.self (drop i steps) (drop (i + 1) steps) c.step-item.result c.take_step-answer.result c.take_step-answer.new.self
@@ -46,3 +50,7 @@ pub returns-clause-recomputed : goal.returns-clause-recomputed
 returns-clause-recomputed c =
     let h = Continues-end c.args.self.now c.args.steps.now c.loop-step.answers.items c.loop-step.self c.loop-step.step-index (omega arith) c.loop-step.invariant.continues in
     record { told = AreTold-run c.args.self.now c.args.steps.now c.loop-step.answers.items h.0; measured = c.measure.ensures }
+
+pub returns-clause-cost : goal.returns-clause-cost
+returns-clause-cost c =
+    pays_end c.args.ticks.now c.args.self.now c.args.steps.now c.loop-step.answers.items c.loop-step.ticks c.loop-step.self c.loop-step.step-index (omega arith) c.loop-step.invariant.pays

@@ -1,7 +1,9 @@
-use Rattle.std.proofs.Common.{sym, ◌∙◌}
+use Rattle.std.proofs.Common.{◌+◌, ◌≤◌, sym, subst, ◌∙◌}
+use Rattle.redrive.specs.World.{World}
+use Rattle.redrive.specs.Cost.{after_deletion, deletion_ticks}
 use Rattle.redrive.proofs.RegistryLemmas.{present-absent, delete-absent_state}
 use Rattle.redrive.proofs.DeletionLemmas.{take-absent_answer, journal-handed, journals-kept}
-use Rattle.redrive.proofs.PlaceLemmas.{place-shown, take-at, left-at, delete-at, IsRegistry-delete_at}
+use Rattle.redrive.proofs.PlaceLemmas.{place-shown, ticks-at, take-at, left-at, delete-at, IsRegistry-delete_at}
 use Rattle.redrive.proofs.house.House.take_queue.Goals as goal
 
 pub returns-in-None-clause-answer : goal.returns-in-None-clause-answer
@@ -49,3 +51,10 @@ returns-in-Some-clause-others c =
     (journals-kept w c.close_and_take.new.self c.args.uid c.args.at c.close_and_take.result
     (take-at w c.args.uid c.in-Some.place here c.args.at c.close_and_take.result c.close_and_take.ensures.answer)
     (left-at w c.args.uid c.in-Some.place here c.close_and_take.result c.close_and_take.new.self c.self.invariant c.close_and_take.ensures.ok))
+
+pub returns-in-Some-clause-cost : goal.returns-in-Some-clause-cost
+returns-in-Some-clause-cost c =
+    let w = c.self.inside.queues in
+    let here = place-shown c.args.uid c.self.view_is c.place_of.ensures c.in-Some.is in
+    subst (λ (w : World). c.close_and_take.new.ticks ≤ c.args.ticks.now + deletion_ticks w c.args.uid c.args.at c.close_and_take.result) c.self.view_is
+    (ticks-at w c.args.uid c.in-Some.place here (λ q. after_deletion q c.args.at c.close_and_take.result) c.args.ticks.now c.close_and_take.new.ticks c.close_and_take.ensures.cost)

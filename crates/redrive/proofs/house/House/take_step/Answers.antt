@@ -38,3 +38,24 @@ returns-in_err-confirm-in-Confirm-clause-state c =
 
 pub returns-in_ok-confirm-in-Confirm-clause-state : goal.returns-in_ok-confirm-in-Confirm-clause-state
 returns-in_ok-confirm-in-Confirm-clause-state c = rw c.in-Confirm.is c.in_ok-confirm-in-Confirm.ensures.state
+
+pub returns-in_err-take_queue-in-Delete-clause-cost : goal.returns-in_err-take_queue-in-Delete-clause-cost
+returns-in_err-take_queue-in-Delete-clause-cost c =
+    let p = err_from_is_err_and c.from_residual-in_err-take_queue-in-Delete.result c.from_residual-in_err-take_queue-in-Delete.ensures.1 in
+    rw (c.in-Delete.is, p.1, p.2) c.in_err-take_queue-in-Delete.ensures.cost
+
+pub returns-in_ok-take_queue-in-Delete-clause-cost : goal.returns-in_ok-take_queue-in-Delete-clause-cost
+returns-in_ok-take_queue-in-Delete-clause-cost c = rw c.in-Delete.is c.in_ok-take_queue-in-Delete.ensures.cost
+
+pub returns-in_err-step-in-Perform-clause-cost : goal.returns-in_err-step-in-Perform-clause-cost
+returns-in_err-step-in-Perform-clause-cost c =
+    let p = err_from_is_err_and c.from_residual-in_err-step-in-Perform.result c.from_residual-in_err-step-in-Perform.ensures.1 in
+    rw (c.in-Perform.is, p.1, p.2) c.in_err-step-in-Perform.ensures.cost
+
+pub returns-in_ok-step-in-Perform-clause-cost : goal.returns-in_ok-step-in-Perform-clause-cost
+returns-in_ok-step-in-Perform-clause-cost c = rw c.in-Perform.is c.in_ok-step-in-Perform.ensures.cost
+
+pub returns-in_err-confirm-in-Confirm-clause-cost : goal.returns-in_err-confirm-in-Confirm-clause-cost
+returns-in_err-confirm-in-Confirm-clause-cost c =
+    let p = err_from_is_err_and c.from_residual-in_err-confirm-in-Confirm.result c.from_residual-in_err-confirm-in-Confirm.ensures.1 in
+    rw (c.in-Confirm.is, p.1, p.2) c.in_err-confirm-in-Confirm.ensures.cost

@@ -3,8 +3,9 @@ use Rattle.std.specs.List.{remove}
 use Rattle.std.specs.Option.{option_map_or}
 use Rattle.std.proofs.lemmas.Option.{slice_get-get_or}
 use Rattle.queue_core.specs.Queue.{QueueHistory, at_moment}
-use Rattle.redrive.specs.World.{World}
+use Rattle.redrive.specs.World.{World, closed_queue}
 use Rattle.redrive.specs.ByPlace.{with_place_changed, without_place}
+use Rattle.redrive.proofs.CostLemmas.{done-at}
 use Rattle.redrive.proofs.queues.Queues.close_and_take.Goals as goal
 
 remove-set : (qs : List QueueHistory) (place : ℕ) (q : QueueHistory) → remove (set qs place q) place ≡ remove qs place
@@ -32,3 +33,13 @@ returns-in-Err-clause-err c =
     ∙ ap (λ (qs : List QueueHistory). record { limits = c.self.inside.limits; next_uid = c.self.inside.next_uid; queues = qs })
     (set-read change c.self.inside.queues.items c.args.place c.index_mut.result.now (subst (λ (w : World). c.args.place < length w.queues) (sym c.self.view_is) within))
     ∙ ap (λ (w : World). with_place_changed w c.args.place change) c.self.view_is
+
+pub returns-in-Ok-clause-cost : goal.returns-in-Ok-clause-cost
+returns-in-Ok-clause-cost c =
+    done-at c.args.place c.index_mut.result.now c.close.new.queue (λ q. closed_queue q c.args.at) c.args.ticks.now c.close.new.ticks
+    c.self.view_is c.requires.within c.index_mut.ensures.value c.in-Ok.ensures.closed c.in-Ok.ensures.cost
+
+pub returns-in-Err-clause-cost : goal.returns-in-Err-clause-cost
+returns-in-Err-clause-cost c =
+    done-at c.args.place c.index_mut.result.now c.close.new.queue (λ q. at_moment q c.args.at) c.args.ticks.now c.close.new.ticks
+    c.self.view_is c.requires.within c.index_mut.ensures.value c.in-Err.ensures.moved c.in-Err.ensures.cost

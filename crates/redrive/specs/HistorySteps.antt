@@ -1,0 +1,51 @@
+-- Steps of everything that a registry ever had: the registry's own, and a confirmation that asks deleted queues too. The registry keeps no journal of those, so
+-- that its own Confirm asks open queues alone; threads can confirm what a queue accepted before it was deleted.
+use Rattle.std.specs.Prelude.{ℕ, false, if◌then◌else◌, option_and_then, List, [], ◌∷◌, Option, Some, None, Ok}
+use Rattle.std.specs.Option.{option_map_or}
+use Rattle.message.specs.Fault.{Meets}
+use Rattle.queue_core.specs.declared.command.Command.TheVariants as commands
+use Rattle.queue_core.specs.declared.reply.Reply.TheVariants as replies
+use Rattle.redrive.specs.declared.steps.HouseReply.TheVariants.{Confirmed}
+use Rattle.redrive.specs.declared.steps.HouseStep.{HouseStep}
+use Rattle.redrive.specs.World.{queue_answer, world_after_command, first_parcel_in}
+use Rattle.redrive.specs.History.{AllQueues, was_accepted}
+use Rattle.redrive.specs.WorldRun.{Answer, as_house_reply, answer_of_step, all_after, IsAnswerOf}
+
+-- one of the registry, or a confirmation of the first parcel of the queue of a uid
+pub data HistoryStep : Type 0 where
+  Own : HouseStep → HistoryStep
+  Settle : (at source : ℕ) → HistoryStep
+
+-- the number of the first parcel of the queue of a uid, where its target, which is there or was deleted, has accepted it
+abbrev pub settled_number : AllQueues → ℕ → Option ℕ
+settled_number all source =
+    option_and_then (λ p. if was_accepted all p.target p.origin.uid p.origin.number then Some p.origin.number else None) (first_parcel_in all.world source)
+
+-- the answer that is wanted; where the parcel is not accepted, its source is not asked
+abbrev pub answer_in_history : AllQueues → HistoryStep → Answer
+answer_in_history all (Own step) = answer_of_step all.world step
+answer_in_history all (Settle at source) =
+    as_house_reply Confirmed (option_map_or (λ number. queue_answer all.world source at (commands.Settle number)) (settled_number all source) (Ok (replies.Settled false)))
+
+abbrev pub IsHistoryAnswer : AllQueues → HistoryStep → Answer → Type 0
+IsHistoryAnswer all (Own step) answer = IsAnswerOf all.world step answer
+IsHistoryAnswer all (Settle at source) answer = Meets answer (answer_in_history all (Settle at source))
+
+-- everything after a step that is answered so
+abbrev pub after_history_step : AllQueues → HistoryStep → Answer → AllQueues
+after_history_step all (Own step) answer = all_after all step answer
+after_history_step all (Settle at source) answer =
+    record all { world = option_map_or (λ number. world_after_command all.world source at (commands.Settle number) answer) (settled_number all source) all.world }
+
+-- each answer is that of everything which the answers before it leave
+abbrev pub AreHistoryAnswers : AllQueues → List HistoryStep → List Answer → Type 0
+AreHistoryAnswers all [] [] = Unit {0}
+AreHistoryAnswers all [] (answer ∷ answers) = ⊥
+AreHistoryAnswers all (step ∷ steps) [] = ⊥
+AreHistoryAnswers all (step ∷ steps) (answer ∷ answers) = IsHistoryAnswer all step answer × AreHistoryAnswers (after_history_step all step answer) steps answers
+
+-- everything that the answers leave
+abbrev pub after_history_steps : AllQueues → List HistoryStep → List Answer → AllQueues
+after_history_steps all [] answers = all
+after_history_steps all (step ∷ steps) [] = all
+after_history_steps all (step ∷ steps) (answer ∷ answers) = after_history_steps (after_history_step all step answer) steps answers
