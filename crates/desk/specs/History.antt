@@ -4,13 +4,15 @@ use Rattle.message.specs.declared.fault.Fault.{Fault}
 use Rattle.message.specs.Fault.{Meets}
 use Rattle.queue_core.specs.declared.command.Command.{Command}
 use Rattle.queue_core.specs.declared.reply.Reply.{Reply}
-use Rattle.queue_core.specs.Queue.{QueueHistory, outcome_at, after_answer, IsExact}
+use Rattle.queue_core.specs.Queue.{QueueHistory, outcome_at, after_answer, IsExact, IsExactWithRoom}
 use Rattle.desk.specs.declared.view.Call.{Call}
 
--- an answer that the queue of one thread gives to a command at a time: that of the definitions, or want of memory where it takes memory
+-- an answer that the queue of one thread gives to a command at a time: that of the definitions, or want of memory where it takes memory, and where it takes no more
+-- than the place of an entry, only if there is no room for one
 pub record IsAnswered (q : QueueHistory) (at : ℕ) (command : Command) (reply : Result Reply Fault) : Type 0 where
   pub answer : Meets reply (outcome_at q at command).reply
   pub exact : IsExact (outcome_at q at command) reply
+  pub room : IsExactWithRoom q (outcome_at q at command) reply
 
 -- what a call leaves of a queue: where memory ran out, only the clock has moved
 abbrev pub after_call : QueueHistory → Call → QueueHistory

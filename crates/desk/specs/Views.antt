@@ -53,7 +53,7 @@ pub record HasCalled (before : Knowledge) (at : ℕ) (command : Command) (reply 
 
 -- no queue
 abbrev no_queue : QueueHistory
-no_queue = record { uid = 0; name = []; limits = default_limits; rules = []; clock = 0; lines = [] }
+no_queue = record { uid = 0; name = []; limits = default_limits; rules = []; clock = 0; lines = []; spare = 0 }
 
 -- the view of the first pass of a desk that was made with this
 abbrev pub first_view : Lying → View
