@@ -10,7 +10,7 @@ use Rattle.queue_actor.specs.Answered.{Answered}
 use Rattle.queue_actor.specs.declared.parcels.Delivery.{Delivery}
 use Rattle.queue_actor.specs.Course.{Event, GoesThrough}
 use Rattle.queue_actor.specs.declared.mail.Mail.{Mail}
-use Rattle.queue_actor.specs.Serving.{is_receive, is_tick, may_wait, IsAnswerAt, IsAnsweredAt, IsServedAt, AreServedAt, LooksAt, with_kept, LooksOver, Admits, TakesIn, Goes, Ends, Serves}
+use Rattle.queue_actor.specs.Serving.{is_receive, is_tick, IsAnswerAt, IsAnsweredAt, IsServedAt, AreServedAt, LooksAt, with_kept, LooksOver, Admits, TakesIn, Goes, Ends, Serves}
 use Rattle.queue_actor.specs.Waiting.{WaitBeyond, WaitsBehind, TakesAnswers, waiting_with, moment_with}
 
 -- equal lists have equal heads and equal tails
@@ -361,19 +361,16 @@ both_ways true a b = a
 both_ways false a b = b
 
 module _ {P S Told : Type 0} where
-  -- a receive that may not wait is answered at its moment, where somebody waits for that
-  pub admits_served : (r : Ask P S Told) (parked : List (Ask P S Told)) (happened : List (Event (Mail P S Told) S Answered))
-      → may_wait r ≡ false → is_receive r.command ≡ true → IsServedAt r.moment r happened → Admits r parked happened parked
-  admits_served r parked happened not_waiting receives is =
-      subst (λ b. MatchBool b ((happened ≡ []) × (parked ≡ parked ++ r ∷ [])) ((parked ≡ parked) × MatchBool (is_receive r.command) (IsServedAt r.moment r happened) (IsAnsweredAt r.moment r happened)))
-      (sym not_waiting) (refl, subst (λ b. MatchBool b (IsServedAt r.moment r happened) (IsAnsweredAt r.moment r happened)) (sym receives) is)
+  -- a receive is answered at its moment, where somebody waits for that
+  pub admits_served : (r : Ask P S Told) (parked left : List (Ask P S Told)) (happened : List (Event (Mail P S Told) S Answered))
+      → left ≡ parked → is_receive r.command ≡ true → IsServedAt r.moment r happened → Admits r parked happened left
+  admits_served r parked left happened same receives is =
+      inr (same, subst (λ b. MatchBool b (IsServedAt r.moment r happened) (IsAnsweredAt r.moment r happened)) (sym receives) is)
 
-  -- an ask that may not wait is answered at its moment
-  pub admits_answered : (r : Ask P S Told) (parked : List (Ask P S Told)) (happened : List (Event (Mail P S Told) S Answered))
-      → may_wait r ≡ false → IsAnsweredAt r.moment r happened → Admits r parked happened parked
-  admits_answered r parked happened not_waiting is =
-      subst (λ b. MatchBool b ((happened ≡ []) × (parked ≡ parked ++ r ∷ [])) ((parked ≡ parked) × MatchBool (is_receive r.command) (IsServedAt r.moment r happened) (IsAnsweredAt r.moment r happened)))
-      (sym not_waiting) (refl, both_ways (is_receive r.command) (inr is) is)
+  -- an ask is answered at its moment
+  pub admits_answered : (r : Ask P S Told) (parked left : List (Ask P S Told)) (happened : List (Event (Mail P S Told) S Answered))
+      → left ≡ parked → IsAnsweredAt r.moment r happened → Admits r parked happened left
+  admits_answered r parked left happened same is = inr (same, both_ways (is_receive r.command) (inr is) is)
 
 -- ---- serving mails
 

@@ -88,11 +88,11 @@ module _ {P S Told : Type 0} where
       × LooksAt limit at quiet before r first kept between × (happened ≡ first ++ rest) × (left ≡ with_kept kept r others)
       × LooksOver limit at kept between rs rest after others
 
-  -- an ask that comes waits behind the other polls, or is answered at its moment; a receive only where somebody waits for its answer
+  -- an ask that comes is kept behind the polls that wait, where it may wait and there is room for it, or is answered at its moment; a receive only where somebody waits for its answer
   abbrev pub Admits : Ask P S Told → List (Ask P S Told) → List (Event (Mail P S Told) S Answered) → List (Ask P S Told) → Type 0
   Admits r parked happened left =
-      MatchBool (may_wait r) ((happened ≡ []) × (left ≡ parked ++ r ∷ []))
-      ((left ≡ parked) × MatchBool (is_receive r.command) (IsServedAt r.moment r happened) (IsAnsweredAt r.moment r happened))
+      ((may_wait r ≡ true) × (happened ≡ []) × (left ≡ parked ++ r ∷ []))
+      ⊎ ((left ≡ parked) × MatchBool (is_receive r.command) (IsServedAt r.moment r happened) (IsAnsweredAt r.moment r happened))
 
 -- what is known of the directory once a queue was taken out of it, and once one was given another target
 module _ {P S Told : Type 0} (taken_out : ℕ → Type 0) (retargeted : ℕ → ℕ → Type 0) where

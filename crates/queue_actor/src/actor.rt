@@ -1,6 +1,6 @@
 //! The actor of a queue: it takes the queue's mail, answers asks, and keeps polls that wait.
 
-ghost use Rattle.std.specs.Prelude.{◌≡◌, ◌<◌, false, [], ◌∷◌, ◌++◌, List, MatchBool, is_some};
+ghost use Rattle.std.specs.Prelude.{◌≡◌, ◌<◌, ◌≤◌, true, false, [], ◌∷◌, ◌++◌, List, MatchBool, is_some};
 ghost use Rattle.std.specs.Arc.{arc_value};
 ghost use Rattle.std.specs.VecDeque.{deque_len, deque_capacity};
 ghost use Rattle.desk.specs.Views.{IsKnown};
@@ -24,7 +24,6 @@ use queue_core::{Command, Reply};
 use std::alloc::Global;
 use std::collections::VecDeque;
 use std::sync::{Arc, Wait};
-use std::thread;
 
 /// The actor of a queue: the queue's desk, the pass that the actor calls with, the uid and the limits of the queue,
 /// and where it stores how many polls wait. It looks with this pass whether polls have to wait, and moves the queue's dead letters with it.
@@ -255,7 +254,9 @@ where
     }
 
     /// Serves the mails of a mailbox one after another, until it is told to end, its queue is closed, or no
-    /// mail will come any more. A mailbox has to take the answer to each ask that it brought, once.
+    /// mail will come any more. A mailbox has to take the answer to each ask that it brought, once. A receive that
+    /// would wait is answered at its moment, like other asks, where memory for it is refused: no other mail waits for
+    /// that memory.
     pub fn run<S: Drop, I: Inbox<Mail<P, S>, S, Answer<P>>, D: Targets, R: Wait, G: Gate>(
         &mut self,
         rt: &R,
@@ -276,7 +277,6 @@ where
         let mut parked = VecDeque::new(alloc);
         let mut last = Moment::zero();
         for _ in rt.forever() {
-            make_room(rt, &mut parked);
             let Some(mail) = mailbox.next(rt) else {
                 return self.end(rt, alloc, last, parked, mailbox, directory, gate);
             };
@@ -442,18 +442,13 @@ where
     }
 }
 
-/// Makes room for one poll more. While memory is refused it tries again, and no mail is taken.
-fn make_room<T, R: Wait>(rt: &R, parked: &mut VecDeque<T>)
+/// Makes room for an ask that may wait, unless memory for it is refused. It is told whether the ask may wait and has room.
+fn makes_room<P: Press, S: Drop>(ask: &Ask<P, S>, parked: &mut VecDeque<Ask<P, S>>) -> bool
     ensures same { parked.new.items ≡ parked.old.items }
-    ensures room { deque_len parked.new < deque_capacity parked.new }
+    ensures room { result ≡ true → (may_wait ask.now ≡ true) × (deque_len parked.new < deque_capacity parked.new) }
+    ensures none { result ≡ false → may_wait ask.now ≡ true → deque_capacity parked.old ≤ deque_len parked.old }
 {
-    for _ in rt.forever() {
-        if parked.reserve(1).is_ok() {
-            return;
-        }
-        thread::yield_now();
-    }
-    unreachable!()
+    may_wait(ask) && parked.reserve(1).is_ok()
 }
 
 /// Answers an ask at its moment. What the command changes in the directory is entered there before its
@@ -480,8 +475,10 @@ where
     is_closed
 }
 
-/// An ask that may wait is kept behind the polls that wait. Every other is answered at its moment, unless it
-/// is a receive whose client waits no longer. It is told whether the queue is closed.
+/// An ask that may wait is kept behind the polls that wait, where there is room for it. Every other is answered at its
+/// moment, unless it is a receive whose client waits no longer. So a receive that would wait is asked at once where
+/// memory for it is refused: its client gets what is there, maybe nothing. No clause can say that memory was refused:
+/// [kept] says that a place which is there is taken. It is told whether the queue is closed.
 fn admit<P: Press, S: Drop, I: Inbox<Mail<P, S>, S, Answer<P>>, D: Targets, R: Wait, G: Gate>(
     rt: &R,
     alloc: Global,
@@ -494,14 +491,14 @@ fn admit<P: Press, S: Drop, I: Inbox<Mail<P, S>, S, Answer<P>>, D: Targets, R: W
 ) -> bool
 where
     P::Told: Drop,
-    requires room { deque_len parked.old < deque_capacity parked.old }
     requires may { TakesAnswers I.brings I.is_over I.may_give I.gives I.was_left (parked.old.items ++ ask ∷ []) ask.moment mailbox.old }
     ensures admitted { (happened : List (Event (Mail P S P.Told) S Answered)) × Admits ask parked.old.items happened parked.new.items
         × Leads (D.was_taken_out directory.now) (D.was_retargeted directory.now) uid happened result
         × GoesThrough I.brings I.is_over I.gives I.was_left mailbox.old happened mailbox.new }
+    ensures kept { may_wait ask ≡ true → deque_len parked.old < deque_capacity parked.old → parked.new.items ≡ parked.old.items ++ ask ∷ [] }
     ensures may { TakesAnswers I.brings I.is_over I.may_give I.gives I.was_left parked.new.items ask.moment mailbox.new }
 {
-    if may_wait(&ask) {
+    if makes_room(&ask, parked) {
         parked.push_back_reserved(ask);
         return false;
     }
@@ -526,7 +523,6 @@ fn take_in<P: Press, S: Drop, I: Inbox<Mail<P, S>, S, Answer<P>>, D: Targets, R:
 ) -> (Moment, bool)
 where
     P::Told: Drop,
-    requires room { deque_len parked.old < deque_capacity parked.old }
     requires may { TakesAnswers I.brings I.is_over I.may_give I.gives I.was_left (waiting_with parked.old.items mail) (moment_with last mail) mailbox.old }
     ensures taken { (happened : List (Event (Mail P S P.Told) S Answered))
         × TakesIn (D.was_taken_out directory.now) (D.was_retargeted directory.now) uid mail last parked.old.items happened parked.new.items result.0 result.1

@@ -13,7 +13,7 @@ use futures::test::MockTask;
 use journal::Moment;
 use message::{Fault, QueueName};
 use queue_config::{Limits, Settings};
-use queue_core::{Command, QueueState, Reply};
+use queue_core::{Command, Maximum, QueueState, Reply};
 use std::alloc::Global;
 use std::sync::{Arc, Wait};
 use std::test::Fail;
@@ -65,21 +65,45 @@ fn served(
     Ok((queue, (actor, mails)))
 }
 
-/// Asks a queue for a look, and tells its actor to end behind that.
-fn begin<R: Wait>(rt: &R, alloc: Global, queue: Client) -> Result<AskFuture<NoPress>, Fault> {
+/// Puts an ask for the queue of a uid at 0, which may wait until a moment.
+fn put<R: Wait>(
+    rt: &R,
+    alloc: Global,
+    queues: &Shared,
+    uid: u64,
+    command: Command,
+    until: Moment,
+) -> Result<AskFuture<NoPress>, Fault> {
+    let queue = queues.find_uid(rt, uid)?;
     let Served {
         mailbox,
         desk,
         pass,
         ..
-    } = queue;
-    let (at, look) = (Moment::zero(), Command::Look);
-    match AskFuture::new(rt, alloc, &mailbox, desk, pass, at, look, at) {
-        Ok(future) => {
-            let _ = mailbox.send(rt, Mail::End);
-            Ok(future)
-        }
-        Err(refused) => Err(refused.fault),
+    } = queue.ok_or(Fault::QueueDoesNotExist)?;
+    let begun = Moment::zero();
+    AskFuture::new(rt, alloc, &mailbox, desk, pass, begun, command, until).map_err(
+        |refused| refused.fault,
+    )
+}
+
+/// Tells the actor of the queue of a uid to end.
+fn put_end<R: Wait>(rt: &R, queues: &Shared, uid: u64) -> Result<(), Fault> {
+    let queue = queues.find_uid(rt, uid)?.ok_or(Fault::QueueDoesNotExist)?;
+    queue
+        .mailbox
+        .send(rt, Mail::End)
+        .map_err(|_| Fault::OutOfMemory)
+}
+
+/// The answer that a future gives.
+fn answered(
+    task: &mut MockTask,
+    future: &mut AskFuture<NoPress>,
+) -> Result<Answer<NoPress>, Fault> {
+    match task.poll(future) {
+        Poll::Ready(Ok(answer)) => Ok(answer),
+        _ => Err(Fault::ActorGone),
     }
 }
 
@@ -88,6 +112,24 @@ fn entries_of(answer: &Answer<NoPress>) -> Result<u64, Fault> {
     match answer.reply() {
         Ok(Reply::Looked(look)) => Ok(look.lines),
         Ok(_) => Err(Fault::UnsupportedOperation),
+        Err(fault) => Err(*fault),
+    }
+}
+
+/// Whether a queue was closed.
+fn was_closed(answer: &Answer<NoPress>) -> Result<(), Fault> {
+    match answer.reply() {
+        Ok(_) => Ok(()),
+        Err(fault) => Err(*fault),
+    }
+}
+
+/// Whether a receive waited until its queue was closed. One that did not is told that nothing is there.
+fn has_waited(answer: &Answer<NoPress>) -> Result<bool, Fault> {
+    match answer.reply() {
+        Ok(Reply::Received(_)) => Ok(false),
+        Ok(_) => Err(Fault::UnsupportedOperation),
+        Err(Fault::QueueDoesNotExist) => Ok(true),
         Err(fault) => Err(*fault),
     }
 }
@@ -101,41 +143,51 @@ fn entered<R: Wait>(rt: &R, host: &HostRuntime, queues: &Shared) -> Result<Place
     Ok(place)
 }
 
-/// An actor serves its mailbox, in which is an ask for a look, until the end; and what was answered.
-fn looked_at<R: Wait>(
+/// An actor serves its mailbox: a look, a receive that may wait, a close, and the end. How many entries the look told,
+/// and whether the receive waited.
+fn asked<R: Wait>(
     rt: &R,
     host: &HostRuntime,
     queues: &Shared,
     place: Place,
-) -> Result<u64, Fault> {
+) -> Result<(u64, bool), Fault> {
     let (mut actor, mut mails) = place;
+    let (alloc, uid, zero) = (host.alloc(), actor.uid, Moment::zero());
     let mut task = MockTask::new(host).ok().ok_or(Fault::OutOfMemory)?;
-    let queue = queues.find_uid(rt, actor.uid)?;
-    let queue = queue.ok_or(Fault::QueueDoesNotExist)?;
-    let mut future = begin(rt, host.alloc(), queue)?;
-    actor.run(rt, host.alloc(), &mut mails, queues, &NoGate);
-    match task.poll(&mut future) {
-        Poll::Ready(Ok(answer)) => entries_of(&answer),
-        _ => Err(Fault::ActorGone),
-    }
+    let (maximum, until) = (Maximum::new(1), Moment::new(1000));
+    let receive = Command::Receive {
+        maximum: maximum.ok_or(Fault::InvalidParameterValue)?,
+        timeout: None,
+    };
+    let until = until.ok_or(Fault::InvalidParameterValue)?;
+    let mut look = put(rt, alloc, queues, uid, Command::Look, zero)?;
+    let mut poll = put(rt, alloc, queues, uid, receive, until)?;
+    let mut close = put(rt, alloc, queues, uid, Command::Close, zero)?;
+    put_end(rt, queues, uid)?;
+    actor.run(rt, alloc, &mut mails, queues, &NoGate);
+    let entries = entries_of(&answered(&mut task, &mut look)?)?;
+    let waited = has_waited(&answered(&mut task, &mut poll)?)?;
+    was_closed(&answered(&mut task, &mut close)?)?;
+    Ok((entries, waited))
 }
 
-/// A queue is served, and a look at it is asked and answered: how many entries it has. `OutOfMemory` where any allocation
-/// was refused, but where a task finds no memory to be woken, and an actor none for one poll more: they go on.
-fn looked<R: Wait>(rt: &R, host: HostRuntime) -> Result<u64, Fault> {
+/// A queue is served, and what is asked of it is answered. `OutOfMemory` where any allocation was refused, but where a
+/// task finds no memory to be woken: that goes on; and where an actor finds none for one poll more: then that does not
+/// wait.
+fn served_until_its_end<R: Wait>(rt: &R, host: HostRuntime) -> Result<(u64, bool), Fault> {
     let queues = Shared::new(host.alloc(), Limits::default())?;
     let place = entered(rt, &host, &queues)?;
-    looked_at(rt, &host, &queues, place)
+    asked(rt, &host, &queues, place)
 }
 
-/// What finds no memory says so, and succeeds when it is made again. The gate runs this with ample memory;
-/// `rt try --test --fail-alloc N -- refused_memory` refuses the Nth allocation.
+/// What finds no memory says so, and succeeds when it is made again; a receive waits then, too. The gate runs this with
+/// ample memory; `rt try --test --fail-alloc N -- refused_memory` refuses the Nth allocation.
 #[test]
 fn refused_memory(rt: HostRuntime) -> Result<(), Fail> {
-    let entries = match looked(&rt, rt) {
-        Err(Fault::OutOfMemory) => looked(&rt, rt)?,
-        entries => entries?,
+    let told = match served_until_its_end(&rt, rt) {
+        Err(Fault::OutOfMemory) | Ok((_, false)) => served_until_its_end(&rt, rt)?,
+        told => told?,
     };
-    assert_eq!(rt; entries, 1);
+    assert_eq!(rt; told, (1, true));
     Ok(())
 }

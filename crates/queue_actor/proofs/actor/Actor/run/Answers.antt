@@ -1,6 +1,6 @@
 use Rattle.std.proofs.Common.{◌≡◌, [], subst, sym, ap}
 use Rattle.queue_actor.specs.Calling.{LooksAtTick}
-use Rattle.queue_actor.specs.Serving.{TakesIn, Ends, Serves}
+use Rattle.queue_actor.specs.Serving.{TakesIn, Serves}
 use Rattle.queue_actor.specs.Waiting.{TakesAnswers}
 use Rattle.queue_actor.proofs.ServingLemmas.{Serving, serving_begins, serving_goes, serving_ends, serving_is_ended, takes_brought, takes_over}
 use Rattle.queue_actor.proofs.actor.Actor.run.Goals as goal
@@ -18,8 +18,7 @@ loop-init g c = (
 
 pub end-requires : goal.end-requires
 end-requires g c = record {
-  may = subst (λ asks. TakesAnswers g.I.Inbox.brings g.I.Inbox.is_over g.I.Inbox.may_give g.I.Inbox.gives g.I.Inbox.was_left asks c.loop.last c.next-in-loop.new.self) (sym c.make_room.ensures.same)
-      (takes_over g.I.Inbox.brings g.I.Inbox.is_over g.I.Inbox.may_give g.I.Inbox.gives g.I.Inbox.was_left c.loop.parked.items c.loop.last c.loop.mailbox c.next-in-loop.new.self c.loop.invariant.3 c.in_default.ensures.none);
+  may = takes_over g.I.Inbox.brings g.I.Inbox.is_over g.I.Inbox.may_give g.I.Inbox.gives g.I.Inbox.was_left c.loop.parked.items c.loop.last c.loop.mailbox c.next-in-loop.new.self c.loop.invariant.3 c.in_default.ensures.none;
 }
 
 pub returns-in_default-clause-served : goal.returns-in_default-clause-served
@@ -28,17 +27,18 @@ returns-in_default-clause-served g c =
     let ended = c.end.ensures.served in
     let all = serving_ends (g.D.Targets.was_told c.args.directory.now) (g.D.Targets.was_taken_out c.args.directory.now) (g.D.Targets.was_retargeted c.args.directory.now) g.I.Inbox.brings g.I.Inbox.is_over g.I.Inbox.gives g.I.Inbox.was_left c.args.self.now.uid c.limits.inside.in_flight c.args.self.now.pass c.args.mailbox.now
     c.loop.self.pass c.loop.parked.items c.loop.last c.loop.mailbox ended.0 c.end.new.self.pass c.next-in-loop.new.self c.end.new.mailbox
-    c.loop.invariant.2 c.in_default.ensures.none (subst (λ asks. Ends (g.D.Targets.was_told c.args.directory.now) (g.D.Targets.was_taken_out c.args.directory.now) (g.D.Targets.was_retargeted c.args.directory.now) c.loop.last c.loop.self.pass asks ended.0 c.end.new.self.pass) c.make_room.ensures.same ended.1) ended.2 in (
+    c.loop.invariant.2 c.in_default.ensures.none ended.1 ended.2 in (
       all.0,
       all.1,
       subst (λ n. Serves (g.D.Targets.was_told c.args.directory.now) (g.D.Targets.was_taken_out c.args.directory.now) (g.D.Targets.was_retargeted c.args.directory.now) c.args.self.now.uid n c.args.self.now.pass [] 0 all.0 all.1 c.end.new.self.pass) limit all.2,
       all.3,
     )
 
-pub take_in-at-requires-clause-may : goal.take_in-at-requires-clause-may
-take_in-at-requires-clause-may g c =
-    takes_brought g.I.Inbox.brings g.I.Inbox.is_over g.I.Inbox.may_give g.I.Inbox.gives g.I.Inbox.was_left c.make_room.new.parked.items c.loop.last c.loop.mailbox c.next-in-loop.new.self c.in-Some-next.mail
-    (subst (λ asks. TakesAnswers g.I.Inbox.brings g.I.Inbox.is_over g.I.Inbox.may_give g.I.Inbox.gives g.I.Inbox.was_left asks c.loop.last c.loop.mailbox) (sym c.make_room.ensures.same) c.loop.invariant.3) c.in-Some-next.ensures.some
+pub take_in-at-requires : goal.take_in-at-requires
+take_in-at-requires g c = record {
+  may = takes_brought g.I.Inbox.brings g.I.Inbox.is_over g.I.Inbox.may_give g.I.Inbox.gives g.I.Inbox.was_left c.loop.parked.items c.loop.last c.loop.mailbox c.next-in-loop.new.self c.in-Some-next.mail
+      c.loop.invariant.3 c.in-Some-next.ensures.some;
+}
 
 pub returns-then-is_last-clause-served : goal.returns-then-is_last-clause-served
 returns-then-is_last-clause-served g c =
@@ -46,8 +46,7 @@ returns-then-is_last-clause-served g c =
     let taken = c.take_in-at.ensures.taken in
     let ended = c.end-then-is_last.ensures.served in
     let at = c.take_in-at.result.0 in
-    let takes = subst (λ b. TakesIn (g.D.Targets.was_taken_out c.args.directory.now) (g.D.Targets.was_retargeted c.args.directory.now) c.args.self.now.uid c.in-Some-next.mail c.loop.last c.loop.parked.items taken.0 c.take_in-at.new.parked.items at b) c.if-is_last.true
-    (subst (λ asks. TakesIn (g.D.Targets.was_taken_out c.args.directory.now) (g.D.Targets.was_retargeted c.args.directory.now) c.args.self.now.uid c.in-Some-next.mail c.loop.last asks taken.0 c.take_in-at.new.parked.items at c.take_in-at.result.1) c.make_room.ensures.same taken.1) in
+    let takes = subst (λ b. TakesIn (g.D.Targets.was_taken_out c.args.directory.now) (g.D.Targets.was_retargeted c.args.directory.now) c.args.self.now.uid c.in-Some-next.mail c.loop.last c.loop.parked.items taken.0 c.take_in-at.new.parked.items at b) c.if-is_last.true taken.1 in
     let all = serving_is_ended (g.D.Targets.was_told c.args.directory.now) (g.D.Targets.was_taken_out c.args.directory.now) (g.D.Targets.was_retargeted c.args.directory.now) g.I.Inbox.brings g.I.Inbox.is_over g.I.Inbox.gives g.I.Inbox.was_left c.args.self.now.uid c.limits.inside.in_flight c.args.self.now.pass c.args.mailbox.now
     c.loop.self.pass c.loop.parked.items c.loop.last c.loop.mailbox c.in-Some-next.mail at taken.0 ended.0 c.take_in-at.new.parked.items
     c.end-then-is_last.new.self.pass c.next-in-loop.new.self c.take_in-at.new.mailbox c.end-then-is_last.new.mailbox
@@ -64,8 +63,7 @@ loop-preserved g c =
     let looked = c.look_over.ensures.looked in
     let at = c.take_in-at.result.0 in
     let at_tick = subst (λ b. LooksAtTick c.limits.inside.in_flight at b c.look_at_tick-quiet.result c.loop.self.pass c.look_at_tick-quiet.new.self.pass) c.is_tick-is_tick.ensures c.look_at_tick-quiet.ensures in
-    let takes = subst (λ b. TakesIn (g.D.Targets.was_taken_out c.args.directory.now) (g.D.Targets.was_retargeted c.args.directory.now) c.args.self.now.uid c.in-Some-next.mail c.loop.last c.loop.parked.items taken.0 c.take_in-at.new.parked.items at b) c.if-is_last.false
-    (subst (λ asks. TakesIn (g.D.Targets.was_taken_out c.args.directory.now) (g.D.Targets.was_retargeted c.args.directory.now) c.args.self.now.uid c.in-Some-next.mail c.loop.last asks taken.0 c.take_in-at.new.parked.items at c.take_in-at.result.1) c.make_room.ensures.same taken.1) in (
+    let takes = subst (λ b. TakesIn (g.D.Targets.was_taken_out c.args.directory.now) (g.D.Targets.was_retargeted c.args.directory.now) c.args.self.now.uid c.in-Some-next.mail c.loop.last c.loop.parked.items taken.0 c.take_in-at.new.parked.items at b) c.if-is_last.false taken.1 in (
       tt,
       tt,
       serving_goes (g.D.Targets.was_told c.args.directory.now) (g.D.Targets.was_taken_out c.args.directory.now) (g.D.Targets.was_retargeted c.args.directory.now) g.I.Inbox.brings g.I.Inbox.is_over g.I.Inbox.gives g.I.Inbox.was_left c.args.self.now.uid c.limits.inside.in_flight c.args.self.now.pass c.args.mailbox.now
