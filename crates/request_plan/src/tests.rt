@@ -156,6 +156,27 @@ impl Talk {
     }
 }
 
+/// Batches whose first entry finds no memory, behind an arrow the commands that are asked behind that, and behind another
+/// one what the client is told: that entry fails by itself, and the one behind it is asked all the same.
+const STARVED: &str =
+    r#"SendMessageBatch {"QueueUrl":"jobs","Entries":[{"Id":"x","MessageBody":"a"},{"Id":"y","MessageBody":"a"}]} => Send 0 => {"Failed":[{"Code":"OutOfMemory","Id":"x","Message":"Out of memory.","SenderFault":false}],"Successful":[{"Id":"y","MD5OfMessageBody":"0cc175b9c0f1b6a831c399e269772661","MessageId":"00000000-0000-0001-0000-000000000000"}]}
+"#;
+
+/// What is asked for a batch behind its first entry, which finds no memory, and what its client is told.
+fn starved(rt: &HostRuntime, alloc: Global, batch: &str) -> Result<(String, String), Fail> {
+    let mut talk = Talk::new(rt, alloc)?;
+    let (action, body) = batch.split_once(' ').ok_or("a body")?;
+    let request = parse(alloc, action, body.as_bytes())?;
+    let told = match task_of(alloc, request) {
+        Task::Ask {
+            queue: _,
+            step: Step::Ask { then, .. },
+        } => talk.answer(after(alloc, 1, then, Err(Fault::OutOfMemory)))?,
+        _ => return Err(Fail::Form("a command")),
+    };
+    Ok((talk.asked, told))
+}
+
 /// What is asked for the last of some requests, and what its client is told.
 fn last_of(rt: &HostRuntime, alloc: Global, requests: &str) -> Result<(String, String), Fail> {
     let mut talk = Talk::new(rt, alloc)?;
@@ -179,6 +200,22 @@ fn requests(rt: HostRuntime) -> Result<(), Fail> {
         };
         assert_eq!(rt; asked.as_str(), commands);
         assert!(rt; told.as_str().contains(part), "{told}");
+    }
+    Ok(())
+}
+
+/// An entry of a batch that finds no memory fails by itself.
+#[test]
+fn entry_without_memory(rt: HostRuntime) -> Result<(), Fail> {
+    for case in STARVED.lines() {
+        let (batch, wanted) = case.split_once(" => ").ok_or("commands")?;
+        let (commands, answer) = wanted.split_once(" => ").ok_or("an answer")?;
+        let (asked, told) = match starved(&rt, rt.alloc(), batch) {
+            Err(Fail::Memory) => starved(&rt, rt.alloc(), batch)?,
+            said => said?,
+        };
+        assert_eq!(rt; asked.as_str(), commands);
+        assert_eq!(rt; told.as_str(), answer);
     }
     Ok(())
 }
