@@ -1,7 +1,7 @@
 #!/usr/bin/env python3
 """Refuses memory to the server while it serves, and looks what becomes of its clients. Ends with one line 'N passed, M failed'.
 
-usage: clients/refused.py [PROGRAM]     by default the one that `make run` starts
+usage: clients/refused.py [--quick] [PROGRAM]     by default the one that `make run` starts
 
 A conversation is gone through step by step. At each step each allocation of the server is refused in turn, over a connection that was open before and over one
 that is made then, and besides all from it on, until the request is answered. Allocations of all its threads count, as those of its clock. Before that the queue
@@ -12,9 +12,11 @@ is brought to where the step begins, with memory, and behind it is looked, with 
   - On a new connection the queue has the counts that the answer leaves, and its statistics have the same. Where OutOfMemory or nothing was told, what was asked
     may have been done or not, of a batch some. What was not done is done when it is asked again, and what was done is not harmed: the next step goes right.
   - A connection for each port that is open all the time is answered as always.
-  - The server goes on, tells `sqs_server: out of memory` once a second at most, and when all is over has no thread of a queue that is gone.
+  - The server goes on, tells `sqs_server: out of memory`, but once a second at most, and when all is over has no thread of a queue that is gone.
 
-Where nothing was refused, that is a failed check. It needs Linux and a C compiler, on x86-64.
+Where nothing was refused, that is a failed check, and so it is where no entry of a batch of sends failed by itself. It needs Linux and a C compiler, on x86-64.
+With --quick it goes through batches of sends and statistics alone, where it refuses one allocation at a time, and through a list of queues, where all from one
+on, over a connection that was open before: that takes a minute or two, and `make test` does it.
 """
 import collections
 import contextlib
@@ -23,7 +25,9 @@ import itertools
 import json
 import mmap
 import os
+import platform
 import re
+import shutil
 import socket
 import subprocess
 import sys
@@ -43,11 +47,14 @@ HOLD, LIMIT = 0.3, 20
 APART, STAYS = 0.5, 20
 # How long a queue may be in the making whose client is gone, and how long the server takes to start, in seconds.
 SETTLES = 2
+# When a receive counts as one that waits, in seconds.
+WAITS = 0.05
 # How many faults of a step are told.
 TOLD = 3
 NAMES = ["ApproximateNumberOfMessages", "ApproximateNumberOfMessagesDelayed", "ApproximateNumberOfMessagesNotVisible"]
-# Each step has what is asked, what is answered, and the messages that are visible, delayed and in flight then; of a batch, behind each entry. A * ends what an
-# answer begins with. UID stands for the number of the queue, and for what of an identity has it.
+# Each step has what is asked, what is answered, and the messages that are visible, delayed and in flight then; of a batch, behind each entry. A * stands for
+# any text in an answer, and UID for the number of the queue, and for what of an identity has it. What is asked behind `beside` is asked while a receive waits at
+# the queue, on a connection of its own: then some entries of a batch go to the queue's thread by mail.
 STEPS = """CreateQueue {"QueueName":"jobs","Attributes":{"VisibilityTimeout":"600"}}
 200 {"QueueUrl":"http://localhost:PORT/000000000000/jobs"}
 0 0 0
@@ -112,12 +119,16 @@ GET /statistics/queues/jobs
 200 {"age":*
 2 1 1
 
+GET /statistics/queues/beside
+200 {"age":*"name":"beside",*
+2 1 1
+
 GET /statistics/queues
-200 {"queues":[{"age":*
+200 {"queues":[{"age":*"name":"beside",*"name":"jobs",*
 2 1 1
 
 GET /metrics
-200 # HELP *
+200 # HELP *{queue="jobs"} *
 2 1 1
 
 GET /
@@ -138,7 +149,25 @@ CreateQueue {"QueueName":"jobs","Attributes":{"VisibilityTimeout":"600"}}
 
 DeleteQueue {"QueueUrl":"jobs"}
 200 {}
-none"""
+none
+
+CreateQueue {"QueueName":"jobs"}
+200 {"QueueUrl":"http://localhost:PORT/000000000000/jobs"}
+0 0 0
+
+beside SendMessageBatch {"QueueUrl":"jobs","Entries":[{"Id":"v","MessageBody":"a","DelaySeconds":900},{"Id":"w","MessageBody":"a","DelaySeconds":900},{"Id":"x","MessageBody":"a","DelaySeconds":900},{"Id":"y","MessageBody":"a","DelaySeconds":900},{"Id":"z","MessageBody":"a","DelaySeconds":900}]}
+200 {"Failed":[],"Successful":[{"Id":"v","MD5OfMessageBody":"0cc175b9c0f1b6a831c399e269772661","MessageId":"UID-0000-000000000000"},{"Id":"w","MD5OfMessageBody":"0cc175b9c0f1b6a831c399e269772661","MessageId":"UID-0000-000000000001"},{"Id":"x","MD5OfMessageBody":"0cc175b9c0f1b6a831c399e269772661","MessageId":"UID-0000-000000000002"},{"Id":"y","MD5OfMessageBody":"0cc175b9c0f1b6a831c399e269772661","MessageId":"UID-0000-000000000003"},{"Id":"z","MD5OfMessageBody":"0cc175b9c0f1b6a831c399e269772661","MessageId":"UID-0000-000000000004"}]}
+0 1 0, 0 2 0, 0 3 0, 0 4 0, 0 5 0"""
+CONFIGURATION = """[[queue]]
+name = "beside"
+[[alarm]]
+queue = "beside"
+name = "deep"
+metric = "ApproximateNumberOfMessagesVisible"
+operator = "GreaterThanThreshold"
+threshold = 0
+minutes = 3
+"""
 NO_TEXT = '{"message":"out of memory"}'
 ABSENT = "none"
 
@@ -151,10 +180,19 @@ class Step(NamedTuple):
     wanted: str
     before: str
     after: list
+    is_beside: bool
 
     def name(self):
         """Returns in a word or two what is asked."""
-        return f"GET {self.asked}" if self.action == "GET" else self.action
+        return f"GET {self.asked}" if self.action == "GET" else f"{self.action}{' beside a receive' if self.is_beside else ''}"
+
+    def is_quick(self):
+        """Returns whether it is one of the few that are gone through with --quick."""
+        return self.action in ("SendMessageBatch", "ListQueues") or self.asked.startswith("/statistics")
+
+    def is_look(self):
+        """Returns whether it asks for statistics, as the step behind it may do too."""
+        return self.action == "GET" and self.asked != "/"
 
     def is_change(self):
         """Returns whether it changes the queue."""
@@ -170,8 +208,9 @@ def steps():
     found, before = [], ABSENT
     for text in STEPS.split("\n\n"):
         asked, wanted, after = text.split("\n")
-        action, _, asked = asked.partition(" ")
-        found.append(Step(action, asked, wanted, before, after.split(", ")))
+        is_beside = asked.startswith("beside ")
+        action, _, asked = asked.removeprefix("beside ").partition(" ")
+        found.append(Step(action, asked, wanted, before, after.split(", "), is_beside))
         before = found[-1].after[-1]
     return found
 
@@ -198,12 +237,12 @@ class Memory:
 
 
 class Server:
-    """A server at free ports that can be refused memory, with the queue `beside`, and what it tells."""
+    """A server at free ports that can be refused memory, with the queue `beside`, whose statistics take memory for its alarm, and what it tells."""
 
     def __init__(self, program, library, room):
         self.memory = Memory(f"{room}/counts")
         with open(f"{room}/config.toml", "w", encoding="utf-8") as it:
-            it.write('[[queue]]\nname = "beside"\n')
+            it.write(CONFIGURATION)
         way = {**os.environ, "JUTKARIQ_PORT": "0", "JUTKARIQ_STATISTICS_PORT": "0", "LD_PRELOAD": library, "REFUSE_COUNTS": f"{room}/counts"}
         self.process = subprocess.Popen([program, f"{room}/config.toml"], stdout=subprocess.PIPE, stderr=subprocess.PIPE, env=way, text=True)
         self.told, line = [], self.process.stdout.readline()
@@ -290,7 +329,7 @@ def plain(answer):
 
 def is_right(step, answer):
     """Returns whether an answer is the one that is wanted."""
-    return plain(answer) == step.wanted or step.wanted.endswith("*") and plain(answer).startswith(step.wanted[:-1])
+    return re.fullmatch(".*".join(map(re.escape, step.wanted.split("*"))), plain(answer), re.DOTALL) is not None
 
 
 def entries_done(step, answer):
@@ -336,9 +375,10 @@ class Refusals:
         return None if is_right(step, answer) else f"with memory {step.name()} is answered {answer!r:.300}"
 
     def begin(self, place):
-        """Brings the queue to where a step begins. Returns a fault in words, or None."""
+        """Brings the queue to where a step begins, from the last time on that it was not there. Returns a fault in words, or None."""
         self.other.call("DeleteQueue", '{"QueueUrl":"jobs"}')
-        return next((fault for it in self.steps[:place] if it.is_change() and (fault := self.goes_right(it, self.other))), None)
+        first = max(it for it in range(place + 1) if self.steps[it].before == ABSENT)
+        return next((fault for it in self.steps[first:place] if it.is_change() and (fault := self.goes_right(it, self.other))), None)
 
     def counts(self, line):
         """Returns the counts of the queue."""
@@ -355,9 +395,16 @@ class Refusals:
         found = json.loads(answer[4:])
         return f"{found['visible']} {found['delayed']} {found['inFlight']}"
 
+    def waiter(self):
+        """Returns a connection on which a receive waits at the queue."""
+        line = Line(self.server)
+        line.ask("ReceiveMessage", '{"QueueUrl":"jobs","WaitTimeSeconds":20}')
+        time.sleep(WAITS)
+        return line
+
     def refused(self, step, first, is_rest, is_new):
         """Refuses memory to a request. Returns its answer, whether that came while it was refused, and how many allocations were asked for and refused."""
-        line = None if is_new else Line(self.server, step.action)
+        line, waiter = None if is_new else Line(self.server, step.action), self.waiter() if step.is_beside else None
         if line:
             line.call(*(("GET", "/health") if step.action == "GET" else ("GetQueueUrl", '{"QueueName":"beside"}')))
         self.server.memory.refuse(first, is_rest)
@@ -369,6 +416,8 @@ class Refusals:
         if is_late:
             answer = line.reply()
         line.close()
+        if waiter:
+            waiter.close()
         return answer, is_late, asked, refused
 
     def left(self, line):
@@ -399,7 +448,8 @@ class Refusals:
 
     def trial(self, place, first, is_rest, is_new):
         """Has one request that is refused memory. Returns what became of it in a word, whether it was late, how many allocations were asked for and refused, and faults."""
-        fault = self.begin(place)
+        # a look leaves all as it was, and so does the one behind it
+        fault = None if first > 1 and self.steps[place].is_look() and self.steps[place + 1].is_look() else self.begin(place)
         if fault:
             return "not begun", False, 0, 0, [fault]
         answer, is_late, asked, refused = self.refused(self.steps[place], first, is_rest, is_new)
@@ -419,6 +469,8 @@ def gone_through(it, refusals, place, is_rest, is_new):
         if refusals.server.process.poll() is not None or not refused and asked < first:
             break
     it.equal(f"whether {refusals.steps[place].name()} was refused memory", first > 1, True)
+    if refusals.steps[place].action == "SendMessageBatch" and not is_rest:
+        it.equal(f"whether an entry of {refusals.steps[place].name()} failed by itself", words["in part"] > 0, True)
     return words, faults
 
 
@@ -429,30 +481,37 @@ def told_of(words):
     return own + (f"; {words['late']} answered later, with memory again" if words["late"] else "")
 
 
-def all_steps(it, server):
-    """Goes through all steps in each of four ways, and tells what became of them."""
+def ways(step, is_quick):
+    """Returns in which ways a step is gone through: whether all is refused from one allocation on, and whether the connection is a new one."""
+    if is_quick:
+        # of a shortage alone that leaves no memory for a line is told
+        return [(step.action == "ListQueues", False)] if step.is_quick() else []
+    return itertools.product((False, True), repeat=2)
+
+
+def all_steps(it, server, is_quick):
+    """Goes through all steps in each of four ways, or through some in one, and tells what became of them."""
     refusals = Refusals(server)
     for place, step in enumerate(refusals.steps):
-        for is_rest in (False, True):
-            for is_new in (False, True):
-                begun = time.monotonic()
-                words, faults = gone_through(it, refusals, place, is_rest, is_new)
-                way = f"{'all from one on' if is_rest else 'one'}, {'a new connection' if is_new else 'an open connection'}"
-                print(f"{step.name()}, {way}: {told_of(words)}; {time.monotonic() - begun:.0f} s", flush=True)
-                print("".join(f"  {one}\n" for one in faults[:TOLD]) + (f"  {len(faults) - TOLD} more\n" if faults[TOLD:] else ""), end="", flush=True)
-                if server.process.poll() is not None:
-                    return
+        for is_rest, is_new in ways(step, is_quick):
+            begun = time.monotonic()
+            words, faults = gone_through(it, refusals, place, is_rest, is_new)
+            way = f"{'all from one on' if is_rest else 'one'}, {'a new connection' if is_new else 'an open connection'}"
+            print(f"{step.name()}, {way}: {told_of(words)}; {time.monotonic() - begun:.0f} s", flush=True)
+            print("".join(f"  {one}\n" for one in faults[:TOLD]) + (f"  {len(faults) - TOLD} more\n" if faults[TOLD:] else ""), end="", flush=True)
+            if server.process.poll() is not None:
+                return
     refusals.other.call("DeleteQueue", '{"QueueUrl":"jobs"}')
 
 
-def refused(it, program, library, room):
+def refused(it, program, library, room, is_quick):
     """Refuses memory to a server, and looks what it tells and leaves."""
     with Server(program, library, room) as server:
         begun = time.monotonic()
         # all its threads have started then
         time.sleep(SETTLES)
         threads = server.threads()
-        all_steps(it, server)
+        all_steps(it, server, is_quick)
         it.equal("whether the server goes on", server.process.poll(), None)
         end = time.monotonic() + STAYS
         while server.process.poll() is None and server.threads() != threads and time.monotonic() < end:
@@ -462,21 +521,26 @@ def refused(it, program, library, room):
             print("".join(f"refused.py: it told last: {line}\n" for _, line in server.told[-TOLD:]), end="")
         at = [when for when, line in server.told if line == SHORT]
         it.equal(f"times below {APART} s between two of its lines about a shortage", [one for one in (b - a for a, b in zip(at, at[1:])) if one < APART], [])
+        it.equal("whether it told of a shortage", at != [], True)
         it.equal("lines about a shortage that are too many", max(0, len(at) - int(at[-1] - at[0] + 2) if at else 0), 0)
         print(f"It took {(time.monotonic() - begun) / 60:.1f} minutes. The server told {len(server.told):,} lines, of which {len(at)} are of a shortage.")
 
 
 def main(words):
     """Does it, and returns the status."""
-    if len(words) > 1:
+    is_quick, words = words[:1] == ["--quick"], words[words[:1] == ["--quick"] :]
+    if len(words) > 1 or words[:1] and words[0].startswith("-"):
         print(__doc__, file=sys.stderr)
         return 2
+    if is_quick and not (shutil.which("cc") and platform.system() == "Linux" and platform.machine() == "x86_64"):
+        print("skipped: clients/refused.py, which needs Linux and a C compiler, on x86-64\n0 passed, 0 failed")
+        return 0
     program = words[0] if words else subprocess.check_output([f"{ROOT}/tools/run", "--which", "sqs_server"], text=True).strip()
     it = Checks()
     with tempfile.TemporaryDirectory(prefix="refused-") as room:
         library = f"{room}/refuse.so"
         subprocess.run(["cc", "-O1", "-shared", "-fPIC", "-o", library, f"{ROOT}/tools/refuse_allocation.c"], check=True)
-        refused(it, os.path.abspath(program), library, room)
+        refused(it, os.path.abspath(program), library, room, is_quick)
     print(f"{it.passed} passed, {it.failed} failed")
     return 1 if it.failed else 0
 

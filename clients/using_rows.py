@@ -6,6 +6,7 @@ import json
 import os
 import re
 import resource
+import select
 import socket
 import struct
 import subprocess
@@ -360,6 +361,18 @@ class Rows:
             self.check("the others are served", any(" 200 " in it for it in said))
         return "".join(said)
 
+    def crowded(self):
+        """More large bodies are announced than all threads take together, of which there are at most 16; a small request is answered beside them."""
+        head = "POST / HTTP/1.1\r\nHost: localhost\r\nX-Amz-Target: AmazonSQS.SendMessage\r\nContent-Length: 8388608\r\n\r\n".encode()
+        with self.server() as server, contextlib.ExitStack() as opened:
+            waiting = [self.connection(server, opened) for _ in range(16 * 4 + 1)]
+            for it in waiting:
+                it.sendall(head)
+            refused = select.select(waiting, [], [], PATIENCE)[0]
+            said = refused[0].recv(10_000).decode() if refused else ""
+            self.check("a small request is answered", asked_over(self.connection(server, opened)).startswith(b"HTTP/1.1 200 "))
+        return said
+
     def connection(self, server, opened):
         """Opens a connection that is closed at the end."""
         return opened.enter_context(socket.create_connection(("127.0.0.1", port_of(server.endpoint)), timeout=PATIENCE))
@@ -440,7 +453,8 @@ ROWS = {
     "a message that is gone": Rows.gone,
     "OverLimit": Rows.in_flight,
     "JournalFull": Rows.journal_full,
-    "ServiceUnavailable": Rows.busy,
+    "`ServiceUnavailable`, 500": Rows.busy,
+    "`ServiceUnavailable`, 503": Rows.crowded,
     "OutOfMemory": Rows.no_memory,
     "INSUFFICIENT_DATA": Rows.state_of_an_alarm,
     "No answer from the server": Rows.page_without_server,

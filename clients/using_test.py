@@ -329,7 +329,7 @@ def check_table(checks, program):
         checks.check(f"{row}: the row can be made to happen", name)
         if name:
             said = left.pop(name)(Rows(program, lambda what, is_so: checks.check(f"{row}: {what}", is_so)))
-            for text in [*texts, *re.findall(r"^(\d{3}) ", row)]:
+            for text in [*texts, *re.findall(r"^\d{3}(?= )|(?<=, )\d{3}$", row)]:
                 checks.check(f"{row}: {text} is seen", text in said, said)
     checks.equal("each row that can be made to happen stands in the table", sorted(left), [])
 
