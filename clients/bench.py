@@ -5,7 +5,8 @@ usage: clients/bench.py [--most N] [--seconds S] [--runs R] [--moto] [PROGRAM..]
 
 The program is crates/sqs_replay/out/sqs_replay, as `make build` makes it, unless others are named, which then take turns. It makes its
 inputs itself, of 1,000 messages and ten times as many up to N (100,000 unless another is named), and runs each R times (3) with at most
-S processor seconds (60). With --moto the same work goes through moto's queues in memory, by boto3, where both are installed. It prints the
+S processor seconds (60). With N from 100,000 on the kind of which a quarter is taken also runs at 400,000 messages, in at most 20 processor seconds;
+where it takes more, the status is 1. With --moto the same work goes through moto's queues in memory, by boto3, where both are installed. It prints the
 middle of the runs in processor seconds (user time) and the most memory that was resident, where less than some 12 MB shows as that, since a
 program begins as a copy of this tool. It writes docs/bench/table.md and docs/bench/speed.svg. What passes the limit is told as such, and is not tried with more messages.
 """
@@ -20,6 +21,8 @@ import time
 
 ROOT = os.path.normpath(os.path.join(os.path.dirname(os.path.abspath(__file__)), ".."))
 BODY = "x" * 100
+# How many queues there are in the kind that has many: as many as there may be.
+QUEUES = 1000
 COLOURS = ("#1b6ca8", "#c2571a", "#3a7d44", "#8a4f9e", "#b03a48", "#5b6770")
 
 
@@ -32,12 +35,12 @@ def send(at, queue="jobs"):
     return f'{at} SendMessage {{"QueueUrl":"{queue}","MessageBody":"{BODY}"}}\n'
 
 
-def receive(at, most=1):
-    return f'{at} ReceiveMessage {{"QueueUrl":"jobs","MaxNumberOfMessages":{most}}}\n'
+def receive(at, most=1, queue="jobs"):
+    return f'{at} ReceiveMessage {{"QueueUrl":"{queue}","MaxNumberOfMessages":{most}}}\n'
 
 
-def delete(at, number, receipt=1, uid=1):
-    return f'{at} DeleteMessage {{"QueueUrl":"jobs","ReceiptHandle":"{handle(uid, number, receipt)}"}}\n'
+def delete(at, number, receipt=1, uid=1, queue="jobs"):
+    return f'{at} DeleteMessage {{"QueueUrl":"{queue}","ReceiptHandle":"{handle(uid, number, receipt)}"}}\n'
 
 
 def created(name="jobs", attributes="{}"):
@@ -66,6 +69,33 @@ def cycles_of_1000(count):
 
 def cycles_of_100000(count):
     return cycles(count, 100_000)
+
+
+def cycles_over_queues(count):
+    """There are 1,000 queues. Each message is sent to the next of them, received there and deleted."""
+    names = [f"jobs-{place}" for place in range(QUEUES)]
+    for name in names:
+        yield created(name)
+    for number in range(count):
+        turn, place = divmod(number, QUEUES)
+        name = names[place]
+        yield send(1000, name) + receive(1000, queue=name) + delete(1000, turn, uid=place + 1, queue=name)
+
+
+def quarter(count):
+    """All are sent, then a quarter of them is received one by one, and each deleted. Last comes the question what is left."""
+    yield created()
+    for _ in range(count):
+        yield send(0)
+    for number in range(count // 4):
+        yield receive(1) + delete(1, number)
+    yield '1 Statistics {"QueueUrl":"jobs"}\n'
+
+
+def left_of_quarter(count):
+    """Returns a part of what is told then: nothing is in flight, and the journal has the queue's opening and an entry for each call."""
+    taken = count // 4
+    return f'"inFlight":0,"lines":{1 + count + 2 * taken},"name":"jobs","visible":{count - taken}}}'
 
 
 def backlog(count):
@@ -106,16 +136,23 @@ WORK = {
     "cycles of send, receive, delete": cycles,
     "cycles while 1,000 wait": cycles_of_1000,
     "cycles while 100,000 wait": cycles_of_100000,
+    "cycles over 1,000 queues": cycles_over_queues,
+    "sends, a quarter received and deleted": quarter,
     "a backlog received in tens": backlog,
     "messages that fail twice": failing,
     "sends, watched each minute": watched,
 }
-# How many messages are sent before those that are counted.
-WAITING = {"cycles while 1,000 wait": 1000, "cycles while 100,000 wait": 100_000}
+# How many messages are sent, or queues made, before what is counted.
+WAITING = {"cycles while 1,000 wait": 1000, "cycles while 100,000 wait": 100_000, "cycles over 1,000 queues": QUEUES}
+# What has to stand in the last answer, by the number of messages.
+LAST = {"sends, a quarter received and deleted": left_of_quarter}
+# A kind that runs once more with so many messages, and may take so many processor seconds then: about five times what it took of a proved program.
+WHOLE = {"sends, a quarter received and deleted": (400_000, 20)}
 
 
-def run(program, room, limit):
-    """Runs the program on the folder's lines. Returns its processor seconds and its most resident bytes, or None where it passed the limit."""
+def run(program, room, limit, last):
+    """Runs the program on the folder's lines. Returns its processor seconds and its most resident bytes, or None where it passed the limit. A text
+    has to stand in the last answer."""
     def bound():
         resource.setrlimit(resource.RLIMIT_CPU, (limit, limit + 1))
 
@@ -125,10 +162,16 @@ def run(program, room, limit):
         ran.returncode = status
     if os.WIFSIGNALED(status):
         return None
+    answer, refused = b"", None
     with open(f"{room}/answers", "rb") as answers:
-        refused = next((it for it in answers if not it.startswith(b"200 ")), None)
+        for answer in answers:
+            if not answer.startswith(b"200 "):
+                refused = answer
+                break
     if refused or os.WEXITSTATUS(status):
         sys.exit(f"bench: {program} ended with status {os.WEXITSTATUS(status)}, and refused a line: {refused}")
+    if last.encode() not in answer:
+        sys.exit(f"bench: {program} did not answer {last} at the end, but {answer}")
     return spent.ru_utime, spent.ru_maxrss * 1024
 
 
@@ -148,6 +191,12 @@ def moto(count):
         return time.process_time() - start
 
 
+def counts_of(work, most):
+    """Returns with how many messages a kind of work runs: 1,000 and ten times as many up to the most, and then as it runs whole."""
+    counts = [10**power for power in range(3, 10) if 10**power <= most]
+    return counts + [WHOLE[work][0]] if work in WHOLE and most >= 100_000 else counts
+
+
 def measured(programs, most, limit, runs):
     """Returns, of each kind of work and program, by the number of messages, the middle of the seconds and of the bytes, or None past the limit."""
     found = {}
@@ -155,19 +204,20 @@ def measured(programs, most, limit, runs):
         with open(f"{room}/config.toml", "w", encoding="utf-8") as it:
             it.write("[limits]\nmax_lines = 16777216\n")
         for work, lines in WORK.items():
-            count = 1000
-            while count <= most:
+            for count in counts_of(work, most):
+                whole, seconds = WHOLE.get(work, (None, limit))
+                bound = seconds if count == whole else limit
+                last = LAST[work](count) if work in LAST else ""
                 with open(f"{room}/lines", "w", encoding="utf-8") as it:
                     it.writelines(lines(count))
                 for program in programs:
                     if found.get((work, program), {0: True}).get(count // 10, True) is None:
                         found[work, program][count] = None
                         continue
-                    told = [run(program, room, limit) for _ in range(runs)]
+                    told = [run(program, room, bound, last) for _ in range(runs)]
                     middle = None if None in told else (sorted(it[0] for it in told)[runs // 2], sorted(it[1] for it in told)[runs // 2])
                     found.setdefault((work, program), {})[count] = middle
-                    print(f"{work}, {count}, {os.path.basename(program)}: {cell(middle, limit)}", flush=True)
-                count *= 10
+                    print(f"{work}, {count}, {os.path.basename(program)}: {cell(middle, bound)}", flush=True)
     return found
 
 
@@ -181,7 +231,8 @@ def table(found, names, limit):
     counts = sorted({count for row in found.values() for count in row})
     lines = ["| work | program | " + " | ".join(f"{it:,} messages" for it in counts) + " |", "|---|---|" + "---|" * len(counts)]
     for (work, program), row in found.items():
-        cells = [cell(row[it], limit) if it in row else "" for it in counts]
+        whole, seconds = WHOLE.get(work, (None, limit))
+        cells = [cell(row[it], seconds if it == whole else limit) if it in row else "" for it in counts]
         lines.append(f"| {work} | {names[program]} | {' | '.join(cells)} |")
     return "\n".join(lines) + "\n"
 
@@ -247,7 +298,10 @@ def main(words):
         with open(f"{ROOT}/docs/bench/{name}", "w", encoding="utf-8") as to:
             to.write(it)
     print(text, end="")
-    return 0
+    slow = [f"{work}, {count}, {names[program]}" for (work, program), row in found.items() for count, it in row.items() if it is None and count == WHOLE.get(work, (None,))[0]]
+    for it in slow:
+        print(f"bench: too slow: {it}", file=sys.stderr)
+    return 1 if slow else 0
 
 
 if __name__ == "__main__":
