@@ -1,8 +1,9 @@
 -- The statistics of a queue at its clock, as its journal, its clock and the rules of its alarms tell them (Amazon SQS metrics for CloudWatch; alarms are this
 -- project's own).
-use Rattle.std.specs.Prelude.{ℕ, List, map, length}
+use Rattle.std.specs.Prelude.{ℕ, List, map}
 use Rattle.alarm.specs.declared.state.AlarmState.{AlarmState}
 use Rattle.message.specs.Content.{content_size}
+use Rattle.journal.specs.Weight.{weight_of}
 use Rattle.queue_core.specs.Metrics.{current_flows, window_rows, alarm_state_in}
 use Rattle.queue_core.specs.Queue.{QueueHistory}
 use Rattle.queue_core.specs.States.{gauges_of}
@@ -16,7 +17,7 @@ alarms_of q = map (λ rule. (rule.name, alarm_state_in content_size q.lines q.cl
 abbrev pub sheet_of : QueueHistory → Statistics
 sheet_of q = record {
   name = q.name;
-  lines = length q.lines;
+  lines = weight_of q.lines;
   clock = q.clock;
   gauges = gauges_of q.lines q.clock;
   current = current_flows content_size q.lines q.clock;

@@ -7,7 +7,7 @@ use Rattle.metric_window.specs.declared.row.Row.{Row}
 
 pub record Statistics : Type 0 where
   pub name : List ℕ  -- the queue's
-  pub lines : ℕ  -- how many entries its journal has
+  pub lines : ℕ  -- how much its journal weighs: 1 for each entry, and for a checkpoint 1 more for each message that it keeps
   pub clock : ℕ  -- the time in milliseconds that all this speaks of
   pub gauges : Gauges  -- what stands in the queue at that time
   pub current : Flows  -- what has happened so far in that time's minute

@@ -17,7 +17,7 @@ use std::marker::Model;
 #[derive(Debug, Drop)]
 pub struct Sheet {
     pub name: QueueName,
-    /// How many entries its journal has.
+    /// How much its journal weighs: 1 for each entry, and for a checkpoint 1 more for each message that it keeps.
     pub lines: u64,
     /// The moment that all this speaks of.
     pub clock: Moment,
@@ -49,7 +49,7 @@ impl Sheet {
     {
         Ok(Sheet {
             name: queue.name(),
-            lines: queue.journal().len() as u64,
+            lines: queue.weight(),
             clock: at,
             gauges: queue.gauges(),
             current: queue.current(),

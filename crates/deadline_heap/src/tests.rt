@@ -1,4 +1,4 @@
-//! Talks with a heap, by answers worked out by hand, and what it costs to put numbers in by falling moment.
+//! Talks with a heap, by answers worked out by hand, and what it costs to put many numbers in.
 
 use super::*;
 use journal::Ticks;
@@ -145,5 +145,21 @@ fn falling_moments(rt: HostRuntime) -> Result<(), Fail> {
     }
     assert!(rt; talk.1.count() >= 999);
     assert_eq!(rt; talk.0.first(), Some((1, 999)));
+    Ok(())
+}
+
+/// The same by rising moment, and in mixed order: each moment once, as 617 and 1000 have no common factor.
+#[test]
+fn rising_and_mixed_moments(rt: HostRuntime) -> Result<(), Fail> {
+    let alloc = rt.alloc();
+    for factor in [1, 617] {
+        let mut talk = (DeadlineHeap::new(alloc), Ticks::new(&rt));
+        for number in 0..1000_u64 {
+            let moment = number.wrapping_mul(factor) % 1000;
+            let _none = inserted(alloc, &mut talk, number, moment)?;
+        }
+        assert!(rt; talk.1.count() >= 999);
+        assert_eq!(rt; talk.0.first(), Some((0, 0)));
+    }
     Ok(())
 }

@@ -11,7 +11,7 @@ use Rattle.desk.specs.declared.view.Stage.TheVariants.{Drawn}
 use Rattle.desk.specs.History.{IsAnswered, after_call, state_of, IsLegalHistory, calls_by, call}
 use Rattle.desk.specs.Held.{Lying, IsBehind}
 use Rattle.desk.specs.Views.{IsKnown, knowledge_of, IsLastState}
-use Rattle.desk.specs.Steps.{at_stage, counting, HasSeen, call_of, behind_call, with_call}
+use Rattle.desk.specs.Steps.{at_stage, counting, HasSeen, HasPerformed, call_of, behind_call, with_call}
 use Rattle.desk.proofs.HistoryLemmas.{state_snoc, legal_snoc, own_call}
 
 -- the queue that a pass takes in its last turn
@@ -45,3 +45,18 @@ pub left_behind : (v : View) (at : ℕ) (command : Command) (reply : Result Repl
     → x.queue ≡ state_of v.start (v.seen ++ call v.number at command reply ∷ [])
 left_behind v at command reply x queue is b =
     let c : Call = call v.number at command reply in b.left ∙ ap (λ (q : QueueHistory). after_call q c) is ∙ sym (state_snoc v.start v.seen c)
+
+-- what is put back is the queue that was taken, behind the call
+pub performed : (v w : View) (at : ℕ) (command : Command) (reply : Result Reply Fault) (before here now : Lying) → w ≡ v → before.queue ≡ state_of v.start v.seen → before.place ≡ v.place
+    → IsAnswered before.queue at command reply → IsBehind before.queue at command reply here → here.place ≡ before.place → now ≡ here → HasPerformed w now
+performed v w at command reply before here now same is place answered b stays told =
+    let q : QueueHistory = state_of v.start v.seen in let c : Call = call v.number at command reply in
+    let made : c ≡ call_of v.number b.made = sym (kept v.number at command reply here before.queue b) in
+    let done : HasPerformed v here = record {
+      made = b.made;
+      last = b.last;
+      queue = b.left ∙ ap (λ (x : QueueHistory). after_call x c) is ∙ ap (λ (d : Call). after_call q d) made;
+      place = stays ∙ place;
+      answered = subst (λ (d : Call). IsAnswered q d.at d.command d.reply) made (subst (λ (x : QueueHistory). IsAnswered x at command reply) is answered);
+    } in
+    subst (λ (u : View). HasPerformed u now) (sym same) (subst (λ (x : Lying). HasPerformed v x) (sym told) done)

@@ -10,11 +10,13 @@ use Rattle.metric_window.specs.declared.row.Row.{Row}
 use Rattle.metric_window.specs.Window.{window_start, window_end}
 use Rattle.queue_core.specs.declared.command.Command.{Command}
 use Rattle.queue_core.specs.declared.reply.Reply.{Reply}
-use Rattle.queue_core.specs.Messages.{opens, created_time}
+use Rattle.std.specs.Option.{option_map_or}
+use Rattle.queue_core.specs.Messages.{Since, effect_of, opens, created_time}
 use Rattle.queue_core.specs.Metrics.{metric_row}
-use Rattle.queue_core.specs.Queue.{QueueHistory, at_moment, with_event, after_answer}
+use Rattle.queue_core.specs.Queue.{QueueHistory, at_moment, rebased, with_event, after_answer}
+use Rattle.queue_core.proofs.Scans.{StandsAlone}
 use Rattle.queue_core.proofs.LastingLemmas.{lasts_all}
-use Rattle.queue_core.proofs.MetricLemmas.{metric_row-later}
+use Rattle.queue_core.proofs.MetricLemmas.{metric_row-later, window_based}
 use Rattle.desk.specs.KeptRows.{RowsOfMinute, AreRowsOf}
 
 -- the rows that a function gives of a minute and those after it, and those that another gives
@@ -24,14 +26,17 @@ rows_agree f g first (suc count) same =
     ap (λ (row : Row). row ∷ map f (range_with_len (first + 1) count)) (same first (omega arith) (omega arith))
     ∙ ap (λ (rows : List Row). g first ∷ rows) (rows_agree f g (first + 1) count (λ minute le h. same minute (omega arith) (omega arith)))
 
--- what opens no queue changes nothing of when it was created
+-- what opens no queue and is no checkpoint changes nothing of when it was created
 created-opened : (b : Bool) (at time : ℕ) → b ≡ false → cond b at time ≡ time
 created-opened true at time h = absurd cc
 created-opened false at time h = refl
 
-created-push : (lines : List (Entry ContentText)) (e : Entry ContentText) → opens e.event ≡ false → created_time (lines ++ e ∷ []) ≡ created_time lines
-created-push [] e h = created-opened (opens e.event) e.at 0 h
-created-push (x ∷ xs) e h = ap (λ (time : ℕ). cond (opens x.event) x.at time) (created-push xs e h)
+created-push : (lines : List (Entry ContentText)) (e : Entry ContentText) → opens e.event ≡ false → StandsAlone e.event → created_time (lines ++ e ∷ []) ≡ created_time lines
+created-push [] e h alone =
+    created-opened (opens e.event) e.at (option_map_or (λ (s : Since). s.created) (effect_of e.event).since 0) h
+    ∙ ap (λ (o : Option Since). option_map_or (λ (s : Since). s.created) o 0) alone
+created-push (x ∷ xs) e h alone =
+    ap (λ (time : ℕ). cond (opens x.event) x.at (option_map_or (λ (s : Since). s.created) (effect_of x.event).since time)) (created-push xs e h alone)
 
 -- the rows at a clock depend on its minute alone
 abbrev rows_in : List (Entry ContentText) → ℕ → ℕ → List Row
@@ -47,8 +52,8 @@ rows_later k q at are =
           are.rows (omega arith) ∙ ap (rows_in q.lines (created_time q.lines)) same;
     }
 
-rows_more : (k : RowsOfMinute) (q : QueueHistory) (event : Event ContentText) → opens event ≡ false → AreRowsOf k q → AreRowsOf k (with_event q event)
-rows_more k q event o are =
+rows_more : (k : RowsOfMinute) (q : QueueHistory) (event : Event ContentText) → opens event ≡ false → StandsAlone event → AreRowsOf k q → AreRowsOf k (with_event q event)
+rows_more k q event o alone are =
     let e : Entry ContentText = record { at = q.clock; event = event } in
     let start : ℕ = window_start (created_time q.lines) q.clock in
     record {
@@ -56,12 +61,16 @@ rows_more k q event o are =
       rows = λ is.
           are.rows is
           ∙ rows_agree (λ m. metric_row content_size q.lines m) (λ m. metric_row content_size (q.lines ++ e ∷ []) m) start (window_end q.clock - start)
-          (λ minute le h. sym (metric_row-later content_size q.lines e minute (omega arith)))
-          ∙ ap (λ (created : ℕ). map (λ m. metric_row content_size (q.lines ++ e ∷ []) m) (range_with_len (window_start created q.clock) (window_end q.clock - window_start created q.clock))) (sym (created-push q.lines e o));
+          (λ minute le h. sym (metric_row-later content_size q.lines e minute alone (omega arith)))
+          ∙ ap (λ (created : ℕ). map (λ m. metric_row content_size (q.lines ++ e ∷ []) m) (range_with_len (window_start created q.clock) (window_end q.clock - window_start created q.clock))) (sym (created-push q.lines e o alone));
     }
+
+rows_based : (k : RowsOfMinute) (q : QueueHistory) → AreRowsOf k q → AreRowsOf k (rebased q)
+rows_based k q are = record { not_later = are.not_later; rows = λ is. are.rows is ∙ sym (window_based q) }
 
 pub rows_behind : (kept : Option RowsOfMinute) (q : QueueHistory) (at : ℕ) (command : Command) (answer : Result Reply Fault) → IfSome kept (λ k. AreRowsOf k q)
     → IfSome kept (λ k. AreRowsOf k (after_answer q at command answer))
 rows_behind None q at command answer are = tt
 rows_behind (Some k) q at command answer are =
-    lasts_all (λ r. AreRowsOf k r) (record { later = λ r moment p. rows_later k r moment p; more = λ r event o p. rows_more k r event o p }) q (record { at = at; command = command } ∷ []) (answer ∷ []) are
+    lasts_all (λ r. AreRowsOf k r) (record { later = λ r moment p. rows_later k r moment p; more = λ r event o alone p. rows_more k r event o alone p })
+    (λ r p. rows_based k r p) q (record { at = at; command = command } ∷ []) (answer ∷ []) are

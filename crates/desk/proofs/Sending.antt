@@ -16,6 +16,9 @@ use Rattle.queue_config.specs.contracts.limits.Limits as limits
 use Rattle.queue_config.specs.contracts.alarm_rule.AlarmRule as rule
 use Rattle.journal.specs.contracts.moment.Moment as moment
 use Rattle.journal.specs.contracts.numbers.Numbers as numbers
+use Rattle.journal.specs.contracts.base.KeptMessage as kept_message
+use Rattle.journal.specs.contracts.base.Parts as parts
+use Rattle.journal.specs.contracts.base.Base as checkpoint
 use Rattle.journal.specs.contracts.entry.Event as event
 use Rattle.journal.specs.contracts.entry.Entry as entry
 use Rattle.journal.specs.contracts.journal.Journal as journal
@@ -47,11 +50,20 @@ numbers_send = search (sendable, crosses) depth 40 fits 100000
 pub settings_send : IsSend settings.the_row
 settings_send = search (sendable, crosses) depth 40 fits 100000
 
+kept_message_send : IsSend (kept_message.the_row content.the_row)
+kept_message_send = search (content_send, sendable, crosses) depth 40 fits 100000
+
+parts_send : IsSend (parts.the_row content.the_row)
+parts_send = search (kept_message_send, settings_send, sendable, crosses) depth 40 fits 100000
+
+checkpoint_send : IsSend (checkpoint.the_row content.the_row)
+checkpoint_send = search (parts_send, sendable, crosses) depth 40 fits 100000
+
 event_send : IsSend (event.the_row content.the_row)
-event_send = search (content_send, numbers_send, settings_send, sendable, crosses) depth 40 fits 100000
+event_send = search (content_send, numbers_send, settings_send, checkpoint_send, sendable, crosses) depth 40 fits 100000
 
 entry_send : IsSend (entry.the_row content.the_row)
-entry_send = search (content_send, numbers_send, settings_send, sendable, crosses) depth 40 fits 100000
+entry_send = search (content_send, numbers_send, settings_send, checkpoint_send, sendable, crosses) depth 40 fits 100000
 
 journal_send : IsSend journal.the_row
 journal_send = search (entry_send, sendable, crosses) depth 40 fits 100000

@@ -1,6 +1,7 @@
 -- What lies on the desk, as the rule sees it.
-use Rattle.std.specs.Prelude.{◌≡◌, ℕ, List, Option, Some, None, Result}
+use Rattle.std.specs.Prelude.{◌≡◌, ℕ, Bool, not, ◌&&◌, if◌then◌else◌, List, Option, Some, None, Result}
 use Rattle.message.specs.declared.fault.Fault.{Fault}
+use Rattle.message.specs.Fault.{is_out_of_memory}
 use Rattle.queue_core.specs.declared.command.Command.{Command}
 use Rattle.queue_core.specs.declared.reply.Reply.{Reply}
 use Rattle.queue_core.specs.Queue.{QueueHistory, after_answer}
@@ -14,6 +15,10 @@ pub record Lying : Type 0 where
 
 abbrev pub untouched : QueueHistory → List ℕ → Lying
 untouched queue place = record { queue = queue; made = None; place = place }
+
+-- how many marks of the journal were told, behind an answer: none, where a checkpoint took the place of all entries
+abbrev pub told_behind : ℕ → Bool → Result Reply Fault → ℕ
+told_behind told rebases answer = if rebases && not (is_out_of_memory answer) then 0 else told
 
 -- the queue behind a call
 pub record IsBehind (queue : QueueHistory) (at : ℕ) (command : Command) (reply : Result Reply Fault) (x : Lying) : Type 0 where

@@ -1,6 +1,10 @@
 //! What lies on a desk.
 
-ghost use Rattle.std.specs.Prelude.{◌≡◌, [], IfOk, IfSome};
+ghost use Rattle.std.specs.Prelude.{◌≡◌, true, [], IfOk, IfSome};
+ghost use Rattle.queue_core.specs.Queue.{leaves_clock, reached, outcome_at, after_answer};
+ghost use Rattle.queue_core.specs.Legal.{IsLegal};
+ghost use Rattle.desk.specs.History.{IsAnswered};
+ghost use Rattle.desk.specs.Held.{told_behind};
 
 use crate::kept_rows::MinuteRows;
 use crate::made::Made;
@@ -29,6 +33,69 @@ pub(crate) struct Held<P: Press> {
     made: Option<Made>,
 }
 
+/// Whether a command leaves the clock as it is.
+fn leaves_clock(command: &Command) -> bool
+    ensures { result ≡ leaves_clock command.now }
+{
+    match command {
+        Command::FirstParcel => true,
+        Command::Send { .. }
+        | Command::Receive { .. }
+        | Command::Change { .. }
+        | Command::Delete { .. }
+        | Command::Purge
+        | Command::Set { .. }
+        | Command::Arrive { .. }
+        | Command::Settle { .. }
+        | Command::Orphan { .. }
+        | Command::Close
+        | Command::Look => false,
+    }
+}
+
+/// Comes to the moment of a command, and tells whether a checkpoint takes the place of all entries before the command does
+/// anything there.
+fn come(state: &mut QueueState, at: Moment, command: &Command, ticks: &mut Ticks) -> bool
+    ensures rebases { result ≡ (outcome_at state.old at command.now).rebases }
+    ensures legal { result ≡ true → IsLegal (reached state.old at command.now) }
+    ensures state { state.new ≡ reached state.old at command.now }
+{
+    if leaves_clock(command) {
+        return false;
+    }
+    state.advance(at, ticks);
+    state.rebases(command)
+}
+
+/// Performs a command, and tells whether a checkpoint has taken the place of all entries before that, unless memory ran out.
+fn answer(
+    alloc: Global,
+    state: &mut QueueState,
+    at: Moment,
+    command: &Command,
+    ticks: &mut Ticks,
+) -> (Result<Reply, Fault>, bool)
+    ensures answer { IsAnswered state.old at command.now result.0 }
+    ensures rebases { result.1 ≡ (outcome_at state.old at command.now).rebases }
+    ensures legal { result.1 ≡ true → IsLegal (reached state.old at command.now) }
+    ensures state { state.new ≡ after_answer state.old at command.now result.0 }
+{
+    let rebases = come(state, at, command, ticks);
+    let reply = state.perform(alloc, at, command, ticks);
+    (reply, rebases)
+}
+
+/// How many marks of the journal were printed, behind an answer: none, where a checkpoint took the place of all entries.
+fn told_behind(told: usize, rebases: bool, reply: &Result<Reply, Fault>) -> usize
+    ensures { result ≡ told_behind told rebases reply.now }
+{
+    if rebases && !matches!(reply, Err(Fault::OutOfMemory)) {
+        0
+    } else {
+        told
+    }
+}
+
 impl<P: Press> Model for Held<P> {
     ghost use Rattle.std.specs.Prelude.{IfSome};
     ghost use Rattle.desk.specs.Held.{Lying};
@@ -43,7 +110,6 @@ impl<P: Press> Model for Held<P> {
 }
 
 impl<P: Press> Held<P> {
-    ghost use Rattle.desk.specs.History.{IsAnswered};
     ghost use Rattle.desk.specs.Held.{untouched, IsBehind};
     ghost use Rattle.desk.specs.Printed.{IsToldOf};
 
@@ -78,7 +144,8 @@ impl<P: Press> Held<P> {
         ensures state { IsBehind self.old.queue at command.now result self.new }
         ensures place { self.new.place ≡ self.old.place }
     {
-        let reply = self.state.perform(alloc, at, command, &mut self.ticks);
+        let (reply, rebases) = answer(alloc, &mut *self.state, at, command, &mut self.ticks);
+        self.told = told_behind(self.told, rebases, &reply);
         self.made = Some(Made {
             at,
             command: Snapshot::of(command),
@@ -121,9 +188,9 @@ impl<P: Press> Held<P> {
         ) else {
             return None;
         };
-        let lines = turn.lines;
+        let entries = self.state.journal().len();
         let told = self.press.print(rt, alloc, turn)?;
-        self.told = lines as usize;
+        self.told = entries;
         Some(told)
     }
 

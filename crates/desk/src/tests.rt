@@ -54,8 +54,13 @@ impl Gate for Barrier {
 
 /// A queue that was opened at 0 under the uid 1, with the default settings.
 fn open(alloc: Global) -> Result<QueueState, Fault> {
+    open_with(alloc, Limits::default())
+}
+
+/// The same with these limits.
+fn open_with(alloc: Global, limits: Limits) -> Result<QueueState, Fault> {
     let (name, rules) = (QueueName::read("jobs")?, Vec::new(alloc));
-    let (settings, limits) = (Settings::default(), Limits::default());
+    let settings = Settings::default();
     QueueState::open(alloc, 1, name, settings, limits, rules, Moment::zero())
 }
 

@@ -14,13 +14,14 @@ use std::marker::Model;
 use std::sync::Arc;
 
 /// What is told of a turn, as it ends: the marks of the journal that were not told before, and the
-/// queue's numbers. Contracts see its parts, marks, rows and states as lists.
+/// queue's numbers. Marks that begin with a checkpoint take the place of all that were told before.
+/// Contracts see its parts, marks, rows and states as lists.
 #[derive(Debug, Drop)]
 pub struct Turn {
     pub marks: Marks,
     /// The queue's clock.
     pub clock: Moment,
-    /// How many entries its journal has.
+    /// How much its journal weighs: 1 for each entry, and for a checkpoint 1 more for each message that it keeps.
     pub lines: u64,
     /// What stands in the queue at the clock.
     pub gauges: Gauges,

@@ -1,8 +1,9 @@
 -- Entries without their contents: a mark is an entry with the size of its message's content. What stands for a content is a parameter, and a function tells its size in bytes.
 use Rattle.std.specs.Prelude.{ℕ}
+use Rattle.journal.specs.Base.{mark_base}
 use Rattle.journal.specs.declared.entry.Entry.{Entry}
 use Rattle.journal.specs.declared.entry.Event.{Event}
-use Rattle.journal.specs.declared.entry.Event.TheVariants.{Opened, Sent, Arrived, Received, Changed, Deleted, DeletedAgain, Purged, Set, Settled, Orphaned, Refused, Closed}
+use Rattle.journal.specs.declared.entry.Event.TheVariants.{Opened, Sent, Arrived, Received, Changed, Deleted, DeletedAgain, Purged, Set, Settled, Orphaned, Refused, Closed, Base}
 
 -- the same event, with the size in the place of a content
 abbrev pub mark_event : {C : Type 0} → (C → ℕ) → Event C → Event ℕ
@@ -19,6 +20,7 @@ mark_event size (Settled number) = Settled number
 mark_event size (Orphaned target) = Orphaned target
 mark_event size (Refused fault) = Refused fault
 mark_event size Closed = Closed
+mark_event size (Base base) = Base (mark_base size base)
 
 -- the mark of an entry: the same time, and the same event but for the content
 abbrev pub mark_of : {C : Type 0} → (C → ℕ) → Entry C → Entry ℕ

@@ -1,9 +1,10 @@
 //! What a journal's lines say.
 
-ghost use Rattle.std.specs.Prelude.{◌≡◌, IfOk, IfErr};
+ghost use Rattle.std.specs.Prelude.{◌≡◌, ◌-◌, ◌^◌, min, IfOk, IfErr};
 ghost use Rattle.message.specs.Content.{content_size};
 ghost use Rattle.message.specs.declared.fault.Fault.TheVariants.{OutOfMemory};
 
+use crate::base::Base;
 use crate::moment::Moment;
 use crate::numbers::Numbers;
 use message::{Content, Fault, MessageId, QueueName};
@@ -29,7 +30,8 @@ pub struct Origin {
 /// What happened to a queue. `C` stands for the content of a message.
 #[derive(Debug, Drop)]
 pub enum Event<C> {
-    /// The queue was opened under a uid, with its first settings. Every journal begins with this.
+    /// The queue was opened under a uid, with its first settings. A journal begins with this, or with what
+    /// stands for it and the entries after it.
     Opened {
         uid: u64,
         settings: Settings,
@@ -85,6 +87,8 @@ pub enum Event<C> {
     },
     /// The queue was closed. No entry follows.
     Closed,
+    /// A checkpoint: what stands for all entries before it, in their place. So it is a journal's first entry.
+    Base(Base<C>),
 }
 
 /// An event and its time.
@@ -146,12 +150,25 @@ impl Event<Content> {
             Event::Orphaned { target } => Event::Orphaned { target: *target },
             Event::Refused { fault } => Event::Refused { fault: *fault },
             Event::Closed => Event::Closed,
+            Event::Base(base) => Event::Base(base.mark(alloc)?),
         })
     }
 }
 
 impl Entry<Content> {
     ghost use Rattle.journal.specs.Mark.{mark_of};
+    ghost use Rattle.journal.specs.Weight.{event_weight};
+
+    /// How much of a journal's limit the line takes: 1, and a checkpoint 1 more for each message that it
+    /// keeps. A weight past 2^64 - 1 stays there.
+    pub(crate) fn weight(&self) -> u64
+        ensures { result ≡ min (event_weight self.now.event) (2 ^ 64 - 1) }
+    {
+        match &self.event {
+            Event::Base(base) => (base.messages().len() as u64).saturating_add(1),
+            _ => 1,
+        }
+    }
 
     /// The mark of a line. Its lists of numbers take memory: `OutOfMemory` is the only refusal.
     pub(crate) fn mark(&self, alloc: Global) -> Result<Mark, Fault>

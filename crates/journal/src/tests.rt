@@ -2,8 +2,10 @@
 //! call once, and once more where its memory is refused.
 
 use super::*;
-use message::{Content, Fault};
+use message::{Content, Fault, MessageId, QueueName};
+use queue_config::Settings;
 use std::alloc::Global;
+use std::fmt::Debug;
 use std::test::Fail;
 
 /// The number that a text is.
@@ -59,6 +61,114 @@ fn event(alloc: Global, text: &str, refused: &mut u32) -> Result<Event<Content>,
     })
 }
 
+/// The message of a number, as a checkpoint keeps it: one of an odd number came from another queue, had
+/// expired, and waits for the queue of uid 9.
+fn kept(alloc: Global, number: u64) -> Result<KeptMessage<Content>, Fault> {
+    let waits = number % 2 == 1;
+    let origin = Origin {
+        uid: 2,
+        number: 8,
+        name: QueueName::read("jobs")?,
+        id: MessageId { uid: 2, number: 8 },
+        sent: Moment::zero(),
+    };
+    Ok(KeptMessage {
+        number,
+        came: moment("11")?,
+        sent: moment("5")?,
+        due: u64::MAX,
+        is_expired: waits,
+        is_returned: !waits,
+        first_receive: Some(moment("12")?),
+        last_receive: moment("13")?,
+        origin: if waits { Some(origin) } else { None },
+        content: Content::new(alloc, String::from_str(alloc, "text")?, Vec::new(alloc))?,
+        target: if waits { Some(9) } else { None },
+    })
+}
+
+/// A checkpoint of queue 3 that keeps the messages of the numbers of a text, with commas between them; `-`
+/// has none.
+fn base(alloc: Global, text: &str) -> Result<Base<Content>, Fault> {
+    let mut messages = Vec::new(alloc);
+    for part in text.split(',').filter(|part| *part != "-") {
+        messages.push(kept(alloc, number(part)?)?)?;
+    }
+    let flows = KeptFlows {
+        sent: 1,
+        sent_size: 2,
+        received: 3,
+        empty_receives: 4,
+        deleted: 5,
+        refused: 6,
+        dead_letters_arrived: 7,
+    };
+    let row = KeptRow {
+        minute: 8,
+        flows,
+        visible: 9,
+        delayed: 10,
+        in_flight: 11,
+        age: 12,
+    };
+    let settings = Settings {
+        delay_seconds: 5,
+        ..Settings::default()
+    };
+    let parts = Parts {
+        uid: 3,
+        settings,
+        created: moment("10")?,
+        modified: moment("20")?,
+        receives: vec![in alloc; 0, 1, u64::MAX]?,
+        accepted: vec![in alloc;
+            TransferKey { uid: 7, number: 4 },
+            TransferKey { uid: 7, number: 0 },
+        ]?,
+        messages,
+        rows: vec![in alloc; row]?,
+        flows,
+    };
+    Base::new(alloc, parts)
+}
+
+/// Tells what a checkpoint says, and of each message that it keeps.
+fn tell_base<C: Debug>(text: &mut String, base: &Base<C>) -> Result<(), Fault> {
+    let created = base.created().milliseconds();
+    let modified = base.modified().milliseconds();
+    let delay = base.settings().delay_seconds;
+    write!(
+        text,
+        "queue {}, delay {delay}, {created} {modified}, ",
+        base.uid()
+    )?;
+    write!(text, "{:?} {:?} ", base.receives(), base.accepted())?;
+    write!(text, "{:?} {:?}", base.rows(), base.flows())?;
+    for message in base.messages() {
+        tell_kept(text, message)?;
+    }
+    Ok(())
+}
+
+/// Tells of a message that a checkpoint keeps: its content, its times, and how it stands.
+fn tell_kept<C: Debug>(text: &mut String, message: &KeptMessage<C>) -> Result<(), Fault> {
+    let (came, sent) = (message.came.milliseconds(), message.sent.milliseconds());
+    let first = message
+        .first_receive
+        .unwrap_or(Moment::zero())
+        .milliseconds();
+    let last = message.last_receive.milliseconds();
+    write!(
+        text,
+        "; {} {:?}, {came} {sent} ",
+        message.number, message.content
+    )?;
+    write!(text, "{first} {last} {}, ", message.due)?;
+    write!(text, "{} {} ", message.is_expired, message.is_returned)?;
+    write!(text, "{} {:?}", message.origin.is_some(), message.target)?;
+    Ok(())
+}
+
 /// Tells the time and the event of a line, where there is one.
 fn tell(text: &mut String, line: Option<&Line>) -> Result<(), Fault> {
     match line {
@@ -104,6 +214,30 @@ fn told(alloc: Global, talk: &mut (Journal, Ticks, u32), call: &str) -> Result<S
             let marks = journal.marks(alloc, number(rest)? as usize, ticks)?;
             let (count, cost) = (marks.len(), ticks.count());
             write!(text, "{:?} of {count}, {cost} ticks", marks.as_slice())?;
+        }
+        "rebase" => {
+            let (at, rest) = rest.split_once(' ').unwrap_or((rest, ""));
+            let (at, base) = (moment(at)?, base(alloc, rest)?);
+            journal.rebase(alloc, at, base)?;
+        }
+        "weight" => write!(text, "{} of {}", journal.weight(), journal.len())?,
+        "shown" => write!(text, "{:?}", &*journal)?,
+        "base" => {
+            if let Some(Entry { at, event }) = journal.line(0, ticks)
+                && let Event::Base(base) = event
+            {
+                write!(text, "{} ", at.milliseconds())?;
+                tell_base(&mut text, base)?;
+            }
+        }
+        "mark" => {
+            let marks = journal.marks(alloc, 0, ticks)?;
+            if let [Entry { at, event }, ..] = marks.as_slice()
+                && let Event::Base(base) = event
+            {
+                write!(text, "{} ", at.milliseconds())?;
+                tell_base(&mut text, base)?;
+            }
         }
         at => {
             let (at, event) = (moment(at)?, event(alloc, rest, refused)?);
@@ -156,6 +290,35 @@ read 0 1 => 10 Deleted { number: 4 }; none; 1 lines, 40 ticks
 20 deleted 5
 20 deleted 99 | 20 deleted 99 => JournalFull
 read 1 => 20 Deleted { number: 5 }; 2 lines, 41 ticks
+weight => 2 of 2
+// A journal can be shown without a tick, but not what its lines are.
+shown => Journal { len: 2, weight: 2, limit: 2, .. }
+// A checkpoint takes the place of all lines, and weighs 1 more than the messages that it keeps.
+rebase 30 2,5
+weight => 3 of 1
+base => 30 queue 3, delay 5, 10 20, [0, 1, 18446744073709551615] [TransferKey { uid: 7, number: 4 }, TransferKey { uid: 7, number: 0 }] [KeptRow { minute: 8, flows: KeptFlows { sent: 1, sent_size: 2, received: 3, empty_receives: 4, deleted: 5, refused: 6, dead_letters_arrived: 7 }, visible: 9, delayed: 10, in_flight: 11, age: 12 }] KeptFlows { sent: 1, sent_size: 2, received: 3, empty_receives: 4, deleted: 5, refused: 6, dead_letters_arrived: 7 }; 2 Content { parts: Parts { body: \"text\", attributes: [], size: 4 } }, 11 5 12 13 18446744073709551615, false true false None; 5 Content { parts: Parts { body: \"text\", attributes: [], size: 4 } }, 11 5 12 13 18446744073709551615, true false true Some(9)
+read 1 => none; 1 lines, 43 ticks
+// Its mark has the sizes of the contents, and all else as it stands there. It costs one operation, as that of any line does.
+mark => 30 queue 3, delay 5, 10 20, [0, 1, 18446744073709551615] [TransferKey { uid: 7, number: 4 }, TransferKey { uid: 7, number: 0 }] [KeptRow { minute: 8, flows: KeptFlows { sent: 1, sent_size: 2, received: 3, empty_receives: 4, deleted: 5, refused: 6, dead_letters_arrived: 7 }, visible: 9, delayed: 10, in_flight: 11, age: 12 }] KeptFlows { sent: 1, sent_size: 2, received: 3, empty_receives: 4, deleted: 5, refused: 6, dead_letters_arrived: 7 }; 2 4, 11 5 12 13 18446744073709551615, false true false None; 5 4, 11 5 12 13 18446744073709551615, true false true Some(9)
+read 1 => none; 1 lines, 45 ticks
+// A limit is one of weight.
+journal 4 | rebase 30 2,5 | 40 deleted 5
+weight => 4 of 2
+50 deleted 99 | 50 deleted 99 => JournalFull
+marks 1 => [Entry { at: Moment { milliseconds: 40 }, event: Deleted { number: 5 } }] of 1, 46 ticks
+rebase 60 -
+weight => 1 of 1
+mark => 60 queue 3, delay 5, 10 20, [0, 1, 18446744073709551615] [TransferKey { uid: 7, number: 4 }, TransferKey { uid: 7, number: 0 }] [KeptRow { minute: 8, flows: KeptFlows { sent: 1, sent_size: 2, received: 3, empty_receives: 4, deleted: 5, refused: 6, dead_letters_arrived: 7 }, visible: 9, delayed: 10, in_flight: 11, age: 12 }] KeptFlows { sent: 1, sent_size: 2, received: 3, empty_receives: 4, deleted: 5, refused: 6, dead_letters_arrived: 7 }
+70 deleted 5 | 70 deleted 6 | 70 deleted 7
+weight => 4 of 4
+80 deleted 99 | 80 deleted 99 => JournalFull
+// A checkpoint is taken past the limit too, and no line behind it.
+rebase 90 1,2,3,4
+weight => 5 of 1
+95 deleted 99 | 95 deleted 99 => JournalFull
+journal 0 | rebase 0 -
+weight => 1 of 1
+0 deleted 99 => JournalFull
 ";
 
 /// Each call is told as its line says, twice from the start. One that finds no memory changes nothing, and is made

@@ -3,8 +3,11 @@
 use Rattle.std.specs.Prelude.{ℕ, ◌+◌, ◌-◌, ◌/◌, ◌^◌, ◌==◌, min, List, [], ◌∷◌, map, filter, length, if◌then◌else◌}
 use Rattle.journal.specs.declared.entry.Entry.{Entry}
 use Rattle.journal.specs.declared.entry.Event.{Event}
-use Rattle.journal.specs.declared.entry.Event.TheVariants.{Opened, Sent, Arrived, Received, Changed, Deleted, DeletedAgain, Purged, Set, Settled, Orphaned, Refused, Closed}
+use Rattle.journal.specs.declared.entry.Event.TheVariants.{Opened, Sent, Arrived, Received, Changed, Deleted, DeletedAgain, Purged, Set, Settled, Orphaned, Refused, Closed, Base}
+use Rattle.journal.specs.declared.base.KeptFlows.{KeptFlows}
+use Rattle.journal.specs.declared.base.KeptRow.{KeptRow}
 use Rattle.metric_window.specs.declared.flows.Flows.{Flows}
+use Rattle.metric_window.specs.declared.row.Row.{Row}
 
 -- nothing happened
 abbrev pub no_flows : Flows
@@ -13,6 +16,26 @@ no_flows = record { sent = 0; sent_size = 0; received = 0; empty_receives = 0; d
 -- a receive, by how many messages it offers: it is empty where it offers none
 abbrev pub receive_flows : ℕ → Flows
 receive_flows offers = record no_flows { received = offers; empty_receives = if offers == 0 then 1 else 0 }
+
+-- the flows that a checkpoint keeps
+abbrev pub flows_kept : KeptFlows → Flows
+flows_kept f = record {
+  sent = f.sent;
+  sent_size = f.sent_size;
+  received = f.received;
+  empty_receives = f.empty_receives;
+  deleted = f.deleted;
+  refused = f.refused;
+  dead_letters_arrived = f.dead_letters_arrived;
+}
+
+-- a row that a checkpoint keeps
+abbrev pub row_kept : KeptRow → Row
+row_kept r = record {
+  minute = r.minute;
+  flows = flows_kept r.flows;
+  gauges = record { visible = r.visible; delayed = r.delayed; in_flight = r.in_flight; age = r.age };
+}
 
 -- what one event is counted as: a clause for each, and none left out. What leaves by a receive isn't offered by it
 abbrev pub flows_of : {C : Type 0} → (C → ℕ) → Event C → Flows
@@ -29,6 +52,7 @@ flows_of size (Settled number) = no_flows
 flows_of size (Orphaned target) = no_flows
 flows_of size (Refused fault) = record no_flows { refused = 1 }
 flows_of size Closed = no_flows
+flows_of size (Base base) = flows_kept base.flows  -- what happened in its minute before it
 
 -- both together, number by number
 abbrev pub added : Flows → Flows → Flows

@@ -2,9 +2,9 @@
 
 ghost use Rattle.std.specs.Prelude.{◌≡◌};
 ghost use Rattle.message.specs.Content.{content_size};
-ghost use Rattle.metric_window.specs.Flows.{no_flows, receive_flows, flows_of, added, capped};
+ghost use Rattle.metric_window.specs.Flows.{no_flows, receive_flows, flows_of, flows_kept, added, capped};
 
-use journal::{Event, Line};
+use journal::{Event, KeptFlows, Line};
 
 /// What happened in a minute of a queue (Amazon SQS metrics for CloudWatch; `refused` and
 /// `dead_letters_arrived` are this project's own).
@@ -42,8 +42,8 @@ impl Flows {
         }
     }
 
-    /// The same and a line more (Amazon SQS metrics for CloudWatch). A number that would pass 2^64 - 1
-    /// stays there.
+    /// The same and a line more (Amazon SQS metrics for CloudWatch). A checkpoint counts as what it keeps
+    /// of its own minute. A number that would pass 2^64 - 1 stays there.
     pub fn with(self, line: &Line) -> Flows
         ensures { result ≡ capped (added self (flows_of content_size line.now.event)) }
     {
@@ -66,7 +66,25 @@ impl Flows {
                 refused: self.refused.saturating_add(1),
                 ..self
             },
+            Event::Base(base) => self.with_kept(base.flows()),
             _ => self,
+        }
+    }
+
+    /// The same and those that a checkpoint keeps.
+    fn with_kept(self, kept: KeptFlows) -> Flows
+        ensures { result ≡ capped (added self (flows_kept kept)) }
+    {
+        Flows {
+            sent: self.sent.saturating_add(kept.sent),
+            sent_size: self.sent_size.saturating_add(kept.sent_size),
+            received: self.received.saturating_add(kept.received),
+            empty_receives: self.empty_receives.saturating_add(kept.empty_receives),
+            deleted: self.deleted.saturating_add(kept.deleted),
+            refused: self.refused.saturating_add(kept.refused),
+            dead_letters_arrived: self
+                .dead_letters_arrived
+                .saturating_add(kept.dead_letters_arrived),
         }
     }
 

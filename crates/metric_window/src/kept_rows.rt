@@ -95,6 +95,13 @@ impl Window {
         self.current
     }
 
+    /// All rows, oldest first.
+    pub fn rows(&self, alloc: Global) -> Result<Vec<Row>, AllocError>
+        ensures { IfOk result (λ rows. rows.items ≡ self.now.rows) }
+    {
+        self.rows.to_vec(alloc)
+    }
+
     /// The row of a minute, where there is one, whatever number the minute is.
     pub fn row(&self, minute: u64) -> Option<Row>
         ensures { result ≡ row_in self.now.rows minute }

@@ -2,7 +2,7 @@
 //! with numbers that were worked out by hand.
 
 use super::*;
-use journal::{Entry, Event, Moment, Numbers, Origin};
+use journal::{Base, Entry, Event, KeptFlows, Moment, Numbers, Origin, Parts};
 use message::{Content, Fault, MessageId, QueueName};
 use queue_config::Settings;
 use std::alloc::Global;
@@ -12,6 +12,32 @@ use std::test::Fail;
 fn moment(text: &str) -> Result<Moment, Fail> {
     let milliseconds = text.parse::<u64>().ok().ok_or("a number")?;
     Ok(Moment::new(milliseconds).ok_or("a time in range")?)
+}
+
+/// A checkpoint that keeps no message, and of its minute 1 sent, with 20 bytes, 3 received, 4 empty
+/// receives, 5 deleted, 6 refused and 7 arrived.
+fn checkpoint(alloc: Global) -> Result<Event<Content>, Fault> {
+    let flows = KeptFlows {
+        sent: 1,
+        sent_size: 20,
+        received: 3,
+        empty_receives: 4,
+        deleted: 5,
+        refused: 6,
+        dead_letters_arrived: 7,
+    };
+    let parts = Parts {
+        uid: 1,
+        settings: Settings::default(),
+        created: Moment::zero(),
+        modified: Moment::zero(),
+        receives: Vec::new(alloc),
+        accepted: Vec::new(alloc),
+        messages: Vec::new(alloc),
+        rows: Vec::new(alloc),
+        flows,
+    };
+    Ok(Event::Base(Base::new(alloc, parts)?))
 }
 
 /// The event that a word says, of the body hello where it has one. `receive-` is a receive that offers a
@@ -57,6 +83,7 @@ fn event(alloc: Global, word: &str) -> Result<Event<Content>, Fault> {
         "orphaned" => Ok(Event::Orphaned { target: 1 }),
         "refused" => Ok(Event::Refused { fault }),
         "closed" => Ok(Event::Closed),
+        "base" => checkpoint(alloc),
         _ => Err(Fault::UnsupportedOperation),
     }
 }
@@ -101,8 +128,12 @@ none receive-ll => Flows { sent: 0, sent_size: 0, received: 0, empty_receives: 1
 none receive-oll => Flows { sent: 0, sent_size: 0, received: 1, empty_receives: 0, deleted: 0, refused: 0, dead_letters_arrived: 0 }
 none deleted | none again => Flows { sent: 0, sent_size: 0, received: 0, empty_receives: 0, deleted: 1, refused: 0, dead_letters_arrived: 0 }
 none refused => Flows { sent: 0, sent_size: 0, received: 0, empty_receives: 0, deleted: 0, refused: 1, dead_letters_arrived: 0 }
+// A checkpoint counts as what it keeps of its minute.
+none base => Flows { sent: 1, sent_size: 20, received: 3, empty_receives: 4, deleted: 5, refused: 6, dead_letters_arrived: 7 }
+none arrived base sent => Flows { sent: 2, sent_size: 25, received: 3, empty_receives: 4, deleted: 5, refused: 6, dead_letters_arrived: 8 }
 none sent receive-ooo receive-ll sent again refused arrived deleted => Flows { sent: 2, sent_size: 10, received: 3, empty_receives: 1, deleted: 2, refused: 1, dead_letters_arrived: 1 }
 // A number stays at 2^64 - 1.
+greatest base => Flows { sent: 18446744073709551615, sent_size: 18446744073709551615, received: 18446744073709551615, empty_receives: 4, deleted: 5, refused: 6, dead_letters_arrived: 7 }
 greatest sent receive-ooo sent => Flows { sent: 18446744073709551615, sent_size: 18446744073709551615, received: 18446744073709551615, empty_receives: 0, deleted: 0, refused: 0, dead_letters_arrived: 0 }
 // A minute has 60,000 milliseconds.
 minute 0 | minute 59999 => 0
@@ -255,7 +286,9 @@ minute 6 => 6: 0 0 0 0 0 0 0, 0 0 0 0
 minute 185 => 185: 0 0 0 0 0 1 0, 3 2 1 9
 current => 0 0 0 0 0 0 0
 // Rows go by a skip, and so does what was counted. No minute is skipped back to.
-count arrived | skip 187
+count arrived | count base
+current => 1 20 3 4 5 6 8
+skip 187
 span => (187, 187)
 minute 185 | minute 186 => none
 current => 0 0 0 0 0 0 0

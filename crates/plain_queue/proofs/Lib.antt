@@ -3,3 +3,4 @@ mod EntryLemmas
 mod TransferLemmas
 mod BeforeLemmas
 mod BreachLemmas
+mod NumberingLemmas

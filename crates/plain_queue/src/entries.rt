@@ -1,33 +1,39 @@
 //! The lines that rows, gauges and all else are found by: all of a journal's, or those before a time.
 
-ghost use Rattle.std.specs.Prelude.{◌≡◌, ℕ, ◌<◌, ◌≤◌, nat_lt, filter, length, map, take, slice_get, Some, IfOk, IfErr};
+ghost use Rattle.std.specs.Prelude.{◌≡◌, ℕ, ◌+◌, ◌<◌, ◌≤◌, ◌^◌, nat_lt, filter, length, map, take, slice_get, Some, IfOk, IfErr};
 ghost use Rattle.std.specs.Option.{option_copied};
 ghost use Rattle.message.specs.declared.fault.Fault.TheVariants.{OutOfMemory};
 ghost use Rattle.queue_core.specs.Legal.{IsOrdered};
+ghost use Rattle.queue_core.specs.Messages.{message_count};
 
+use crate::begun::births;
 use journal::{Journal, Line, Ticks};
 use message::Fault;
 use std::alloc::Global;
 use std::marker::Model;
 
-/// All lines of a journal, each read once. Contracts see the list.
+/// All lines of a journal, each read once. Contracts see the list. The messages that begin with them have numbers of 64 bits.
 #[derive(Drop)]
 pub struct Collected<'a> {
     lines: Vec<&'a Line>,
 }
 
 impl<'a> Model for Collected<'a> {
-    ghost use Rattle.std.specs.Prelude.{List, map};
+    ghost use Rattle.std.specs.Prelude.{◌<◌, ◌^◌, List, map};
     ghost use Rattle.message.specs.Content.{ContentText};
     ghost use Rattle.journal.specs.declared.entry.Entry.{Entry};
+    ghost use Rattle.queue_core.specs.Messages.{message_count};
 
     ghost Value = { List (Entry ContentText) };
 
     ghost view = { λ c. map (λ line. line.now) c.lines.items };
+
+    ghost invariant = { λ c. message_count (map (λ line. line.now) c.lines.items) < 2 ^ 64 };
 }
 
 impl<'a> Collected<'a> {
-    /// Reads the lines of a journal, each for one operation. `OutOfMemory` is the only refusal.
+    /// Reads the lines of a journal, each for one operation. `OutOfMemory` is the only refusal, also of a journal with more
+    /// messages than there are numbers for, of which no machine has the memory.
     pub fn of(
         alloc: Global,
         journal: &'a Journal,
@@ -37,8 +43,11 @@ impl<'a> Collected<'a> {
         ensures errors { IfErr result (λ fault. fault ≡ OutOfMemory) }
     {
         let mut lines = Vec::new(alloc);
+        let mut begun = 0;
         for place in 0..journal.len() {
-            lines.push(read_line(journal, place, ticks))?;
+            let line = read_line(journal, place, ticks);
+            begun = with_more(begun, births(&line.event))?;
+            lines.push(line)?;
         }
         Ok(Collected { lines })
     }
@@ -52,6 +61,18 @@ impl<'a> Collected<'a> {
             lines,
             count: count_of(lines),
         }
+    }
+}
+
+/// So many messages and more, where there are numbers for them.
+fn with_more(begun: u64, births: u64) -> Result<u64, Fault>
+    ensures ok { IfOk result (λ all. all ≡ begun + births) }
+    ensures fits { IfOk result (λ all. all < 2 ^ 64) }
+    ensures errors { IfErr result (λ fault. fault ≡ OutOfMemory) }
+{
+    match begun.checked_add(births) {
+        Some(all) => Ok(all),
+        None => Err(Fault::OutOfMemory),
     }
 }
 
@@ -74,15 +95,16 @@ pub struct Entries<'a> {
 }
 
 impl<'a> Model for Entries<'a> {
-    ghost use Rattle.std.specs.Prelude.{◌≤◌, List, map, take, length};
+    ghost use Rattle.std.specs.Prelude.{◌≤◌, ◌<◌, ◌^◌, List, map, take, length};
     ghost use Rattle.message.specs.Content.{ContentText};
     ghost use Rattle.journal.specs.declared.entry.Entry.{Entry};
+    ghost use Rattle.queue_core.specs.Messages.{message_count};
 
     ghost Value = { List (Entry ContentText) };
 
     ghost view = { λ e. take e.count (map (λ line. line.now) e.lines.now) };
 
-    ghost invariant = { λ e. e.count ≤ length (map (λ line. line.now) e.lines.now) };
+    ghost invariant = { λ e. (e.count ≤ length (map (λ line. line.now) e.lines.now)) × (message_count (map (λ line. line.now) e.lines.now) < 2 ^ 64) };
 }
 
 impl<'a> Entries<'a> {
@@ -95,6 +117,13 @@ impl<'a> Entries<'a> {
             lines: self.lines,
             count: count_before(self, end),
         }
+    }
+
+    /// Its messages have numbers of 64 bits.
+    pub(crate) fn are_numbered(&self)
+        ensures { message_count self.now < 2 ^ 64 }
+    {
+        let _ = &self.lines;
     }
 
     /// How many there are.

@@ -21,6 +21,7 @@
 #![tactic(auto)]
 
 mod alarms;
+mod begun;
 mod entries;
 mod metrics;
 mod numbering;

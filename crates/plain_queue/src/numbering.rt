@@ -1,49 +1,40 @@
 //! The messages of a journal, numbered in the order of their entries.
 
-ghost use Rattle.std.specs.Prelude.{◌≡◌, ◌+◌, ◌-◌, ◌^◌, ◌<◌, ◌≤◌, [], ◌∷◌, drop, length, slice_get, Some, IfSome, IfNone, option_to_list};
+ghost use Rattle.std.specs.Prelude.{◌≡◌, ◌+◌, ◌^◌, ◌<◌, ◌≤◌, length, slice_get, Some, IfSome, IfNone};
 ghost use Rattle.std.specs.Iterator.{YieldsFirst, item_count};
-ghost use Rattle.queue_core.specs.Messages.{effect_of, messages_in, messages_from, messages};
+ghost use Rattle.queue_core.specs.Messages.{messages};
+ghost use Rattle.plain_queue.specs.Numbering.{IsAt};
 
+use crate::begun::message_of;
 use crate::entries::{Entries, line_at};
-use journal::{Event, Line};
 use queue_core::facts::Message;
 use std::marker::Model;
 
-/// The message that a line begins, if it begins one. None begins more than one.
-fn message_of(line: &Line, place: usize, number: u64) -> Option<Message>
-    ensures { option_to_list result ≡ messages_in place number line.now.at (effect_of line.now.event).births }
-{
-    match &line.event {
-        Event::Sent { delay, .. } => Some(Message {
-            number,
-            place,
-            enqueue_time: line.at,
-            first_send_time: line.at,
-            first_due_time: line.at.milliseconds() + 1000 * u64::from(*delay),
-            origin: None,
-        }),
-        Event::Arrived { origin, .. } => Some(Message {
-            number,
-            place,
-            enqueue_time: line.at,
-            first_send_time: origin.sent,
-            first_due_time: line.at.milliseconds(),
-            origin: Some(*origin),
-        }),
-        _ => None,
-    }
+/// A message, the place of the line that begins it, and how many messages begin with that line before it.
+#[derive(Drop)]
+struct Begun {
+    message: Message,
+    place: usize,
+    before: u64,
 }
 
-/// The first message of the lines from a place on, where it has a number.
-fn first_message(lines: &Entries<'_>, from: usize, number: u64) -> Option<Message>
-    ensures first { IfSome result (λ m. messages_from from number (drop from lines.now) ≡ m ∷ messages_from (m.place + 1) (number + 1) (drop (m.place + 1) lines.now)) }
-    ensures place { IfSome result (λ m. (from ≤ m.place) × (m.place < 2 ^ 64 - 1)) }
-    ensures none { IfNone result (messages_from from number (drop from lines.now) ≡ []) }
+/// The message of a number, which is the next one behind those of the lines before a place and so many of the line there.
+fn first_message(lines: &Entries<'_>, from: usize, number: u64, before: u64) -> Option<Begun>
+    requires { IsAt lines.now from number before }
+    ensures first { IfSome result (λ begun. slice_get (messages lines.now) number ≡ Some begun.message) }
+    ensures place { IfSome result (λ begun. IsAt lines.now begun.place (number + 1) (begun.before + 1)) }
+    ensures none { IfNone result (length (messages lines.now) ≤ number) }
 {
+    let mut before = before;
     for place in from..lines.len() {
-        if let Some(message) = message_of(line_at(lines, place), place, number) {
-            return Some(message);
+        if let Some(message) = message_of(line_at(lines, place), place, number, before) {
+            return Some(Begun {
+                message,
+                place,
+                before,
+            });
         }
+        before = 0;
     }
     None
 }
@@ -52,20 +43,25 @@ fn first_message(lines: &Entries<'_>, from: usize, number: u64) -> Option<Messag
 #[derive(Drop)]
 pub struct Messages<'a, 'j> {
     lines: &'a Entries<'j>,
+    /// The place of the line that begins the next message, or of one before it.
     place: usize,
+    /// The number of the next message.
     number: u64,
+    /// How many messages begin with that line before the next one.
+    before: u64,
 }
 
 impl<'a, 'j> Model for Messages<'a, 'j> {
-    ghost use Rattle.std.specs.Prelude.{◌≤◌, List, drop};
+    ghost use Rattle.std.specs.Prelude.{List, drop};
     ghost use Rattle.queue_core.specs.declared.facts.Message.{Message};
-    ghost use Rattle.queue_core.specs.Messages.{messages_from};
+    ghost use Rattle.queue_core.specs.Messages.{messages};
+    ghost use Rattle.plain_queue.specs.Numbering.{IsAt};
 
     ghost Value = { List Message };
 
-    ghost view = { λ m. messages_from m.place m.number (drop m.place m.lines.now) };
+    ghost view = { λ m. drop m.number (messages m.lines.now) };
 
-    ghost invariant = { λ m. m.number ≤ m.place };
+    ghost invariant = { λ m. IsAt m.lines.now m.place m.number m.before };
 }
 
 impl<'a, 'j> Messages<'a, 'j> {
@@ -74,12 +70,12 @@ impl<'a, 'j> Messages<'a, 'j> {
         ensures all { result ≡ messages lines.now }
         ensures few { length result < 2 ^ 64 }
     {
-        // There are no more messages than lines, whose number fits.
-        let _lines = lines.len();
+        lines.are_numbered();
         Messages {
             lines,
             place: 0,
             number: 0,
+            before: 0,
         }
     }
 }
@@ -92,9 +88,11 @@ impl<'a, 'j> Iterator for Messages<'a, 'j> {
     ghost remaining = { item_count (λ left. left) };
 
     fn next(&mut self) -> Option<Message> {
-        let message = first_message(self.lines, self.place, self.number)?;
-        self.place = message.place + 1;
+        self.lines.are_numbered();
+        let begun = first_message(self.lines, self.place, self.number, self.before)?;
+        self.place = begun.place;
         self.number += 1;
-        Some(message)
+        self.before = begun.before + 1;
+        Some(begun.message)
     }
 }

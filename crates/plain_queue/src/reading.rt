@@ -1,12 +1,13 @@
 //! What a journal says of a queue and of its messages. A function that computes a definition of `queue_core` has
 //! its name.
 
-ghost use Rattle.std.specs.Prelude.{◌≡◌, if◌then◌else◌, option_to_list};
-ghost use Rattle.std.specs.Option.{option_copied};
-ghost use Rattle.queue_core.specs.Messages.{messages, contents_in, content_of, message_count, settings_of, settings_after, created_time, modified_time, gives_settings, opens, offers_number, first_receive_time, last_receive_time, course_of, waits_for, awaits_transfer, closes, is_closed};
+ghost use Rattle.std.specs.Prelude.{◌≡◌, ℕ, if◌then◌else◌, unwrap_or};
+ghost use Rattle.std.specs.Option.{option_copied, option_map_or};
+ghost use Rattle.queue_core.specs.Messages.{effect_of, messages, content_of, message_count, settings_of, settings_after, created_time, modified_by, modified_time, opens, first_receive_in, first_receive_time, last_receive_by, last_receive_time, course_of, waits_for, awaits_transfer, closes, is_closed};
 ghost use Rattle.queue_core.specs.declared.facts.Status.TheVariants.{Waiting};
 ghost use Rattle.queue_core.specs.States.{message_numbered};
 
+use crate::begun::{births, content_behind, kept_numbered};
 use crate::entries::{Entries, line_at};
 use crate::numbering::Messages;
 use crate::states::{course_of, offers_number};
@@ -30,28 +31,18 @@ pub fn message_numbered(lines: &Entries<'_>, number: u64) -> Option<Message>
     Messages::of(lines).nth(number as usize)
 }
 
-/// The content that a line brings, if it begins a message. None begins more than one.
-fn content_in(line: &Line) -> Option<&Content>
-    ensures { option_to_list (option_copied result) ≡ contents_in line.now.event }
-{
-    match &line.event {
-        Event::Sent { content, .. } | Event::Arrived { content, .. } => Some(content),
-        _ => None,
-    }
-}
-
-/// The content of a message, which is the one of its number.
+/// The content of a message, which is the one of its number, unless it is gone.
 pub fn content_of<'a>(lines: &Entries<'a>, message: &Message) -> Option<&'a Content>
     ensures { option_copied result ≡ content_of lines.now message.now }
 {
     let mut before = message.number;
     for place in 0..lines.len() {
-        if let Some(content) = content_in(line_at(lines, place)) {
-            if before == 0 {
-                return Some(content);
-            }
-            before -= 1;
+        let event = &line_at(lines, place).event;
+        let count = births(event);
+        if before < count {
+            return content_behind(event, before);
         }
+        before -= count;
     }
     None
 }
@@ -67,11 +58,15 @@ pub fn settings_of(lines: &Entries<'_>) -> Settings
     settings
 }
 
-/// Whether an event opens the queue.
-fn opens(event: &Event<Content>) -> bool
-    ensures { result ≡ opens event.now }
+/// When the queue was opened, where a line opens it or knows when.
+fn created_by(line: &Line) -> Option<Moment>
+    ensures { (later : ℕ) → unwrap_or result later ≡ (if opens line.now.event then line.now.at else option_map_or (λ since. since.created) (effect_of line.now.event).since later) }
 {
-    matches!(event, Event::Opened { .. })
+    match &line.event {
+        Event::Opened { .. } => Some(line.at),
+        Event::Base(base) => Some(base.created()),
+        _ => None,
+    }
 }
 
 /// When the queue was opened.
@@ -79,22 +74,21 @@ pub fn created_time(lines: &Entries<'_>) -> Moment
     ensures { result ≡ created_time lines.now }
 {
     for place in 0..lines.len() {
-        let line = line_at(lines, place);
-        if opens(&line.event) {
-            return line.at;
+        if let Some(time) = created_by(line_at(lines, place)) {
+            return time;
         }
     }
     Moment::zero()
 }
 
 /// When the queue last got settings, after a line.
-fn modified_after(time: Moment, line: &Line) -> Moment
-    ensures { result ≡ (if gives_settings line.now.event then line.now.at else time) }
+fn modified_by(time: Moment, line: &Line) -> Moment
+    ensures { result ≡ modified_by time line.now }
 {
-    if gives_settings(&line.event) {
-        line.at
-    } else {
-        time
+    match &line.event {
+        Event::Base(base) => base.modified(),
+        event if gives_settings(event) => line.at,
+        _ => time,
     }
 }
 
@@ -104,9 +98,20 @@ pub fn modified_time(lines: &Entries<'_>) -> Moment
 {
     let mut time = Moment::zero();
     for place in 0..lines.len() {
-        time = modified_after(time, line_at(lines, place));
+        time = modified_by(time, line_at(lines, place));
     }
     time
+}
+
+/// When the message of a number was first received, by what a line tells.
+fn first_receive_in(line: &Line, number: u64) -> Option<Moment>
+    ensures { result ≡ first_receive_in number line.now }
+{
+    match &line.event {
+        Event::Base(base) => kept_numbered(base, number)?.first_receive,
+        event if offers_number(event, number) => Some(line.at),
+        _ => None,
+    }
 }
 
 /// When the message of a number was first received.
@@ -114,22 +119,24 @@ pub fn first_receive_time(lines: &Entries<'_>, number: u64) -> Option<Moment>
     ensures { result ≡ first_receive_time lines.now number }
 {
     for place in 0..lines.len() {
-        let line = line_at(lines, place);
-        if offers_number(&line.event, number) {
-            return Some(line.at);
+        if let Some(time) = first_receive_in(line_at(lines, place), number) {
+            return Some(time);
         }
     }
     None
 }
 
 /// When the message of a number was last received, after a line.
-fn last_receive_after(time: Moment, line: &Line, number: u64) -> Moment
-    ensures { result ≡ (if offers_number number line.now.event then line.now.at else time) }
+fn last_receive_by(time: Moment, line: &Line, number: u64) -> Moment
+    ensures { result ≡ last_receive_by number time line.now }
 {
-    if offers_number(&line.event, number) {
-        line.at
-    } else {
-        time
+    match &line.event {
+        Event::Base(base) => match kept_numbered(base, number) {
+            Some(kept) => kept.last_receive,
+            None => Moment::zero(),
+        },
+        event if offers_number(event, number) => line.at,
+        _ => time,
     }
 }
 
@@ -139,7 +146,7 @@ pub fn last_receive_time(lines: &Entries<'_>, number: u64) -> Moment
 {
     let mut time = Moment::zero();
     for place in 0..lines.len() {
-        time = last_receive_after(time, line_at(lines, place), number);
+        time = last_receive_by(time, line_at(lines, place), number);
     }
     time
 }

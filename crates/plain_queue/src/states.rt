@@ -1,9 +1,9 @@
 //! What became of a message, and what stands in a queue at a time. A function that computes a definition of
 //! `queue_core` has its name.
 
-ghost use Rattle.std.specs.Prelude.{◌≡◌, ◌-◌, ◌/◌, ◌≤◌, length, ◌&&◌};
+ghost use Rattle.std.specs.Prelude.{◌≡◌, ◌-◌, ◌/◌, ◌&&◌};
 ghost use Rattle.std.specs.List.{find};
-ghost use Rattle.queue_core.specs.Messages.{messages, closes_period, runs_out_in, is_expired, contains_number, offers_number, receive_count, loses, status_after, returns, due_after, course_after, course_of, due_time, is_present, is_returned};
+ghost use Rattle.queue_core.specs.Messages.{messages, closes_period, runs_out_in, is_expired, contains_number, offers_number, receives_in, receive_count, loses, status_after, returns, due_after, course_after, course_of, due_time, is_present, is_returned};
 ghost use Rattle.queue_core.specs.declared.facts.Status.TheVariants.{Present, Waiting};
 ghost use Rattle.queue_core.specs.States.{is_live, has_age, state_of, is_in_state, count_in_state, oldest_age, gauges_of};
 
@@ -46,6 +46,9 @@ fn runs_out_at(message: &Message, settings: Settings, line: &Line, place: usize)
 fn is_expired(lines: &Entries<'_>, clock: Moment, message: &Message) -> bool
     ensures { result ≡ is_expired lines.now clock message.now }
 {
+    if message.ran_out {
+        return true;
+    }
     let mut settings = Settings::default();
     for place in 0..lines.len() {
         let line = line_at(lines, place);
@@ -74,16 +77,26 @@ pub fn offers_number(event: &Event<Content>, number: u64) -> bool
     }
 }
 
-/// How often the message of a number was received.
-pub fn receive_count(lines: &Entries<'_>, number: u64) -> u64
-    ensures count { result ≡ receive_count lines.now number }
-    ensures within { result ≤ length lines.now }
+/// How many receives of the message of a number an event tells of.
+fn receives_in(event: &Event<Content>, number: u64) -> u64
+    ensures { result ≡ receives_in number event.now }
 {
-    let mut count = 0;
+    match event {
+        Event::Base(base) => match base.receives().get(number as usize) {
+            Some(count) => *count,
+            None => 0,
+        },
+        _ => u64::from(offers_number(event, number)),
+    }
+}
+
+/// How often the message of a number was received, up to 2^64 - 1.
+pub fn receive_count(lines: &Entries<'_>, number: u64) -> u64
+    ensures { result ≡ receive_count lines.now number }
+{
+    let mut count: u64 = 0;
     for place in 0..lines.len() {
-        if offers_number(&line_at(lines, place).event, number) {
-            count += 1;
-        }
+        count = count.saturating_add(receives_in(&line_at(lines, place).event, number));
     }
     count
 }
@@ -188,11 +201,7 @@ fn course_after(number: u64, course: Course, line: &Line) -> Course
 pub fn course_of(lines: &Entries<'_>, message: &Message) -> Course
     ensures { result ≡ course_of lines.now message.now }
 {
-    let mut course = Course {
-        status: Status::Present,
-        due: message.first_due_time,
-        returned: false,
-    };
+    let mut course = message.begun;
     for place in message.place..lines.len() {
         course = course_after(message.number, course, line_at(lines, place));
     }

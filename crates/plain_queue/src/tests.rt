@@ -2,6 +2,7 @@
 //! arrival its answer is foreseen from the journal's entries, and after each command what the queue tells is
 //! compared with what they say, its rows and alarms where a minute has ended. No answer is written down.
 
+mod beside;
 mod commands;
 mod said;
 mod scripts;
@@ -34,16 +35,17 @@ fn told(
     }
 }
 
-/// The text of the answer to a command at a time, where it is foreseen.
+/// The text of the answer to a command at a time, where it is foreseen and the journal may weigh so much.
 fn wanted(
     alloc: Global,
     queue: &QueueState,
     clock: Moment,
     command: &Command,
+    most_lines: u32,
     ticks: &mut Ticks,
 ) -> Result<Option<String>, Fault> {
     let read = Collected::of(alloc, queue.journal(), ticks)?;
-    foreseen(alloc, &read.entries(), clock, command)
+    foreseen(alloc, &read.entries(), clock, command, most_lines)
 }
 
 /// Asserts that the metrics of each minute and the state of the alarm are those of the entries.
@@ -91,18 +93,19 @@ fn compare(
     Ok(())
 }
 
-/// Performs the command of a line on a queue whose clock is known, and gives its clock afterwards. The rows, which
-/// are those of the minutes before, are compared where another minute begins.
+/// Performs the command of a line on a queue whose clock is known and whose journal may weigh so much, and gives its clock
+/// afterwards. The rows, which are those of the minutes before, are compared where another minute begins.
 fn perform(
     rt: &impl Abort,
     alloc: Global,
     queue: &mut QueueState,
     clock: Moment,
     call: &str,
+    most_lines: u32,
     ticks: &mut Ticks,
 ) -> Result<Moment, Fail> {
     let Step { at, command } = step(alloc, call)?;
-    let wanted = wanted(alloc, queue, clock.later(at), &command, ticks)?;
+    let wanted = wanted(alloc, queue, clock.later(at), &command, most_lines, ticks)?;
     let answer = queue.perform(alloc, at, &command, ticks);
     if let Some(wanted) = wanted {
         let told = told(alloc, queue, &answer, ticks)?;
@@ -117,23 +120,27 @@ fn perform(
     Ok(now)
 }
 
-/// Performs a script: its first line opens the queue, each other one is a command.
-fn run(rt: &impl Abort, host: &HostRuntime, script: &str) -> Result<(), Fail> {
+/// Performs a script: its first line opens the queue, whose journal may weigh so much, each other one is a command.
+fn run(rt: &impl Abort, host: &HostRuntime, script: &str, most_lines: u32) -> Result<(), Fail> {
     let ticks = &mut Ticks::new(host);
     let (first, calls) = script.split_once("\n").unwrap_or((script, ""));
-    let mut queue = open(host.alloc(), first)?;
+    let mut queue = open(host.alloc(), first, most_lines)?;
     let mut clock = Moment::zero();
     for call in calls.lines() {
-        clock = perform(rt, host.alloc(), &mut queue, clock, call, ticks)?;
+        clock = perform(rt, host.alloc(), &mut queue, clock, call, most_lines, ticks)?;
     }
     compare_rows(rt, host.alloc(), &queue, clock, script, ticks)
 }
 
+/// Queues with journals that hold all entries or nearly so, that begin anew every few commands, and that are often full.
 #[test]
 fn queues_tell_what_their_journals_say(rt: HostRuntime) -> Result<(), Fail> {
-    for script in scripts::SCRIPTS {
-        run(&rt, &rt, script)?;
+    for most_lines in [60, 20, 4] {
+        for script in scripts::SCRIPTS {
+            run(&rt, &rt, script, most_lines)?;
+        }
+        let script = scripts::drawn(rt.alloc(), 7, 120)?;
+        run(&rt, &rt, script.as_str(), most_lines)?;
     }
-    let script = scripts::drawn(rt.alloc(), 200)?;
-    run(&rt, &rt, script.as_str())
+    Ok(())
 }

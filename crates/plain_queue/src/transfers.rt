@@ -1,13 +1,13 @@
 //! What a journal says of dead letters. A function that computes a definition of `queue_core` has its name.
 
-ghost use Rattle.std.specs.Prelude.{◌≡◌, not, map, drop, slice_get, count_by};
+ghost use Rattle.std.specs.Prelude.{◌≡◌, not, map, flat_map, option_to_list, drop, slice_get, count_by};
 ghost use Rattle.std.specs.List.{list_any, find};
-ghost use Rattle.queue_core.specs.Messages.{messages, waits_for, departures, ends_transfer, pending_transfers, accepts, has_accepted};
+ghost use Rattle.queue_core.specs.Messages.{messages, waits_for, kept_transfer, departures, ends_transfer, pending_transfers, accepts, has_accepted};
 
 use crate::entries::{Entries, line_at};
 use crate::numbering::Messages;
 use crate::reading::waits_for;
-use journal::Event;
+use journal::{Event, KeptMessage};
 use message::Content;
 use queue_core::facts::Transfer;
 
@@ -35,7 +35,7 @@ fn is_ended_from(lines: &Entries<'_>, from: usize, transfer: Transfer) -> bool
     false
 }
 
-/// The first transfer that an event begins and no entry from a place on ends.
+/// The first transfer that an event begins, or knows of, and no entry from a place on ends.
 fn first_begun(lines: &Entries<'_>, from: usize, event: &Event<Content>) -> Option<Transfer>
     ensures { result ≡ find (λ t. not (list_any (λ later. ends_transfer t later.event) (drop from lines.now))) (departures event.now) }
 {
@@ -45,6 +45,7 @@ fn first_begun(lines: &Entries<'_>, from: usize, event: &Event<Content>) -> Opti
             target,
             ..
         } => first_open(lines, from, leaving.as_slice(), *target),
+        Event::Base(base) => first_kept(lines, from, base.messages()),
         _ => None,
     }
 }
@@ -62,6 +63,43 @@ fn first_open(lines: &Entries<'_>, from: usize, leaving: &[u64], target: u64) ->
             target,
         })
         .find(|transfer| !is_ended_from(lines, from, *transfer))
+}
+
+/// The first of the messages of a checkpoint that waits for a dead-letter queue by a transfer that no entry from a
+/// place on ends.
+fn first_kept(
+    lines: &Entries<'_>,
+    from: usize,
+    messages: &[KeptMessage<Content>],
+) -> Option<Transfer>
+    ensures { result ≡ find (λ t. not (list_any (λ later. ends_transfer t later.event) (drop from lines.now)))
+        (flat_map (λ m. option_to_list (kept_transfer m)) messages.now) }
+{
+    for message in messages {
+        if let Some(transfer) = open_transfer(lines, from, message) {
+            return Some(transfer);
+        }
+    }
+    None
+}
+
+/// The transfer that a kept message waits for, where no entry from a place on ends it.
+fn open_transfer(
+    lines: &Entries<'_>,
+    from: usize,
+    message: &KeptMessage<Content>,
+) -> Option<Transfer>
+    ensures { result ≡ find (λ t. not (list_any (λ later. ends_transfer t later.event) (drop from lines.now))) (option_to_list (kept_transfer message.now)) }
+{
+    let transfer = Transfer {
+        number: message.number,
+        target: message.target?,
+    };
+    if is_ended_from(lines, from, transfer) {
+        None
+    } else {
+        Some(transfer)
+    }
 }
 
 /// The first transfer that is not confirmed.
@@ -83,6 +121,10 @@ fn accepts(uid: u64, number: u64, event: &Event<Content>) -> bool
 {
     match event {
         Event::Arrived { origin, .. } => origin.uid == uid && origin.number == number,
+        Event::Base(base) => base
+            .accepted()
+            .iter()
+            .any(|key| key.uid == uid && key.number == number),
         _ => false,
     }
 }

@@ -12,6 +12,7 @@ ghost use Rattle.queue_actor.specs.Serving.{is_receive, is_tick, may_wait, has_c
 ghost use Rattle.queue_actor.specs.Waiting.{TakesAnswers, WaitBeyond, waiting_with, moment_with};
 
 use crate::answer::Answer;
+use crate::deadline::TICK_MILLISECONDS;
 use crate::duties::Duties;
 use crate::inbox::Inbox;
 use crate::mail::{Ask, Mail};
@@ -228,15 +229,15 @@ where
         }
     }
 
-    /// Looks over the polls that wait. Only at a tick, and where the wait of one is over, it goes through all of them: at a
-    /// tick those are found whose clients wait no longer.
+    /// Looks over the polls that wait. Only where the wait of one is over, or all are to be gone through, it comes to all of
+    /// them.
     fn look_over<S: Drop, I: Inbox<Mail<P, S>, S, Answer<P>>, R: Wait, G: Gate>(
         &mut self,
         rt: &R,
         alloc: Global,
         at: Moment,
         limit: u32,
-        is_tick: bool,
+        is_sweep: bool,
         known: bool,
         parked: &mut VecDeque<Ask<P, S>>,
         mailbox: &mut I,
@@ -246,7 +247,7 @@ where
         ensures looked { (happened : List (Event (Mail P S P.Told) S Answered)) × LooksOver limit at known self.old.pass parked.old.items happened self.new.pass parked.new.items × GoesThrough I.brings I.is_over I.gives I.was_left mailbox.old happened mailbox.new }
         ensures may { TakesAnswers I.brings I.is_over I.may_give I.gives I.was_left parked.new.items at mailbox.new }
     {
-        if is_tick || is_any_due(at, parked) {
+        if is_sweep || is_any_due(at, parked) {
             self.look_over_all(rt, alloc, at, limit, known, parked, mailbox, gate);
         } else {
             self.look_over_first(rt, alloc, at, limit, known, parked, mailbox, gate);
@@ -276,6 +277,7 @@ where
         let limit = limits.in_flight;
         let mut parked = VecDeque::new(alloc);
         let mut last = Moment::zero();
+        let mut due = 0;
         for _ in rt.forever() {
             let Some(mail) = mailbox.next(rt) else {
                 return self.end(rt, alloc, last, parked, mailbox, directory, gate);
@@ -298,12 +300,14 @@ where
             last = at;
             self.duties.set_polls(parked.len());
             let quiet = self.look_at_tick(rt, alloc, at, limit, is_tick, gate);
+            let (is_sweep, next) = sweep(is_tick, due, at);
+            due = next;
             self.look_over(
                 rt,
                 alloc,
                 at,
                 limit,
-                is_tick,
+                is_sweep,
                 quiet,
                 &mut parked,
                 mailbox,
@@ -351,6 +355,18 @@ fn is_tick<P: Press, S: Drop>(mail: &Mail<P, S>) -> bool
     ensures { result ≡ is_tick mail.now }
 {
     matches!(mail, Mail::Tick(_))
+}
+
+/// Whether all polls are gone through for those whose clients wait no longer, and the time in milliseconds from which they
+/// are again: at a tick, and not within the time between two ticks of the clock, since each send that is asked without
+/// its actor puts a tick too.
+fn sweep(is_tick: bool, due: u64, at: Moment) -> (bool, u64) {
+    let at = at.milliseconds();
+    if is_tick && due <= at {
+        (true, at + TICK_MILLISECONDS)
+    } else {
+        (false, due)
+    }
 }
 
 /// Whether a command is a receive.

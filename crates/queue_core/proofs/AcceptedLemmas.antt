@@ -13,11 +13,12 @@ use Rattle.journal.specs.declared.entry.Event.{Event}
 use Rattle.queue_core.specs.declared.command.Command.{Command}
 use Rattle.queue_core.specs.declared.command.Command.TheVariants as commands
 use Rattle.queue_core.specs.declared.accepted.Accepted.{Accepted}
-use Rattle.queue_core.specs.declared.accepted.TransferKey.{TransferKey}
+use Rattle.journal.specs.declared.base.TransferKey.{TransferKey}
 use Rattle.queue_core.specs.Messages.{effect_of, key_of, accepts, has_accepted}
 use Rattle.queue_core.specs.Accepted.{holds, accepted_keys, AreAccepted}
 use Rattle.queue_core.specs.Queue.{QueueHistory}
 use Rattle.queue_core.specs.Legal.{IsCausedIn}
+use Rattle.queue_core.proofs.InPlaceLemmas.{added_in}
 use Rattle.queue_core.proofs.CauseLemmas.{IsSoOfAdded, added}
 
 -- ---- in order
@@ -91,7 +92,7 @@ first-each q commands.FirstParcel = tt
 
 first-caused : (q : QueueHistory) (event : Event ContentText) → IsCausedIn q event → IsFirst q event
 first-caused q event caused =
-    subst (λ (o : Option (Event ContentText)). IfSome o (IsFirst q)) caused.added (added (IsFirst q) q (λ fault. none-first q) caused.command (first-each q caused.command))
+    subst (λ (o : Option (Event ContentText)). IfSome o (IsFirst q)) (added_in q event caused) (added (IsFirst q) q (λ fault. none-first q) caused.command (first-each q caused.command))
 
 pub unheld-caused : (q : QueueHistory) (event : Event ContentText) (accepted : Accepted) → IsCausedIn q event → AreAccepted accepted (accepted_keys q.lines)
     → All (λ key. holds accepted key.uid key.number ≡ false) (effect_of event).accepted

@@ -123,7 +123,3 @@ ages_longer here count lacking x y is more = record {
 -- for one number more
 pub ages_more : (here : ℕ → Bool) (count lacking lacking' : ℕ) (x : Ages) → AreAges here count lacking x → count < length x.places.items → lacking' ≡ lacking → AreAges here (count + 1) lacking' x
 ages_more here count lacking lacking' x is within same = record { found = is.found; within = omega arith; room = omega (arith, is.room) }
-
--- no more numbers than there ever were
-pub few_listed : (here : ℕ → Bool) (count lacking : ℕ) (x : Ages) → AreAges here count lacking x → ((n : ℕ) → count ≤ n → here n ≡ false) → len x.list.slots ≤ count
-few_listed here count lacking x is none = len_below x.list.slots count (λ n past. is.found n ∙ ap (λ b. place_if b x n) (none n past))

@@ -1,18 +1,22 @@
--- How many messages have left, and that the list of ages never has more than there were messages.
-use Rattle.std.proofs.Common.{◌≡◌, ℕ, ◌+◌, ◌<◌, ◌^◌, Bool, true, false, ◌&&◌, List, [], ◌∷◌, length, count_by, inl, inr, refl, sym, ap, ◌∙◌, arith}
+-- How many messages have left, and that the list of ages never has more than are kept.
+use Rattle.std.proofs.Common.{◌≡◌, ℕ, ◌+◌, ◌<◌, ◌≤◌, ◌^◌, Bool, true, false, ◌&&◌, List, [], ◌∷◌, length, count_by, Option, is_some, inl, inr, refl, sym, ap, ◌∙◌, arith}
+use Rattle.std.specs.List.{range_with_len}
 use Rattle.std.specs.FinMap as finite
 use Rattle.std.proofs.lemmas.Bool.{false≢true, cases_lt}
 use Rattle.std.proofs.lemmas.List.Sums.{sum_by-cons}
 use Rattle.queue_core.specs.declared.index.MessageIndex.{MessageIndex}
 use Rattle.queue_core.specs.declared.indices.Indices.{Indices}
 use Rattle.queue_core.specs.declared.ages.Ages.{Ages}
-use Rattle.queue_core.specs.Ages.{IsLonger}
+use Rattle.indexmap.specs.IndexMap.{index_map_len}
+use Rattle.queue_core.specs.Ages.{place_if, IsLonger}
 use Rattle.queue_core.specs.Changes.{IsReserved}
 use Rattle.queue_core.specs.Messages.{contains_number}
 use Rattle.queue_core.specs.Slots.{has_age, is_failing, is_left, count_slots, one_if}
 use Rattle.queue_core.specs.Records.{slots_in, born_in, IsIndexed}
-use Rattle.queue_core.proofs.SlotCountLemmas.{count_agree, count_members, count_upto}
-use Rattle.queue_core.proofs.AgeLemmas.{few_listed}
+use Rattle.queue_core.proofs.SlotLemmas.{counted}
+use Rattle.queue_core.proofs.SlotCountLemmas.{count_agree, count_members, count_parts, count_upto}
+use Rattle.queue_core.proofs.BoundLemmas.{len-counted}
+use Rattle.queue_core.proofs.KeptRecordLemmas.{born_few, kept_count}
 
 and_true : (b : Bool) → (b && true) ≡ b
 and_true true = refl
@@ -37,22 +41,39 @@ module _ (x : MessageIndex) (is : IsIndexed x) where
       count_agree (λ n. is_left (slots_in x n)) (λ n. contains_number n x.leaving.items && true) (born_in x) (λ n. and_true (contains_number n x.leaving.items) ∙ is.leaving n) in
       sym same ∙ members ∙ count_all x.leaving.items
 
-  -- of all that there were
-  pub few_without : born_in x < 2 ^ 30 → length x.leaving.items + x.indices.failing < 2 ^ 31
-  few_without few =
-      let left = count_upto (λ n. is_left (slots_in x n)) (born_in x) in
-      let failing = count_upto (λ n. is_failing (slots_in x n)) (born_in x) in
-      omega (arith, few, left_counted, is.indices.indices.failing)
+  -- what is kept has its age looked at, keeps failing or has left
+  all_parts : count_slots has_age (slots_in x) (born_in x) + x.indices.failing + length x.leaving.items ≤ count_slots is_some (slots_in x) (born_in x)
+  all_parts =
+      let parts =
+      count_parts (λ n. has_age (slots_in x n)) (λ n. is_failing (slots_in x n)) (λ n. is_left (slots_in x n)) (λ n. false) (λ n. is_some (slots_in x n)) (range_with_len 0 (born_in x))
+      (λ n. omega (arith, (counted (slots_in x n)).age)) in
+      omega (arith, parts, left_counted, is.indices.indices.failing)
 
-  -- the list has fewer slots than it may, with one for each that it lacks and one more
-  pub few_ages : (y : Indices) → IsReserved x.indices y → (lacking : ℕ) → lacking ≡ length x.leaving.items + x.indices.failing → born_in x < 2 ^ 30
+  -- of all that there were
+  pub few_without : length x.leaving.items + x.indices.failing < 2 ^ 63
+  few_without = omega (arith, all_parts, count_upto (λ n. is_some (slots_in x n)) (born_in x), born_few x)
+
+  listed_where : (here : Bool) (n : ℕ) → is_some (place_if here x.indices.ages n) ≡ here
+  listed_where true n = refl
+  listed_where false n = refl
+
+  -- the list has a slot for each number whose age is looked at
+  listed_count : finite.len x.indices.ages.list.slots ≤ count_slots has_age (slots_in x) (born_in x)
+  listed_count =
+      let slots = x.indices.ages.list.slots in
+      let found : (n : ℕ) → is_some (finite.get slots n) ≡ has_age (slots_in x n) =
+      λ n. ap (λ (o : Option ℕ). is_some o) (is.indices.indices.ages.found n) ∙ listed_where (has_age (slots_in x n)) n in
+      let few = len-counted slots (born_in x)
+      (λ n past. is.indices.indices.ages.found n ∙ ap (λ (b : Bool). place_if b x.indices.ages n) (ap has_age (is.indices.indices.few n past))) in
+      let same = count_agree (λ n. has_age (slots_in x n)) (λ n. is_some (finite.get slots n)) (born_in x) found in
+      omega (arith, few, same)
+
+  -- so it has fewer than it may, with one for each that it lacks and one more
+  pub few_ages : (y : Indices) → IsReserved x.indices y → (lacking : ℕ) → lacking ≡ length x.leaving.items + x.indices.failing → index_map_len x.records < 2 ^ 31
       → finite.len y.ages.list.slots + (lacking + 1) < 2 ^ 32
   few_ages y reserved lacking same few =
-      let there =
-      few_listed (λ n. has_age (slots_in x n)) (born_in x) (count_slots is_left (slots_in x) (born_in x) + x.indices.failing) x.indices.ages is.indices.indices.ages
-      (λ n past. ap has_age (is.indices.indices.few n past)) in
       let slots : finite.len y.ages.list.slots ≡ finite.len x.indices.ages.list.slots = ap (λ m. finite.len m) reserved.ages.slots in
-      omega (arith, few, same, few_without few)
+      omega (arith, few, same, slots, listed_count, all_parts, kept_count x (born_in x))
 
 -- ---- room made twice
 

@@ -18,10 +18,11 @@ use Rattle.queue_core.specs.declared.slot.Stay.{Stay}
 use Rattle.queue_core.specs.declared.slot.Stay.TheVariants.{Hidden, Shown, Left}
 use Rattle.queue_core.specs.declared.record.Record.{Record}
 use Rattle.queue_core.specs.declared.index.MessageIndex.{MessageIndex}
-use Rattle.queue_core.specs.Slots.{is_here, is_left, is_left_stay, one_if}
-use Rattle.queue_core.specs.Records.{records_in, slots_in, born_in, with_stay, hidden_until, received_at, back_at, is_left_record, offered_after, rescheduled_after, here_after, left_after, record_after, record_after_stay, born_record, record_begun, records_after, Records, HasIndices, IsIndexed}
-use Rattle.queue_core.specs.Applying.{CanApply, HaveReceived, HaveCounted, HasChanged, among, where_here, where_left, where_left_stay, ended_by, returned_from}
+use Rattle.queue_core.specs.Slots.{is_here, is_left, is_left_stay}
+use Rattle.queue_core.specs.Records.{records_in, slots_in, born_in, with_stay, hidden_until, received_at, back_at, is_left_record, offered_after, rescheduled_after, here_after, left_after, record_after, record_after_stay, born_record, record_of_birth, record_begun, records_after, Records, HasIndices, IsIndexed}
+use Rattle.queue_core.specs.Applying.{CanApply, counted_if, HaveReceived, HaveCounted, HasChanged, among, where_here, where_left, where_left_stay, ended_by, returned_from}
 use Rattle.queue_core.proofs.NumberLemmas.{AreOnce, or-false, contains-append, contains-filter, filter_same, filter_alike, filter_none, once-append}
+use Rattle.queue_core.proofs.PushLemmas.{mapped_some}
 use Rattle.queue_core.proofs.ChangeLemmas.{and_then-some, and_then-same, left_stay-none, changed-then, changed-same, outside}
 
 -- all that an event makes of an index
@@ -64,7 +65,7 @@ unborn s at event x is none n =
     → cond b (option_and_then (λ r. record_after s at event n r) (records_in x n)) (record_begun at event (born_in x) n) ≡ option_and_then (λ r. record_after s at event n r) (records_in x n)) [
       | true ↦ λ e. refl
       | false ↦ λ e. let past : records_in x n ≡ None = no-record (records_in x n) (is.indices.few n (ltb-false n (born_in x) e)) in
-          ap (λ (bs : List (Birth ContentText)). option_map (born_record at) (slice_get bs (n - born_in x))) none
+          ap (λ (bs : List (Birth ContentText)). option_and_then (record_of_birth at) (slice_get bs (n - born_in x))) none
           ∙ sym (ap (λ (o : Option Record). option_and_then (λ r. record_after s at event n r) o) past)
     ] refl
 
@@ -150,9 +151,7 @@ unreceived event old new none offers same =
     let b : births event ≡ 0 = ap (λ (bs : List (Birth ContentText)). length bs) none in
     record {
       len = omega arith;
-      counts = λ k h. let at : slice_index new k ≡ slice_index old k = ap (λ (xs : List ℕ). slice_index xs k) same in
-          let no : one_if (offers_number k event) ≡ 0 = ap one_if (offers k) in
-          omega arith;
+      counts = λ k h. ap (λ (xs : List ℕ). slice_index xs k) same ∙ sym (ap (λ (b : Bool). counted_if b (slice_index old k)) (offers k));
       begun = λ k h. get_or_past new k 0 (omega arith);
     }
 
@@ -330,9 +329,7 @@ begun-receives event old new one offers is =
     let n : length new ≡ length old + 1 = ap length is ∙ length-append old (0 ∷ []) in
     record {
       len = omega arith;
-      counts = λ k h. let at : slice_index new k ≡ slice_index old k = ap (λ (xs : List ℕ). slice_index xs k) is ∙ get_or_append_left old (0 ∷ []) 0 k h in
-          let no : one_if (offers_number k event) ≡ 0 = ap one_if (offers k) in
-          omega arith;
+      counts = λ k h. ap (λ (xs : List ℕ). slice_index xs k) is ∙ get_or_append_left old (0 ∷ []) 0 k h ∙ sym (ap (λ (b : Bool). counted_if b (slice_index old k)) (offers k));
       begun = λ k h. ap (λ (xs : List ℕ). slice_index xs k) is ∙ get_or-append_right old (0 ∷ []) (length old) k 0 refl h ∙ zero-alone (k - length old);
     }
 
@@ -347,8 +344,12 @@ begun-alone count n kept old past = elim (cases_lt n count) [
   ])
 ]
 
+-- what begins has not left
+born-here : (at : ℕ) (birth : Birth ContentText) (content : Option ContentText) (kept : Record) → option_map (born_record at birth) content ≡ Some kept → is_left_record kept ≡ false
+born-here at birth content kept h = let text = mapped_some (born_record at birth) content kept h in ap is_left_record (sym text.2)
+
 module _ (s : QueueSettings) (at : ℕ) (event : Event ContentText) (birth : Birth ContentText) (settings : Option QueueSettings) (opens : Bool) (kept : Record) (x y : MessageIndex) (is : IsIndexed x)
-    (told : effect_of event ≡ record (changed_by Nothing (Some birth)) { settings = settings; opens = opens }) (born : born_record at birth ≡ kept) where
+    (told : effect_of event ≡ record (changed_by Nothing (Some birth)) { settings = settings; opens = opens }) (born : record_of_birth at birth ≡ Some kept) where
   pub birth-applied : HasIndices y → ((n : ℕ) → records_in y n ≡ cond (nat_eq n (born_in x)) (Some kept) (records_in x n)) → y.receives.items ≡ x.receives.items ++ 0 ∷ []
       → y.leaving.items ≡ x.leaving.items → IsApplied s at event x y
   birth-applied indices records receives leaving =
@@ -357,13 +358,11 @@ module _ (s : QueueSettings) (at : ℕ) (event : Event ContentText) (birth : Bir
       let left : (n : ℕ) → is_left (slots_in y n) ≡ is_left (slots_in x n) =
       λ n. ap (λ (o : Option Record). is_left (option_map (λ r. r.slot) o)) (records n)
       ∙ elim (nat_eq n (born_in x)) as (λ (b : Bool). nat_eq n (born_in x) ≡ b → is_left (option_map (λ r. r.slot) (cond b (Some kept) (records_in x n))) ≡ is_left (slots_in x n)) [
-        | true ↦ λ e. let same : n ≡ born_in x = eqb-true n (born_in x) e in ap is_left_record (sym born) ∙ sym (ap is_left (is.indices.indices.few n (omega arith)))
+        | true ↦ λ e. let same : n ≡ born_in x = eqb-true n (born_in x) e in born-here at birth birth.content kept born ∙ sym (ap is_left (is.indices.indices.few n (omega arith)))
         | false ↦ λ e. refl
       ] refl in
       let begun : (n : ℕ) → option_map (λ (k : Record). k) (slice_get (kept ∷ []) (n - born_in x)) ≡ record_begun at event (born_in x) n =
-      λ n. ap (λ (ks : List Record). option_map (λ (k : Record). k) (slice_get ks (n - born_in x))) (ap (λ (k : Record). k ∷ []) (sym born))
-      ∙ one-begun (n - born_in x)
-      ∙ sym (ap (λ (e : Effect ContentText). option_map (born_record at) (slice_get e.births (n - born_in x))) told) in
+      λ n. one-begun (n - born_in x) ∙ sym (ap (λ (e : Effect ContentText). option_and_then (record_of_birth at) (slice_get e.births (n - born_in x))) told) in
       record {
         indexed = record {
           indices = indices;
@@ -379,8 +378,8 @@ module _ (s : QueueSettings) (at : ℕ) (event : Event ContentText) (birth : Bir
             ∙ sym (append-nil (filter (λ n. is_left (slots_in y n)) x.leaving.items)) ∙ ap (λ (xs : List ℕ). filter (λ n. is_left (slots_in y n)) x.leaving.items ++ xs) (sym (ap (λ (e : Effect ContentText). e.departures) told));
       }
     where
-      one-begun : (i : ℕ) → option_map (λ (k : Record). k) (slice_get (born_record at birth ∷ []) i) ≡ option_map (born_record at) (slice_get (birth ∷ []) i)
-      one-begun zero = refl
+      one-begun : (i : ℕ) → option_map (λ (k : Record). k) (slice_get (kept ∷ []) i) ≡ option_and_then (record_of_birth at) (slice_get (birth ∷ []) i)
+      one-begun zero = sym born
       one-begun (suc i) = refl
 
 -- ---- messages that are received
@@ -460,7 +459,7 @@ module _ (s : QueueSettings) (at : ℕ) (event other : Event ContentText) (setti
   records-alike : (count n : ℕ) (records : Records) → records_after s at other count records n ≡ records_after s at event count records n
   records-alike count n records =
       ap (λ (o : Option Record). cond (nat_lt n count) o (record_begun at other count n)) (and_then-same (λ r. record_after s at other n r) (λ r. record_after s at event n r) (records n) (λ r e. stay-alike n r.slot.stay r))
-      ∙ ap (λ (e : Effect ContentText). cond (nat_lt n count) (option_and_then (λ r. record_after s at event n r) (records n)) (option_map (born_record at) (slice_get e.births (n - count)))) (sym all)
+      ∙ ap (λ (e : Effect ContentText). cond (nat_lt n count) (option_and_then (λ r. record_after s at event n r) (records n)) (option_and_then (record_of_birth at) (slice_get e.births (n - count)))) (sym all)
 
   pub can_apply-alike : (x : MessageIndex) → CanApply event x → CanApply other x
   can_apply-alike x can = record {
@@ -469,7 +468,7 @@ module _ (s : QueueSettings) (at : ℕ) (event other : Event ContentText) (setti
     apart = λ n h. sym (ap (λ (e : Effect ContentText). contains_number n e.departures) all) ∙ can.apart n (ap (λ (e : Effect ContentText). contains_number n e.offered) all ∙ h);
     departing_once = subst (λ (e : Effect ContentText). AreOnce e.departures) all can.departing_once;
     offered_once = subst (λ (e : Effect ContentText). AreOnce e.offered) all can.offered_once;
-    few_receives = can.few_receives;
+    alone = sym (ap (λ (e : Effect ContentText). e.since) all) ∙ can.alone;
     room = subst (λ (e : Effect ContentText). length x.leaving.items + length e.departures ≤ deque_capacity x.leaving) all can.room;
   }
 

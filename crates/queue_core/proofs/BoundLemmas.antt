@@ -37,11 +37,12 @@ use Rattle.queue_core.specs.declared.index.MessageIndex.{MessageIndex}
 use Rattle.queue_core.specs.Messages.{messages, message_count, receive_count, awaits_transfer}
 use Rattle.queue_core.specs.States.{is_live, state_of, same_state, is_in_state, is_numbered, message_numbered}
 use Rattle.queue_core.specs.Queue.{QueueHistory, at_moment, waiting_count, with_event}
-use Rattle.queue_core.specs.Legal.{IsLegal, IsCausedIn}
 use Rattle.queue_core.specs.Slots.{one_if, is_shown_stay, is_left_stay, is_here, is_left, due_in, sent_in, shows, count_slots, AreIndexed}
 use Rattle.queue_core.specs.Records.{records_in, slots_in, born_in, HasIndices}
 use Rattle.queue_core.specs.Indexed.{IsIndexOf}
 use Rattle.queue_core.proofs.Scans.{births_few}
+use Rattle.queue_core.proofs.FactLemmas.{IsAbout, IsSound}
+use Rattle.queue_core.proofs.StandingCountLemmas.{numbers_same}
 use Rattle.queue_core.proofs.SummaryLemmas.{records-kept}
 use Rattle.queue_core.specs.Cost.{binary_digits, touched_count, most_ticks}
 use Rattle.queue_core.specs.Spending.{weight, AreBelow, event_adds, state_weight, queue_weight, queue_kept, HasCome, HasAdded}
@@ -79,45 +80,31 @@ paid_added k ticks ticks' ticks'' before between after adds most h g fits =
 
 -- ---- what a call may cost
 
-later-by : (ticks ticks' : ℕ) (q : QueueHistory) (at : ℕ)
-    → ((c : ℕ) → queue_kept q < 2 ^ c → ticks' + 2 * (c + 1) * queue_weight (at_moment q at) ≤ ticks + 2 * (c + 1) * queue_weight q)
-    → ticks' ≤ ticks + most_ticks q (at_moment q at)
-later-by ticks ticks' q at spent =
-    let digits = binary_digits (queue_kept q + 1) in
-    let enough = below_digits (queue_kept q + 1) in
-    let touched = touched_count q (at_moment q at) + 1 in
-    subst (λ (n : ℕ). ticks' ≤ ticks + n) (factors (digits + 1) touched)
-    (paid_later (2 * (digits + 1)) ticks ticks' (queue_weight q) (queue_weight (at_moment q at)) (12 * touched) (spent digits (omega arith)) (later-weight q at))
-
-pub bound-later : (ticks ticks' : ℕ) (q r : QueueHistory) → HasCome ticks q ticks' r → ticks' ≤ ticks + most_ticks q r
-bound-later ticks ticks' q r come =
-    subst (λ (x : QueueHistory). ((c : ℕ) → queue_kept q < 2 ^ c → ticks' + 2 * (c + 1) * queue_weight x ≤ ticks + 2 * (c + 1) * queue_weight q) → ticks' ≤ ticks + most_ticks q x)
-    (sym come.later) (later-by ticks ticks' q come.at) come.spent
-
-added-by : (ticks ticks' ticks'' : ℕ) (p : QueueHistory) (at : ℕ) (event : Event ContentText) → IsCausedIn (at_moment p at) event → queue_kept (at_moment p at) ≤ queue_kept p
-    → ((c : ℕ) → queue_kept p < 2 ^ c → ticks' + 2 * (c + 1) * queue_weight (at_moment p at) ≤ ticks + 2 * (c + 1) * queue_weight p)
-    → HasAdded event ticks' (at_moment p at) ticks'' (with_event (at_moment p at) event) → ticks'' ≤ ticks + most_ticks p (with_event (at_moment p at) event)
-added-by ticks ticks' ticks'' p at event caused kept spent has =
+pub bound-later : (ticks ticks' : ℕ) (p q : QueueHistory) → HasCome ticks p ticks' q → ticks' ≤ ticks + most_ticks p q
+bound-later ticks ticks' p q come =
     let digits = binary_digits (queue_kept p + 1) in
     let enough = below_digits (queue_kept p + 1) in
-    let few = births_few event in
-    let q = at_moment p at in
+    let touched = touched_count p q + 1 in
+    let more : message_count p.lines ≤ message_count q.lines = omega (arith, numbers_same q (at_moment p come.at) come.later) in
+    subst (λ (n : ℕ). ticks' ≤ ticks + n) (factors (digits + 1) touched)
+    (paid_later (2 * (digits + 1)) ticks ticks' (queue_weight p) (queue_weight q) (12 * touched) (come.spent digits (omega arith)) (later-weight p q more))
+
+pub bound-event : (ticks ticks' ticks'' : ℕ) (p q : QueueHistory) (event : Event ContentText) → IsAbout q event → HasCome ticks p ticks' q
+    → HasAdded event ticks' q ticks'' (with_event q event) → ticks'' ≤ ticks + most_ticks p (with_event q event)
+bound-event ticks ticks' ticks'' p q event about come has =
+    let digits = binary_digits (queue_kept p + 1) in
+    let enough = below_digits (queue_kept p + 1) in
+    let few = births_few event about.alone in
     let r = with_event q event in
     let touched = touched_count p r + 1 in
+    let kept = come.kept in
     subst (λ (n : ℕ). ticks'' ≤ ticks + n) (factors (digits + 1) touched)
     (paid_added (2 * (digits + 1)) ticks ticks' ticks'' (queue_weight p) (queue_weight q) (queue_weight r) (event_adds (λ target. waiting_count q target) event) (12 * touched)
-    (spent digits (omega arith)) (has digits (omega arith)) (added-weight p at event caused))
+    (come.spent digits (omega arith)) (has digits (omega arith)) (added-weight p q come.at come.later event about))
 
--- what is so of a queue at a moment
-abbrev IsBound : ℕ → ℕ → ℕ → QueueHistory → Event ContentText → QueueHistory → Type 0
-IsBound ticks ticks' ticks'' p event q =
-    IsCausedIn q event → queue_kept q ≤ queue_kept p → ((c : ℕ) → queue_kept p < 2 ^ c → ticks' + 2 * (c + 1) * queue_weight q ≤ ticks + 2 * (c + 1) * queue_weight p)
+pub bound-added : (ticks ticks' ticks'' : ℕ) (p q : QueueHistory) (event : Event ContentText) → IsSound p.lines p.clock → IsSound q.lines q.clock → IsAbout q event → HasCome ticks p ticks' q
     → HasAdded event ticks' q ticks'' (with_event q event) → ticks'' ≤ ticks + most_ticks p (with_event q event)
-
-pub bound-added : (ticks ticks' ticks'' : ℕ) (p q : QueueHistory) (event : Event ContentText) → IsLegal q → IsCausedIn q event → HasCome ticks p ticks' q
-    → HasAdded event ticks' q ticks'' (with_event q event) → ticks'' ≤ ticks + most_ticks p (with_event q event)
-bound-added ticks ticks' ticks'' p q event legal caused come has =
-    subst (λ (x : QueueHistory). IsBound ticks ticks' ticks'' p event x) (sym come.later) (added-by ticks ticks' ticks'' p come.at event) caused come.kept come.spent has
+bound-added ticks ticks' ticks'' p q event sound other about come has = bound-event ticks ticks' ticks'' p q event about come has
 
 -- ---- how many numbers pass a test
 
@@ -190,7 +177,7 @@ module _ (m : finite.FinMap nat_cmp ℕ) (count : ℕ) where
       less-none (eq_by_cmp nat_cmp n count) (finite.get m n) (finite.get (finite.remove m count) n) (without_last n)
       (λ other. none n (let apart : n ≡ count → ⊥ = itself n count other in omega arith))
 
-len-counted : (m : finite.FinMap nat_cmp ℕ) (count : ℕ) → ((n : ℕ) → count ≤ n → finite.get m n ≡ None) → finite.len m ≤ count_by (λ n. is_some (finite.get m n)) (range_with_len 0 count)
+pub len-counted : (m : finite.FinMap nat_cmp ℕ) (count : ℕ) → ((n : ℕ) → count ≤ n → finite.get m n ≡ None) → finite.len m ≤ count_by (λ n. is_some (finite.get m n)) (range_with_len 0 count)
 len-counted m zero none = omega (arith, len_below m 0 none)
 len-counted m (suc count) none =
     let next : count + 1 ≡ suc count = omega arith in

@@ -1,4 +1,4 @@
--- What the event of a command is about: it opens no queue, offers and lets leave visible messages, each once, gives live ones another due time, and confirms a transfer that waits.
+-- What the event of a command is about: it opens no queue and is no checkpoint, offers and lets leave visible messages, each once, gives live ones another due time, and confirms a transfer that waits.
 use Rattle.std.proofs.Common.{◌≡◌, ℕ, suc, Bool, true, false, not, cond, eqb, List, [], ◌∷◌, Option, Some, None, refl, sym, ap, subst, inl, inr, ◌∙◌, arith}
 use Rattle.std.specs.Prelude.{⊤, ◌≢◌, IfSome, nat_eq, nat_lt, nat_le, unwrap_or, filter, slice_get}
 use Rattle.std.specs.Option.{option_map_or}
@@ -14,7 +14,7 @@ use Rattle.receipt_handle.specs.declared.handle.Handle.{Handle}
 use Rattle.queue_config.specs.Settings.{settings_with}
 use Rattle.journal.specs.declared.entry.Entry.{Entry}
 use Rattle.journal.specs.declared.entry.Event.{Event}
-use Rattle.journal.specs.declared.entry.Event.TheVariants.{Opened, Sent, Arrived, Received, Changed, Deleted, DeletedAgain, Purged, Set, Settled, Orphaned, Refused, Closed}
+use Rattle.journal.specs.declared.entry.Event.TheVariants.{Opened, Sent, Arrived, Received, Changed, Deleted, DeletedAgain, Purged, Set, Settled, Orphaned, Refused, Closed, Base}
 use Rattle.queue_core.specs.declared.command.Command.{Command}
 use Rattle.queue_core.specs.declared.command.Command.TheVariants as commands
 use Rattle.queue_core.specs.declared.facts.Candidate.{Candidate}
@@ -23,9 +23,11 @@ use Rattle.queue_core.specs.declared.facts.MessageState.{MessageState}
 use Rattle.queue_core.specs.declared.facts.MessageState.TheVariants.{Visible, InFlight}
 use Rattle.queue_core.specs.Messages.{effect_of, contains_number, messages, settings_of, offers_number, opens, awaits_transfer, is_closed, has_accepted}
 use Rattle.queue_core.specs.States.{is_live, waiting_state, same_state, is_in_state, message_numbered, is_numbered, receive_order}
-use Rattle.queue_core.specs.Queue.{QueueHistory, Outcome, refusal, unless_refused, first_refusal, refused_or, done, send_outcome, receive_outcome, change_outcome, delete_outcome, change_refusal, is_valid_handle, is_latest_handle, holds_in_flight, passes_twelve_hours, holds_live, arrive_outcome, is_pending, settle_outcome, orphan_outcome, in_flight_count, is_exhausted, scanned_candidates, offered_candidates, leaving_candidates, received_event, numbers_of, policy_target, outcome_of}
+use Rattle.queue_core.specs.Queue.{QueueHistory, Outcome, refusal, unless_refused, first_refusal, refused_or, done, send_outcome, receive_outcome, change_outcome, delete_outcome, change_refusal, is_valid_handle, is_latest_handle, holds_in_flight, passes_twelve_hours, holds_live, arrive_outcome, is_pending, settle_outcome, orphan_outcome, in_flight_count, is_exhausted, scanned_candidates, offered_candidates, leaving_candidates, received_event, numbers_of, policy_target, outcome_in}
 use Rattle.queue_core.specs.Turns.{IsVisibleCandidate}
 use Rattle.queue_core.specs.Legal.{IsCausedIn}
+use Rattle.queue_core.proofs.InPlaceLemmas.{added_in}
+use Rattle.queue_core.proofs.Scans.{StandsAlone}
 use Rattle.queue_core.proofs.NumberLemmas.{or-false}
 use Rattle.queue_core.proofs.OfferLemmas.{comes_to, scanned-take, scanned_once, order_visible, offered_visible}
 use Rattle.queue_core.proofs.PushLemmas.{numbered-number}
@@ -33,6 +35,7 @@ use Rattle.queue_core.proofs.PushLemmas.{numbered-number}
 -- what the event of a command is about
 pub record IsAbout (q : QueueHistory) (event : Event ContentText) : Type 0 where
   pub unopened : opens event ≡ false
+  pub alone : StandsAlone event
   pub rescheduled : (n : ℕ) → contains_number n (effect_of event).rescheduled ≡ true → is_numbered (λ m. is_live q.lines q.clock m) q.lines n ≡ true
   pub offered : (n : ℕ) → offers_number n event ≡ true → is_numbered (λ m. is_in_state Visible q.lines q.clock m) q.lines n ≡ true
   pub departing : (n : ℕ) → contains_number n (effect_of event).departures ≡ true → is_numbered (λ m. is_in_state Visible q.lines q.clock m) q.lines n ≡ true
@@ -180,6 +183,7 @@ about-parts : (q : QueueHistory) (timeout target : ℕ) (offered leaving : List 
     → IsAbout q (Received timeout offered leaving target)
 about-parts q timeout target offered leaving there departing apart once leaving_once = record {
   unopened = refl;
+  alone = refl;
   rescheduled = λ n is. live_numbered Visible q.lines q.clock n (there n is);
   offered = there;
   departing = departing;
@@ -199,11 +203,12 @@ about-received q maximum timeout =
 
 -- ---- every other event
 
--- neither the opening of a queue nor a receive nor a change
+-- neither the opening of a queue nor a receive nor a change nor a checkpoint
 abbrev IsPlain : Event ContentText → Type 0
 IsPlain (Opened uid settings) = ⊥
 IsPlain (Received timeout offered leaving target) = ⊥
 IsPlain (Changed number timeout) = ⊥
+IsPlain (Base base) = ⊥
 IsPlain event = ⊤
 
 about-plain : (q : QueueHistory) (event : Event ContentText) → IsPlain event
@@ -211,8 +216,10 @@ about-plain : (q : QueueHistory) (event : Event ContentText) → IsPlain event
 about-plain q (Opened uid settings) h k = absurd h
 about-plain q (Received timeout offered leaving target) h k = absurd h
 about-plain q (Changed number timeout) h k = absurd h
+about-plain q (Base base) h k = absurd h
 about-plain q event h k = record {
   unopened = refl;
+  alone = refl;
   rescheduled = λ n is. absurd (false≢true is);
   offered = λ n is. absurd (false≢true is);
   departing = λ n is. absurd (false≢true is);
@@ -225,10 +232,14 @@ about-plain q event h k = record {
 about-idle : (q : QueueHistory) (event : Event ContentText) → IsPlain event → ((n : ℕ) → (effect_of event).confirms n ≡ false) → IsAbout q event
 about-idle q event h none = about-plain q event h (λ n is. absurd (false≢true (sym (none n) ∙ is)))
 
+pub about-closed : (q : QueueHistory) → IsAbout q Closed
+about-closed q = about-idle q Closed tt (λ n. refl)
+
 -- a change is about a message that is live
 about-changed : (q : QueueHistory) (number timeout : ℕ) → is_numbered (λ m. is_live q.lines q.clock m) q.lines number ≡ true → IsAbout q (Changed number timeout)
 about-changed q number timeout live = record {
   unopened = refl;
+  alone = refl;
   rescheduled = λ n is. subst (λ (i : ℕ). is_numbered (λ m. is_live q.lines q.clock m) q.lines i ≡ true) (eqb-true number n (sym (or-false (eqb number n)) ∙ is)) live;
   offered = λ n is. absurd (false≢true is);
   departing = λ n is. absurd (false≢true is);
@@ -284,7 +295,7 @@ module _ (P : Event ContentText → Type 0) where
   added-deletion false number h = h.1
 
   module _ (q : QueueHistory) (refused : (fault : Fault) → P (Refused fault)) where
-    pub added : (command : Command) → IsSoOfAdded q P command → IfSome (outcome_of q command).event P
+    pub added : (command : Command) → IsSoOfAdded q P command → IfSome (outcome_in q command).event P
     added (commands.Send content delay) h =
         added-unless_refused (first_refusal q) (send_outcome q content delay)
         (added-cond (nat_lt (settings_of q.lines).maximum_message_size (content_size content)) (refusal InvalidParameterValue) _ (λ large. refused InvalidParameterValue) (λ fits. h))
@@ -319,8 +330,8 @@ about-each q commands.FirstParcel = tt
 about-each q commands.Look = tt
 about-each q command = about-idle q _ tt (λ n. refl)
 
-pub about-outcome : (q : QueueHistory) (command : Command) → IfSome (outcome_of q command).event (IsAbout q)
+pub about-outcome : (q : QueueHistory) (command : Command) → IfSome (outcome_in q command).event (IsAbout q)
 about-outcome q command = added (IsAbout q) q (λ fault. about-idle q (Refused fault) tt (λ n. refl)) command (about-each q command)
 
 pub about-caused : (q : QueueHistory) (event : Event ContentText) → IsCausedIn q event → IsAbout q event
-about-caused q event caused = subst (λ (o : Option (Event ContentText)). IfSome o (IsAbout q)) caused.added (about-outcome q caused.command)
+about-caused q event caused = subst (λ (o : Option (Event ContentText)). IfSome o (IsAbout q)) (added_in q event caused) (about-outcome q caused.command)

@@ -1,15 +1,16 @@
 -- Changes of records, one after the other.
-use Rattle.std.proofs.Common.{◌≡◌, ℕ, ◌+◌, ◌<◌, ◌≤◌, Bool, true, false, cond, ◌||◌, List, [], ◌∷◌, ◌++◌, length, get_or, take, refl, sym, ap, ◌∙◌, subst, inl, inr, eqb, arith, slice_index, slice_set, Option, Some, None, option_map, option_and_then, get_or-set_same, get_or-set_other, length-set}
+use Rattle.std.proofs.Common.{◌≡◌, ℕ, ◌+◌, ◌<◌, ◌≤◌, Bool, true, false, cond, ◌||◌, List, [], ◌∷◌, ◌++◌, length, get_or, take, refl, sym, ap, ◌∙◌, subst, inl, inr, eqb, min, arith, slice_index, slice_set, Option, Some, None, option_map, option_and_then, get_or-set_same, get_or-set_other, length-set}
 use Rattle.std.proofs.lemmas.List.{take_more, take_all}
 use Rattle.std.proofs.lemmas.Bool.{eq-eqb, ne_eqb, cases_lt, cases_eq, true≢false, both_ways}
+use Rattle.metric_window.specs.Flows.{greatest}
 use Rattle.queue_core.specs.Messages.{contains_number}
 use Rattle.queue_core.specs.declared.slot.Stay.{Stay}
 use Rattle.queue_core.specs.declared.slot.Stay.TheVariants.{Hidden, Shown, Left}
 use Rattle.queue_core.specs.declared.record.Record.{Record}
 use Rattle.queue_core.specs.declared.index.MessageIndex.{MessageIndex}
-use Rattle.queue_core.specs.Slots.{is_here, is_left, is_left_stay, one_if}
+use Rattle.queue_core.specs.Slots.{is_here, is_left, is_left_stay}
 use Rattle.queue_core.specs.Records.{records_in, slots_in, born_in, HasIndices, IsIndexed}
-use Rattle.queue_core.specs.Applying.{HaveCounted, HasChanged, among, where_here, where_left, where_left_stay}
+use Rattle.queue_core.specs.Applying.{counted_if, HaveCounted, HasChanged, among, where_here, where_left, where_left_stay}
 use Rattle.queue_core.proofs.NumberLemmas.{AreOnce, or-true, or-false, contains-push, unseen}
 
 -- ---- one record
@@ -120,30 +121,34 @@ LeavesSame x y = (n : ℕ) → option_and_then (where_here (λ r. None)) (record
 
 -- ---- counts
 
-pub counted-push : (xs old mid : List ℕ) (m : ℕ) → contains_number m xs ≡ false → m < length old → HaveCounted xs old mid
-    → HaveCounted (xs ++ m ∷ []) old (slice_set mid m (slice_index mid m + 1))
+-- the counts with that of a number one higher
+abbrev pub counted_at : List ℕ → ℕ → List ℕ
+counted_at counts m = slice_set counts m (min (slice_index counts m + 1) greatest)
+
+pub counted-push : (xs old mid : List ℕ) (m : ℕ) → contains_number m xs ≡ false → m < length old → HaveCounted xs old mid → HaveCounted (xs ++ m ∷ []) old (counted_at mid m)
 counted-push xs old mid m new below a =
-    let len : length (slice_set mid m (slice_index mid m + 1)) ≡ length mid = length-set mid m (slice_index mid m + 1) in
+    let more = min (slice_index mid m + 1) greatest in
+    let len : length (slice_set mid m more) ≡ length mid = length-set mid m more in
     record {
       len = len ∙ a.len;
-      counts = λ n h. let k = a.len in let was = a.counts n h in
-          elim (cases_eq n m) [
-            | inl e ↦
-                let at : slice_index (slice_set mid m (slice_index mid m + 1)) n ≡ slice_index mid m + 1 = ap (λ j. slice_index (slice_set mid m (slice_index mid m + 1)) j) e ∙ get_or-set_same mid m (slice_index mid m + 1) 0 (omega arith) in
-                let none : one_if (contains_number n xs) ≡ 0 = ap (λ j. one_if (contains_number j xs)) e ∙ ap one_if new in
-                let one : one_if (contains_number n (xs ++ m ∷ [])) ≡ 1 = ap one_if (contains-push n m xs ∙ ap (λ b. contains_number n xs || b) (eq-eqb m n (sym e)) ∙ or-true (contains_number n xs)) in
-                let same : slice_index mid n ≡ slice_index mid m = ap (λ j. slice_index mid j) e in
-                omega arith
-            | inr ne ↦
-                let at : slice_index (slice_set mid m (slice_index mid m + 1)) n ≡ slice_index mid n = get_or-set_other mid m n (slice_index mid m + 1) 0 ne in
-                let same : one_if (contains_number n (xs ++ m ∷ [])) ≡ one_if (contains_number n xs) = ap one_if (contains-push n m xs ∙ ap (λ b. contains_number n xs || b) (ne_eqb m n (λ e. ne (sym e))) ∙ or-false (contains_number n xs)) in
-                omega arith
-          ];
+      counts = λ n h. elim (cases_eq n m) [
+        | inl e ↦
+            let k = a.len in
+            let at : slice_index (counted_at mid m) n ≡ more = ap (λ j. slice_index (slice_set mid m more) j) e ∙ get_or-set_same mid m more 0 (omega arith) in
+            let none : contains_number n xs ≡ false = ap (λ j. contains_number j xs) e ∙ new in
+            let one : contains_number n (xs ++ m ∷ []) ≡ true = contains-push n m xs ∙ ap (λ b. contains_number n xs || b) (eq-eqb m n (sym e)) ∙ or-true (contains_number n xs) in
+            at
+            ∙ ap (counted_if true) (ap (λ j. slice_index mid j) (sym e) ∙ a.counts n h ∙ ap (λ (b : Bool). counted_if b (slice_index old n)) none)
+            ∙ sym (ap (λ (b : Bool). counted_if b (slice_index old n)) one)
+        | inr ne ↦
+            let same : contains_number n (xs ++ m ∷ []) ≡ contains_number n xs = contains-push n m xs ∙ ap (λ b. contains_number n xs || b) (ne_eqb m n (λ e. ne (sym e))) ∙ or-false (contains_number n xs) in
+            get_or-set_other mid m n more 0 ne ∙ a.counts n h ∙ sym (ap (λ (b : Bool). counted_if b (slice_index old n)) same)
+      ];
     }
 
 pub counted-more : (xs old mid : List ℕ) (i m : ℕ) → AreOnce xs → i < length xs → m ≡ get_or xs i 0 → m < length old → HaveCounted (take i xs) old mid
-    → HaveCounted (take (i + 1) xs) old (slice_set mid m (slice_index mid m + 1))
+    → HaveCounted (take (i + 1) xs) old (counted_at mid m)
 counted-more xs old mid i m once h read below a =
     let new : contains_number m (take i xs) ≡ false = subst (λ k. contains_number k (take i xs) ≡ false) (sym read) (unseen xs i once h) in
     let more : take (i + 1) xs ≡ take i xs ++ m ∷ [] = take_more xs i 0 h ∙ ap (λ k. take i xs ++ k ∷ []) (sym read) in
-    subst (λ (ys : List ℕ). HaveCounted ys old (slice_set mid m (slice_index mid m + 1))) (sym more) (counted-push (take i xs) old mid m new below a)
+    subst (λ (ys : List ℕ). HaveCounted ys old (counted_at mid m)) (sym more) (counted-push (take i xs) old mid m new below a)

@@ -1,5 +1,5 @@
 -- What a call adds to the flows of a minute, and what a refusal adds to the journal.
-use Rattle.std.proofs.Common.{◌≡◌, ◌≢◌, ℕ, ◌+◌, min, Bool, true, false, cond, eqb, Option, Some, None, Result, Ok, Err, refl, ap, ◌∙◌, arith}
+use Rattle.std.proofs.Common.{◌≡◌, ◌≢◌, ℕ, ◌+◌, min, Bool, true, false, cond, eqb, Option, Some, None, Result, Ok, Err, refl, ap, subst, ◌∙◌, arith}
 use Rattle.std.specs.Prelude.{nat_lt, nat_le}
 use Rattle.std.proofs.lemmas.Bool.Decides.{nat_tests}
 use Rattle.message.specs.declared.fault.Fault.{Fault}
@@ -16,8 +16,9 @@ use Rattle.queue_core.specs.declared.command.Command.TheVariants as commands
 use Rattle.queue_core.specs.declared.reply.Reply.{Reply}
 use Rattle.queue_core.specs.Messages.{settings_of, is_closed, has_accepted}
 use Rattle.queue_core.specs.Metrics.{current_flows, with_one_more_refused}
-use Rattle.queue_core.specs.Queue.{QueueHistory, Outcome, refusal, is_full, unless_refused, first_refusal, refused_or, done, in_flight_count, is_valid_handle, holds_in_flight, passes_twelve_hours, is_pending, outcome_of, with_optional_event}
+use Rattle.queue_core.specs.Queue.{QueueHistory, Outcome, refusal, is_full, unless_refused, first_refusal, refused_or, done, in_flight_count, is_valid_handle, holds_in_flight, passes_twelve_hours, is_pending, rebased_where, rebases, outcome_in, outcome_of, with_optional_event}
 use Rattle.queue_core.specs.Lasting.{refusal_event}
+use Rattle.queue_core.proofs.GoneLemmas.{flows_based}
 
 -- ---- flows
 
@@ -49,17 +50,35 @@ module _ (q : QueueHistory) where
       let no : eqb (minute_of q.clock) minute ≡ false = grind (arith, nat_tests) in
       minute_flows-push content_size q.lines (record { at = q.clock; event = event }) minute ∙ rw no refl
 
-  pub counted : (command : Command) (fault : Fault) → (outcome_of q command).event ≡ Some (Refused fault)
-      → current_flows content_size (with_optional_event q (outcome_of q command).event).lines q.clock ≡ with_one_more_refused (current_flows content_size q.lines q.clock)
-  counted command fault is = refusal-counted (outcome_of q command).event fault is
+module _ (q : QueueHistory) (command : Command) where
+  -- the queue that the command acts in
+  abbrev there : QueueHistory
+  there = rebased_where (rebases q command) q
 
-  pub other_minutes : (command : Command) (minute : ℕ) → minute ≢ minute_of q.clock
-      → minute_flows content_size (with_optional_event q (outcome_of q command).event).lines minute ≡ minute_flows content_size q.lines minute
-  other_minutes command minute h = other (outcome_of q command).event minute h
+  flows-there : (b : Bool) → current_flows content_size (rebased_where b q).lines q.clock ≡ current_flows content_size q.lines q.clock
+  flows-there true = flows_based q.uid q.lines q.clock
+  flows-there false = refl
 
-  pub uncounted : (command : Command) (minute : ℕ) → (outcome_of q command).event ≡ None
-      → minute_flows content_size (with_optional_event q (outcome_of q command).event).lines minute ≡ minute_flows content_size q.lines minute
-  uncounted command minute is = ap (λ (o : Option (Event ContentText)). minute_flows content_size (with_optional_event q o).lines minute) is
+  clock-there : (b : Bool) → (rebased_where b q).clock ≡ q.clock
+  clock-there true = refl
+  clock-there false = refl
+
+  abbrev adds : Option (Event ContentText)
+  adds = (outcome_of q command).event
+
+  pub counted : (fault : Fault) → adds ≡ Some (Refused fault)
+      → current_flows content_size (with_optional_event there adds).lines q.clock ≡ with_one_more_refused (current_flows content_size q.lines q.clock)
+  counted fault is =
+      subst (λ (at : ℕ). current_flows content_size (with_optional_event there adds).lines at ≡ with_one_more_refused (current_flows content_size there.lines at)) (clock-there (rebases q command))
+      (refusal-counted there adds fault is)
+      ∙ ap with_one_more_refused (flows-there (rebases q command))
+
+  pub uncounted : adds ≡ None → current_flows content_size (with_optional_event there adds).lines q.clock ≡ current_flows content_size q.lines q.clock
+  uncounted is = ap (λ (o : Option (Event ContentText)). current_flows content_size (with_optional_event there o).lines q.clock) is ∙ flows-there (rebases q command)
+
+  pub other_minutes : (minute : ℕ) → (outcome_of q command).rebases ≡ false → minute ≢ minute_of q.clock
+      → minute_flows content_size (with_optional_event q adds).lines minute ≡ minute_flows content_size q.lines minute
+  other_minutes minute never h = other q adds minute h
 
 -- ---- what is recorded
 
@@ -75,7 +94,7 @@ recorded-room true full o rest fault h = by_fault QueueDoesNotExist fault None r
 recorded-room false true o rest fault h = by_fault JournalFull fault None refl h
 recorded-room false false o rest fault h = rest fault h
 
-recorded-answered : (event : Option (Event ContentText)) (reply : Reply) → IsRecorded (record { event = event; reply = Ok reply })
+recorded-answered : (event : Option (Event ContentText)) (reply : Reply) → IsRecorded (record { event = event; reply = Ok reply; rebases = false })
 recorded-answered event reply fault h = absurd cc
 
 recorded-either : (b : Bool) (one other : Outcome) → IsRecorded one → IsRecorded other → IsRecorded (cond b one other)
@@ -96,21 +115,24 @@ module _ (q : QueueHistory) where
   room : (o : Outcome) → IsRecorded o → IsRecorded (unless_refused (first_refusal q) o)
   room o h = recorded-room (is_closed q.lines) (is_full q) o h
 
-  pub recorded : (command : Command) → IsRecorded (outcome_of q command)
-  recorded (commands.Send content delay) =
+  pub recorded_in : (command : Command) → IsRecorded (outcome_in q command)
+  recorded_in (commands.Send content delay) =
       room _ (recorded-either (nat_lt (settings_of q.lines).maximum_message_size (content_size content)) _ _ (recorded-refusal InvalidParameterValue refl) (recorded-answered _ _))
-  recorded (commands.Receive maximum timeout) =
+  recorded_in (commands.Receive maximum timeout) =
       room _ (recorded-either (nat_le q.limits.in_flight (in_flight_count q)) _ _ (recorded-refusal OverLimit refl) (recorded-answered _ _))
-  recorded (commands.Change handle timeout) =
+  recorded_in (commands.Change handle timeout) =
       room _ (recorded-change (is_valid_handle q handle) (holds_in_flight q handle) (passes_twelve_hours q handle.number timeout) (Changed handle.number timeout))
-  recorded (commands.Delete handle) =
+  recorded_in (commands.Delete handle) =
       room _ (recorded-either (is_valid_handle q handle) _ _ (recorded-answered _ _) (recorded-refusal ReceiptHandleIsInvalid refl))
-  recorded commands.Purge = room _ (recorded-answered _ _)
-  recorded (commands.Set wish target) = room _ (recorded-answered _ _)
-  recorded (commands.Arrive parcel) =
+  recorded_in commands.Purge = room _ (recorded-answered _ _)
+  recorded_in (commands.Set wish target) = room _ (recorded-answered _ _)
+  recorded_in (commands.Arrive parcel) =
       room _ (recorded-either (has_accepted q.lines parcel.origin.uid parcel.origin.number) _ _ (recorded-answered _ _) (recorded-answered _ _))
-  recorded (commands.Settle number) = room _ (recorded-either (is_pending q number) _ _ (recorded-answered _ _) (recorded-answered _ _))
-  recorded (commands.Orphan target) = room _ (recorded-answered _ _)
-  recorded commands.FirstParcel = recorded-answered _ _
-  recorded commands.Close = recorded-either (is_closed q.lines) _ _ (λ fault h. by_fault QueueDoesNotExist fault None refl h) (recorded-answered _ _)
-  recorded commands.Look = recorded-answered _ _
+  recorded_in (commands.Settle number) = room _ (recorded-either (is_pending q number) _ _ (recorded-answered _ _) (recorded-answered _ _))
+  recorded_in (commands.Orphan target) = room _ (recorded-answered _ _)
+  recorded_in commands.FirstParcel = recorded-answered _ _
+  recorded_in commands.Close = recorded-either (is_closed q.lines) _ _ (λ fault h. by_fault QueueDoesNotExist fault None refl h) (recorded-answered _ _)
+  recorded_in commands.Look = recorded-answered _ _
+
+pub recorded : (q : QueueHistory) (command : Command) → IsRecorded (outcome_of q command)
+recorded q command = recorded_in (rebased_where (rebases q command) q) command

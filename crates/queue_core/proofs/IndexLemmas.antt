@@ -1,15 +1,14 @@
 -- A queue's index is that of its journal, and stays so: where room is made in it, as time passes, and behind an event.
 use Rattle.std.proofs.Common.{◌≡◌, ℕ, ◌+◌, ◌*◌, ◌≤◌, ◌<◌, ◌^◌, Bool, true, false, not, cond, ◌&&◌, ◌||◌, ◌++◌, List, [], ◌∷◌, map, length, Option, Some, None, inl, inr, refl, sym, ap, subst, ◌∙◌, arith}
-use Rattle.std.specs.Prelude.{◌-◌, nat_eq, nat_lt, nat_le, filter, slice_index, slice_get, option_map, option_and_then, is_some}
+use Rattle.std.specs.Prelude.{◌-◌, min, nat_eq, nat_lt, nat_le, filter, slice_index, slice_get, option_map, option_and_then, is_some}
 use Rattle.std.specs.Option.{option_map_or}
 use Rattle.std.specs.List.{AllPairs, Contains, range_with_len}
 use Rattle.std.specs.FinMap as finite
 use Rattle.std.specs.VecDeque.{deque_capacity}
 use Rattle.std.proofs.lemmas.Bool.{false≢true, false_from_ne_true, cases_lt}
-use Rattle.std.proofs.lemmas.List.{get_or_past, map-append}
+use Rattle.std.proofs.lemmas.List.{map-append}
 use Rattle.std.proofs.lemmas.List.Elements.{Contains-append_left, Contains-append_right, Contains-push}
 use Rattle.std.proofs.lemmas.List.FromFn.{length-map-range_with_len, get_or-map-range_with_len, fill_by_all}
-use Rattle.std.proofs.lemmas.List.Sums.{count_by-le-length}
 use Rattle.std.proofs.lemmas.Option.{none-some}
 use Rattle.message.specs.Content.{ContentText}
 use Rattle.queue_config.specs.Settings.{QueueSettings}
@@ -26,20 +25,23 @@ use Rattle.queue_core.specs.declared.slot.Stay.TheVariants.{Hidden, Shown, Left}
 use Rattle.queue_core.specs.declared.slot.Slot.{Slot}
 use Rattle.queue_core.specs.declared.record.Record.{Record}
 use Rattle.queue_core.specs.declared.index.MessageIndex.{MessageIndex}
-use Rattle.queue_core.specs.Messages.{Birth, effect_of, contains_number, message_count, settings_of, offers_number, receive_count, loses, closes, closes_period, status_after, awaits_status, awaits_transfer, departures, ends_transfer, pending_transfers}
+use Rattle.queue_core.specs.Messages.{Birth, effect_of, contains_number, message_count, settings_of, offers_number, receive_count, loses, closes, closes_period, status_after, awaits_status, awaits_transfer, departing, ends_transfer, pending_transfers}
 use Rattle.queue_core.specs.States.{has_age, is_in_state, count_in_state, is_numbered}
 use Rattle.queue_core.specs.Queue.{QueueHistory, with_event}
-use Rattle.queue_core.specs.Legal.{IsLegal, IsCausedIn}
+use Rattle.queue_core.specs.Legal.{IsCausedIn}
 use Rattle.queue_core.specs.Ages.{place_if}
 use Rattle.queue_core.specs.Heaps.{next_time, sent_time, visible_pairs}
-use Rattle.queue_core.specs.Slots.{is_here, is_shown, is_left, is_left_stay, has_age as slot_has_age, one_if, AreIndexed}
-use Rattle.queue_core.specs.Records.{records_in, slots_in, born_in, with_stay, hidden_until, received_at, back_at, has_run_out, stay_at, is_left_record, settled_record, offered_after, rescheduled_after, here_after, record_after, record_after_stay, born_record, record_begun, records_after, records_settled, HasIndices, IsIndexed, HasSame, IsSettled}
+use Rattle.queue_core.specs.Slots.{is_here, is_shown, is_left, is_left_stay, has_age as slot_has_age, AreIndexed}
+use Rattle.queue_core.specs.Records.{records_in, slots_in, born_in, with_stay, hidden_until, received_at, back_at, has_run_out, stay_at, is_left_record, settled_record, offered_after, rescheduled_after, here_after, record_after, record_after_stay, born_record, record_of_birth, record_begun, records_after, records_settled, HasIndices, IsIndexed, HasSame, IsSettled}
 use Rattle.queue_core.specs.Recorded.{AreRecorded}
-use Rattle.queue_core.specs.Applying.{CanApply, HaveReceived}
+use Rattle.queue_core.specs.Applying.{CanApply, counted_if}
 use Rattle.queue_core.specs.Indexed.{known_record, IsIndexOf}
-use Rattle.queue_core.proofs.Scans.{births_few, length-messages_from}
+use Rattle.metric_window.specs.Flows.{greatest}
+use Rattle.queue_core.proofs.Scans.{StandsAlone}
+use Rattle.queue_core.proofs.AloneLemmas.{departures-alone}
+use Rattle.queue_core.proofs.SoundLemmas.{IsSound}
 use Rattle.queue_core.proofs.PushLemmas.{count-push, numbered-kept}
-use Rattle.queue_core.proofs.FactLemmas.{Line, course-push, receives-push, numbered-number, numbered-place, numbered-past, unborn, about, pending-push, pending_of}
+use Rattle.queue_core.proofs.FactLemmas.{Line, course-push, receives-push, numbered-number, numbered-place, numbered-past, about, pending-push}
 use Rattle.queue_core.proofs.RecordLemmas.{left_at, recorded-later, recorded-settled, settled_is, recorded-event}
 use Rattle.queue_core.proofs.IndexedLemmas.{age_is, shown_is, left_is, delayed_count, in_flight_count, order_is, visible_count, next_is, sent_is}
 use Rattle.queue_core.proofs.SummaryLemmas.{keeps-records, records-kept}
@@ -66,20 +68,10 @@ module _ (lines : List Line) (clock : ℕ) (x : MessageIndex) (is : IsIndexOf li
   pub born_is : born_in x ≡ message_count lines
   born_is = ap length is.receives ∙ length-map-range_with_len (λ n. receive_count lines n) 0 (message_count lines)
 
-  -- no more messages than entries, and none was received at more of them
-  pub few_born : born_in x ≤ length lines
-  few_born = let count = length-messages_from 0 0 lines in omega (arith, born_is)
-
   receives_at : (n : ℕ) → n < born_in x → slice_index x.receives.items n ≡ receive_count lines n
   receives_at n h =
       ap (λ (counts : List ℕ). slice_index counts n) is.receives
       ∙ get_or-map-range_with_len (λ n. receive_count lines n) 0 (message_count lines) n n 0 (omega (arith, born_is)) (omega arith)
-
-  few_received : (n : ℕ) → slice_index x.receives.items n ≤ length lines
-  few_received n = elim (cases_lt n (born_in x)) [
-    | inl below ↦ let at = receives_at n below in let few = count_by-le-length (λ (e : Line). offers_number n e.event) lines in omega arith
-    | inr past ↦ let none : slice_index x.receives.items n ≡ 0 = get_or_past x.receives.items n 0 past in omega arith
-  ]
 
   -- ---- what each index is of the journal
 
@@ -193,16 +185,16 @@ module _ (q : QueueHistory) (event : Event ContentText) (caused : IsCausedIn q e
   visible_here : (n : ℕ) → is_numbered (λ m. is_in_state Visible q.lines q.clock m) q.lines n ≡ true → is_here (slots_in x n) ≡ true
   visible_here n h = shown-here (slots_in x n) (sym (shown_is q.lines q.clock (records_in x) (records-kept q.lines q.clock x is) is.settled n) ∙ h)
 
-  pub can_apply : length q.lines < 2 ^ 31 → length x.leaving.items + length (effect_of event).departures ≤ deque_capacity x.leaving → CanApply event x
-  can_apply few room =
+  pub can_apply : length x.leaving.items + length (effect_of event).departures ≤ deque_capacity x.leaving → CanApply event x
+  can_apply room =
       let of = about q event caused in
       record {
         offered = λ n h. visible_here n (of.offered n h);
+        alone = of.alone;
         departing = λ n h. visible_here n (of.departing n h);
         apart = of.apart;
         departing_once = of.departing_once;
         offered_once = of.offered_once;
-        few_receives = λ n. let count = few_received q.lines q.clock x is n in omega arith;
         room = room;
       }
 
@@ -258,9 +250,13 @@ module _ (s : QueueSettings) (clock at : ℕ) (event : Event ContentText) where
   due-each n (Some r) h = due-after n r h
 
   -- what begins is hidden
-  due-born : (birth : Option (Birth ContentText)) → IsDueBy clock (option_map (born_record at) birth)
+  due-text : (birth : Birth ContentText) (content : Option ContentText) → IsDueBy clock (option_map (born_record at birth) content)
+  due-text birth None = tt
+  due-text birth (Some content) = λ shown. absurd cc
+
+  due-born : (birth : Option (Birth ContentText)) → IsDueBy clock (option_and_then (record_of_birth at) birth)
   due-born None = tt
-  due-born (Some birth) = λ shown. absurd cc
+  due-born (Some birth) = due-text birth birth.content
 
   pub due-behind : (before : Bool) (n count : ℕ) (o : Option Record) → IsDueBy clock o → IsDueBy clock (cond before (option_and_then (λ r. record_after s at event n r) o) (record_begun at event count n))
   due-behind true n count o h = due-each n o h
@@ -293,11 +289,12 @@ awaits_if target false false false = refl
 
 -- ---- behind an event, and settled then
 
--- an event begins one message at most
-pub few-more : (event : Event ContentText) (x y : MessageIndex) → HaveReceived event x.receives.items y.receives.items → born_in y ≤ born_in x + 1
-few-more event x y received = omega (arith, births_few event, received.len)
+-- a count that is no more than the greatest, and one more than it
+counted_within : (most k : ℕ) (b : Bool) → k ≤ most → cond b (min (k + 1) most) k ≡ min (k + cond b 1 0) most
+counted_within most k true h = refl
+counted_within most k false h = omega arith
 
-module _ (q : QueueHistory) (event : Event ContentText) (legal : IsLegal q) (caused : IsCausedIn q event) (x y : MessageIndex) (is : IsIndexOf q.lines q.clock x)
+module _ (q : QueueHistory) (event : Event ContentText) (sound : IsSound q.lines q.clock) (caused : IsCausedIn q event) (x y : MessageIndex) (is : IsIndexOf q.lines q.clock x)
     (applied : IsApplied (settings_of q.lines) q.clock event x y) where
   abbrev entry : Line
   entry = record { at = q.clock; event = event }
@@ -310,7 +307,7 @@ module _ (q : QueueHistory) (event : Event ContentText) (legal : IsLegal q) (cau
       subst (λ (count : ℕ). records_in y n ≡ records_after (settings_of q.lines) q.clock event count (records_in x) n) (born_is q.lines q.clock x is) (applied.records n)
 
   recorded-behind : AreRecorded more q.clock (records_in y)
-  recorded-behind = recorded-event q event (records_in x) (records_in y) legal caused (records-kept q.lines q.clock x is) is.settled records-behind
+  recorded-behind = recorded-event q event (records_in x) (records_in y) sound (about q event caused) (records-kept q.lines q.clock x is) is.settled records-behind
 
   shown-behind : IsShownBy q.clock y
   shown-behind n r at =
@@ -318,6 +315,9 @@ module _ (q : QueueHistory) (event : Event ContentText) (legal : IsLegal q) (cau
       (due-behind (settings_of q.lines) q.clock q.clock event (nat_lt n (message_count q.lines)) n (message_count q.lines) (records_in x n) (due-all q.clock (records_in x n) (is.settled.shown n)))
 
   -- ---- receives
+
+  abbrev alone : StandsAlone event
+  alone = (about q event caused).alone
 
   -- what was not begun is not offered
   unoffered : (n : ℕ) → message_count q.lines ≤ n → offers_number n event ≡ false
@@ -328,10 +328,14 @@ module _ (q : QueueHistory) (event : Event ContentText) (legal : IsLegal q) (cau
 
   received-more : (n : ℕ) → slice_index y.receives.items n ≡ receive_count more n
   received-more n = elim (cases_lt n (born_in x)) [
-    | inl below ↦ applied.receives.counts n below ∙ ap (λ (k : ℕ). k + one_if (offers_number n event)) (receives_at q.lines q.clock x is n below) ∙ sym (receives-push q.lines entry n)
+    | inl below ↦
+        applied.receives.counts n below
+        ∙ ap (counted_if (offers_number n event)) (receives_at q.lines q.clock x is n below)
+        ∙ counted_within greatest (receive_count q.lines n) (offers_number n event) (omega arith)
+        ∙ sym (receives-push q.lines entry n alone)
     | inr past ↦ (let begun : message_count q.lines ≤ n = omega (arith, born_is q.lines q.clock x is) in
-        let none : receive_count q.lines n ≡ 0 = (unborn q n legal begun).receives in
-        applied.receives.begun n past ∙ sym (receives-push q.lines entry n ∙ rw (none, unoffered n begun) refl))
+        let none : receive_count q.lines n ≡ 0 = (sound.unborn n begun).receives in
+        applied.receives.begun n past ∙ sym (receives-push q.lines entry n alone ∙ rw (none, unoffered n begun) refl))
   ]
 
   receives-behind : y.receives.items ≡ map (λ n. receive_count more n) (range_with_len 0 (message_count more))
@@ -343,7 +347,7 @@ module _ (q : QueueHistory) (event : Event ContentText) (legal : IsLegal q) (cau
   -- what waits, and the event does not end its transfer, waits on
   awaits-more : (t : Transfer) → Contains (pending_transfers q.lines) t → is_numbered (λ m. awaits_transfer more m) more t.number ≡ not (ends_transfer t event)
   awaits-more t there =
-      let w = (pending_of q legal).waiting t there in
+      let w = sound.pending.waiting t there in
       ap (λ (o : Option Message). option_map_or (λ m. awaits_transfer more m) o false) (numbered-kept q.lines entry t.number w.0 w.1)
       ∙ ap (λ (c : Course). awaits_status c.status) (course-push q.lines entry w.0 (numbered-place q.lines t.number w.0 w.1))
       ∙ ap (λ (status : Status). awaits_status (status_after w.0.number status event)) w.2
@@ -370,16 +374,17 @@ module _ (q : QueueHistory) (event : Event ContentText) (legal : IsLegal q) (cau
         ∙ ap (λ (ns : List ℕ). ns ++ (effect_of event).departures)
         (filter-numbers (λ n. is_left (slots_in y n)) (λ t. not (ends_transfer t event)) (pending_transfers q.lines) left-kept)
         ∙ ap (λ (ns : List ℕ). map (λ t. t.number) (filter (λ t. not (ends_transfer t event)) (pending_transfers q.lines)) ++ ns) (sym (numbers-map (effect_of event).target (effect_of event).departures))
-        ∙ sym (map-append (λ (t : Transfer). t.number) (filter (λ t. not (ends_transfer t event)) (pending_transfers q.lines)) (departures event))
-        ∙ ap (λ (ts : List Transfer). map (λ t. t.number) ts) (sym (pending-push q.lines entry))
+        ∙ sym (map-append (λ (t : Transfer). t.number) (filter (λ t. not (ends_transfer t event)) (pending_transfers q.lines)) (departing event))
+        ∙ ap (λ (ts : List Transfer). map (λ t. t.number) ts)
+        (ap (λ (ts : List Transfer). filter (λ t. not (ends_transfer t event)) (pending_transfers q.lines) ++ ts) (sym (departures-alone event alone)) ∙ sym (pending-push q.lines entry))
 
     index-behind : IsIndexOf more q.clock z
     index-behind =
         keeps-records more q.clock z (indexed-settled (settings_of more).retention_seconds q.clock y z settling applied.indexed) recorded-then settled-then
         (settling.receives ∙ receives-behind) (settling.leaving ∙ leaving-behind)
 
-pub event-index : (q : QueueHistory) (event : Event ContentText) (s : QueueSettings) (retention : ℕ) (x y z : MessageIndex) → IsLegal q → IsCausedIn q event → IsIndexOf q.lines q.clock x → s ≡ settings_of q.lines
+pub event-index : (q : QueueHistory) (event : Event ContentText) (s : QueueSettings) (retention : ℕ) (x y z : MessageIndex) → IsSound q.lines q.clock → IsCausedIn q event → IsIndexOf q.lines q.clock x → s ≡ settings_of q.lines
     → IsApplied s q.clock event x y → retention ≡ (settings_of (with_event q event).lines).retention_seconds → IsSettling retention q.clock y z → IsIndexOf (with_event q event).lines q.clock z
-event-index q event s retention x y z legal caused is own applied same settling =
-    index-behind q event legal caused x y is (subst (λ (s : QueueSettings). IsApplied s q.clock event x y) own applied) z
+event-index q event s retention x y z sound caused is own applied same settling =
+    index-behind q event sound caused x y is (subst (λ (s : QueueSettings). IsApplied s q.clock event x y) own applied) z
     (subst (λ (seconds : ℕ). IsSettling seconds q.clock y z) same settling)

@@ -60,12 +60,16 @@ kept_below x number r has is = elim (cases_lt number (born_in x)) [
   | inr past ↦ absurd (let none : slots_in x number ≡ None = has.indices.few number past in let some : slots_in x number ≡ Some r.slot = ap slot_in is in cc)
 ]
 
+-- there is a count of receives for each message that was begun, and no list has as many elements as that
+pub born_few : (x : MessageIndex) → born_in x < 2 ^ 63
+born_few x = omega (arith, x.receives.ok.0, x.receives.ok.1, x.receives.small)
+
 -- ---- a message that is begun
 
-pub can_begin : (x : MessageIndex) (number : ℕ) (slot : Slot) → HasIndices x → IsReady x → number ≡ born_in x → born_in x < 2 ^ 62 → CanReplace number None (Some slot) x.indices
-can_begin x number slot has ready next few =
+pub can_begin : (x : MessageIndex) (number : ℕ) (slot : Slot) → HasIndices x → IsReady x → number ≡ born_in x → CanReplace number None (Some slot) x.indices
+can_begin x number slot has ready next =
     can_replace (slots_in x) (born_in x) x.indices number None (Some slot) has.indices (has.indices.few number (omega arith)) (λ _. ready.indices)
-    (omega (arith, next, ready.place)) few
+    (omega (arith, next, ready.place)) (born_few x)
 
 pub has_begun : (x y : MessageIndex) (number : ℕ) (kept : Record) → HasIndices x → IsReady x → number ≡ born_in x → kept.slot.sent ≡ kept.first_send_time
     → IsReplaced number None (Some kept.slot) x.indices y.indices → ((n : ℕ) → records_in y n ≡ (if nat_eq n number then Some kept else records_in x n))
@@ -86,11 +90,11 @@ module _ (x : MessageIndex) (number : ℕ) (has : HasIndices x) (kept : IsSome (
   slot_there : slots_in x number ≡ None → ⊥
   slot_there none = let k = some_at (records_in x number) kept in let some : slots_in x number ≡ Some k.0.slot = ap slot_in k.1 in absurd cc
 
-  pub can_change : (after : Option Slot) → born_in x < 2 ^ 62 → CanReplace number (slots_in x number) after x.indices
-  can_change after few =
+  pub can_change : (after : Option Slot) → CanReplace number (slots_in x number) after x.indices
+  can_change after =
       let k = some_at (records_in x number) kept in
       can_replace (slots_in x) (born_in x) x.indices number (slots_in x number) after has.indices refl (λ none. absurd (slot_there none))
-      (omega (arith, kept_below x number k.0 has k.1, has.indices.ages.within)) few
+      (omega (arith, kept_below x number k.0 has k.1, has.indices.ages.within)) (born_few x)
 
   has_changed : (y : MessageIndex) (after : Option Record) → ((r : Record) → after ≡ Some r → r.slot.sent ≡ r.first_send_time)
       → IsReplaced number (slots_in x number) (slot_in after) x.indices y.indices → ((n : ℕ) → records_in y n ≡ (if nat_eq n number then after else records_in x n))
@@ -128,8 +132,8 @@ module _ (x : MessageIndex) (number : ℕ) (slot : Slot) (has : HasIndices x) (i
   there : IsSome (records_in x number)
   there = let k = slot_some (records_in x number) slot is in ap is_some k.1
 
-  pub can_take_out : born_in x < 2 ^ 62 → CanReplace number (Some slot) None x.indices
-  can_take_out few = subst (λ (o : Option Slot). CanReplace number o None x.indices) (sym is) (can_change x number has there None few)
+  pub can_take_out : CanReplace number (Some slot) None x.indices
+  can_take_out = subst (λ (o : Option Slot). CanReplace number o None x.indices) (sym is) (can_change x number has there None)
 
   pub has_let_go : (y : MessageIndex) → IsReplaced number (Some slot) None x.indices y.indices → ((n : ℕ) → records_in y n ≡ (if nat_eq n number then None else records_in x n))
       → y.receives.items ≡ x.receives.items → HasIndices y
@@ -167,7 +171,7 @@ kept_slot None is = absurd (false≢true is)
 kept_slot (Some r) is = refl
 
 -- no more than there are records
-kept_count : (x : MessageIndex) (count : ℕ) → count_slots is_some (slots_in x) count ≤ index_map_len x.records
+pub kept_count : (x : MessageIndex) (count : ℕ) → count_slots is_some (slots_in x) count ≤ index_map_len x.records
 kept_count x count =
     let p = λ (n : ℕ). is_some (slots_in x n) in
     let few : length (filter p (range_with_len 0 count)) ≤ index_map_len x.records =

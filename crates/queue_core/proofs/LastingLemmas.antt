@@ -1,11 +1,11 @@
 -- What lasts, whatever commands follow: what is removed, what has expired, and the content of a number.
-use Rattle.std.proofs.Common.{◌≡◌, ℕ, ◌+◌, ◌*◌, ◌≤◌, ◌<◌, max, Bool, true, false, not, cond, ◌&&◌, leb, eqb, List, [], ◌∷◌, ◌++◌, length, Option, Some, None, Result, Ok, refl, sym, ap, inl, inr, ◌∙◌, arith}
+use Rattle.std.proofs.Common.{◌≡◌, ℕ, ◌+◌, ◌*◌, ◌≤◌, ◌<◌, max, Bool, true, false, not, cond, ◌&&◌, ◌||◌, leb, eqb, List, [], ◌∷◌, ◌++◌, length, drop, Option, Some, None, Result, Ok, refl, sym, ap, subst, inl, inr, ◌∙◌, arith}
 use Rattle.std.specs.Prelude.{IfSome, ◌-◌, nat_lt, slice_get, unwrap_or, option_map, option_and_then}
 use Rattle.std.specs.Option.{option_map_or}
-use Rattle.std.specs.List.{All, Contains}
+use Rattle.std.specs.List.{All, Contains, list_any}
 use Rattle.std.proofs.lemmas.List.{drop_all}
 use Rattle.std.proofs.lemmas.List.Elements.{All-contains, All-weaker}
-use Rattle.std.proofs.lemmas.Bool.{leb-true, le-ltb, cases_lt, false≢true}
+use Rattle.std.proofs.lemmas.Bool.{leb-true, le-ltb, lt-ltb, cases_lt, false≢true}
 use Rattle.message.specs.declared.fault.Fault.{Fault}
 use Rattle.message.specs.declared.fault.Fault.TheVariants.{InvalidParameterValue}
 use Rattle.message.specs.Fault.{is_out_of_memory}
@@ -24,76 +24,156 @@ use Rattle.queue_core.specs.declared.command.Step.{Step}
 use Rattle.queue_core.specs.declared.reply.Reply.{Reply}
 use Rattle.queue_core.specs.declared.reply.Reply.TheVariants as replies
 use Rattle.queue_core.specs.declared.reply.Posted.{Posted}
-use Rattle.queue_core.specs.Messages.{Birth, effect_of, message_in, contains_number, messages, message_count, own_id, content_of, settings_of, opens, is_expired, status_after, course_from, course_of, is_removed_status, is_removed, receive_count, due_time, is_returned, returns}
+use Rattle.queue_core.specs.Messages.{Birth, effect_of, message_in, contains_number, messages, message_count, own_id, contents, contents_in, content_of, settings_of, opens, retention_periods, runs_out_in, is_expired, course_from, course_of, is_removed_status, is_removed, receive_count, due_time, is_returned, returns}
 use Rattle.queue_core.specs.States.{is_live, same_state, message_numbered}
-use Rattle.queue_core.specs.Queue.{QueueHistory, Outcome, at_moment, refusal, unless_refused, first_refusal, offered_candidates, received_event, numbers_of, leaves_clock, reached, outcome_at, with_event, with_optional_event, after_answer, look_of}
-use Rattle.queue_core.specs.Run.{AreExact, after_all}
+use Rattle.queue_core.specs.Queue.{QueueHistory, Outcome, adding, at_moment, refusal, is_at_limit, rebased, rebased_where, rebases, unless_refused, first_refusal, offered_candidates, received_event, numbers_of, leaves_clock, reached, outcome_in, outcome_of, outcome_at, with_event, with_optional_event, after_outcome, after_answer, look_of}
+use Rattle.queue_core.specs.Run.{AreExact, NeverRebases, after_all}
 use Rattle.queue_core.specs.Turns.{IsVisibleCandidate}
-use Rattle.queue_core.specs.Lasting.{content_numbered}
+use Rattle.queue_core.specs.Lasting.{content_numbered, is_gone, is_removed_number, is_gone_number, NamesOrLetGo}
 use Rattle.queue_core.proofs.AlikeLemmas.{in_state}
 use Rattle.queue_core.proofs.OfferLemmas.{Contains-map, offered_visible}
 use Rattle.queue_core.proofs.PendingLemmas.{contains-number}
+use Rattle.queue_core.proofs.InPlaceLemmas.{unwanted}
 use Rattle.queue_core.proofs.CauseLemmas.{IsAbout, about-outcome}
-use Rattle.queue_core.proofs.PushLemmas.{Line, first_course, course-push, unexpired-past, content-push, numbered-push, numbered-kept, begun_at, newborn}
+use Rattle.queue_core.proofs.Scans.{StandsAlone}
+use Rattle.queue_core.proofs.PushLemmas.{Line, slice_get-append, course-push, unexpired-past, content-push, contents-push, length-contents, numbered-push, numbered-number, numbered-place, numbered-below, numbered-kept, begun_at, newborn, removed_after, removed_from}
 use Rattle.queue_core.proofs.RecordLemmas.{expired-later, expired-push}
+use Rattle.queue_core.proofs.GoneLemmas.{removed_based, gone_based, content_based, none_based}
 use Rattle.queue_core.proofs.RefusalLemmas.{all-placed}
 
 -- ---- what is removed
-
-removed_after : (number : ℕ) (status : Status) (event : Event ContentText) → is_removed_status status ≡ true → is_removed_status (status_after number status event) ≡ true
-removed_after number Removed event h = refl
-removed_after number status event h = absurd (false≢true h)
 
 removed-push : (lines : List Line) (e : Line) (m : Message) → is_removed lines m ≡ true → is_removed (lines ++ e ∷ []) m ≡ true
 removed-push lines e m h =
     elim (cases_lt m.place (length lines)) [
       | inl within ↦ ap (λ (c : Course). is_removed_status c.status) (course-push lines e m within) ∙ removed_after m.number (course_of lines m).status e.event h
-      | inr past ↦ absurd (false≢true (sym (ap (λ (es : List Line). is_removed_status (course_from m.number (first_course m) es).status) (drop_all m.place lines past)) ∙ h))
+      | inr past ↦
+          removed_from m.number m.begun (drop m.place (lines ++ e ∷ []))
+          (sym (ap (λ (es : List Line). is_removed_status (course_from m.number m.begun es).status) (drop_all m.place lines past)) ∙ h)
     ]
 
 -- ---- what has expired
 
-expired-placed : (lines : List Line) (clock : ℕ) (m : Message) → is_expired lines clock m ≡ true → m.place < length lines
-expired-placed lines clock m h = elim (cases_lt m.place (length lines)) [ inl within ↦ within | inr past ↦ absurd (false≢true (sym (unexpired-past lines clock m past) ∙ h)) ]
+-- at its own entry already, or by the entries behind that
+expired-placed : (lines : List Line) (clock : ℕ) (m : Message) → m.ran_out ≡ false → is_expired lines clock m ≡ true → m.place < length lines
+expired-placed lines clock m new h =
+    elim (cases_lt m.place (length lines)) [ inl within ↦ within | inr past ↦ absurd (false≢true (sym (unexpired-past lines clock m past ∙ new) ∙ h)) ]
 
 -- ---- a property of queues that lasts
 
 pub record Lasts (P : QueueHistory → Type 0) : Type 0 where
   pub later : (q : QueueHistory) (at : ℕ) → P q → P (at_moment q at)
-  pub more : (q : QueueHistory) (event : Event ContentText) → opens event ≡ false → P q → P (with_event q event)
+  pub more : (q : QueueHistory) (event : Event ContentText) → opens event ≡ false → StandsAlone event → P q → P (with_event q event)
 
 module _ (P : QueueHistory → Type 0) (lasts : Lasts P) where
   lasts_optional : (q : QueueHistory) (event : Option (Event ContentText)) → IfSome event (IsAbout q) → P q → P (with_optional_event q event)
   lasts_optional q None h p = p
-  lasts_optional q (Some event) h p = lasts.more q event h.unopened p
+  lasts_optional q (Some event) h p = lasts.more q event h.unopened h.alone p
 
   lasts_cond : (b : Bool) (q r : QueueHistory) → P q → P r → P (cond b q r)
   lasts_cond true q r p s = p
   lasts_cond false q r p s = s
 
-  lasts_answer : (q : QueueHistory) (at : ℕ) (command : Command) (answer : Result Reply Fault) → P q → P (after_answer q at command answer)
-  lasts_answer q at command answer p =
-      let there : P (reached q at command) = lasts_cond (leaves_clock command) q (at_moment q at) p (lasts.later q at p) in
-      lasts_cond (is_out_of_memory answer) (reached q at command) (with_optional_event (reached q at command) (outcome_at q at command).event) there
-      (lasts_optional (reached q at command) (outcome_at q at command).event (about-outcome (reached q at command) command) there)
+  lasts_reached : (q : QueueHistory) (at : ℕ) (command : Command) → P q → P (reached q at command)
+  lasts_reached q at command p = lasts_cond (leaves_clock command) q (at_moment q at) p (lasts.later q at p)
 
-  pub lasts_all : (q : QueueHistory) (steps : List Step) (answers : List (Result Reply Fault)) → P q → P (after_all q steps answers)
-  lasts_all q [] answers p = p
-  lasts_all q (step ∷ steps) [] p = p
-  lasts_all q (step ∷ steps) (answer ∷ answers) p = lasts_all (after_answer q step.at step.command answer) steps answers (lasts_answer q step.at step.command answer p)
+  -- behind a checkpoint, where one comes first
+  lasts_there : (q : QueueHistory) (command : Command) (answer : Result Reply Fault) → P q → P (rebased_where (rebases q command) q) → P (after_outcome q (outcome_of q command) answer)
+  lasts_there q command answer p there =
+      let w : QueueHistory = rebased_where (rebases q command) q in
+      lasts_cond (is_out_of_memory answer) q (with_optional_event w (outcome_in w command).event) p (lasts_optional w (outcome_in w command).event (about-outcome w command) there)
 
-pub removed_stays : (q : QueueHistory) (steps : List Step) (answers : List (Result Reply Fault)) (m : Message) → is_removed q.lines m ≡ true → is_removed (after_all q steps answers).lines m ≡ true
-removed_stays q steps answers m h =
-    lasts_all (λ r. is_removed r.lines m ≡ true) (record { later = λ r at p. p; more = λ r event o p. removed-push r.lines (record { at = r.clock; event = event }) m p }) q steps answers h
+  -- as long as no checkpoint comes
+  pub lasts_in_place : (q : QueueHistory) (steps : List Step) (answers : List (Result Reply Fault)) → NeverRebases q steps answers → P q → P (after_all q steps answers)
+  lasts_in_place q [] answers never p = p
+  lasts_in_place q (step ∷ steps) [] never p = p
+  lasts_in_place q (step ∷ steps) (answer ∷ answers) never p =
+      let r : QueueHistory = reached q step.at step.command in
+      let there : P r = lasts_reached q step.at step.command p in
+      lasts_in_place (after_answer q step.at step.command answer) steps answers never.1
+      (lasts_there r step.command answer there (subst (λ (b : Bool). P (rebased_where b r)) (sym never.0) there))
 
-pub expired_stays : (q : QueueHistory) (steps : List Step) (answers : List (Result Reply Fault)) (m : Message) → is_expired q.lines q.clock m ≡ true
-    → is_expired (after_all q steps answers).lines (after_all q steps answers).clock m ≡ true
-expired_stays q steps answers m h =
-    lasts_all (λ r. is_expired r.lines r.clock m ≡ true)
+  -- and through checkpoints
+  module _ (through : (q : QueueHistory) → P q → P (rebased q)) where
+    pub lasts_all : (q : QueueHistory) (steps : List Step) (answers : List (Result Reply Fault)) → P q → P (after_all q steps answers)
+    lasts_all q [] answers p = p
+    lasts_all q (step ∷ steps) [] p = p
+    lasts_all q (step ∷ steps) (answer ∷ answers) p =
+        let r : QueueHistory = reached q step.at step.command in
+        let there : P r = lasts_reached q step.at step.command p in
+        lasts_all (after_answer q step.at step.command answer) steps answers
+        (lasts_there r step.command answer there (lasts_cond (rebases r step.command) (rebased r) r (through r there) there))
+
+-- ---- what is gone
+
+removed-numbered : (lines : List Line) (e : Line) (number : ℕ) → is_removed_number lines number ≡ true → is_removed_number (lines ++ e ∷ []) number ≡ true
+removed-numbered lines e number h = by_message (message_numbered lines number) refl h
+  where
+    by_message : (o : Option Message) → message_numbered lines number ≡ o → option_map_or (λ m. is_removed lines m) o false ≡ true → is_removed_number (lines ++ e ∷ []) number ≡ true
+    by_message None is h = absurd (false≢true h)
+    by_message (Some m) is h =
+        ap (λ (o : Option Message). option_map_or (λ m. is_removed (lines ++ e ∷ []) m) o false) (numbered-kept lines e number m is)
+        ∙ removed-push lines e m h
+
+pub removed_stays : (q : QueueHistory) (steps : List Step) (answers : List (Result Reply Fault)) (number : ℕ) → is_removed_number q.lines number ≡ true
+    → is_removed_number (after_all q steps answers).lines number ≡ true
+removed_stays q steps answers number h =
+    lasts_all (λ r. is_removed_number r.lines number ≡ true)
+    (record { later = λ r at p. p; more = λ r event o alone p. removed-numbered r.lines (record { at = r.clock; event = event }) number p })
+    (λ r p. removed_based r.uid r.lines r.clock number p) q steps answers h
+
+-- a message that is gone, and one entry more or a later clock
+gone-either : (removed expired removed_then expired_then : Bool) → (removed ≡ true → removed_then ≡ true) → (expired ≡ true → expired_then ≡ true) → (removed || expired) ≡ true
+    → (removed_then || expired_then) ≡ true
+gone-either true expired true expired_then f g h = refl
+gone-either true expired false expired_then f g h = absurd (false≢true (f refl))
+gone-either false expired true expired_then f g h = refl
+gone-either false expired false expired_then f g h = g h
+
+gone-later : (lines : List Line) (clock later number : ℕ) → clock ≤ later → is_gone_number lines clock number ≡ true → is_gone_number lines later number ≡ true
+gone-later lines clock later number rises h = by_message (message_numbered lines number) refl h
+  where
+    by_message : (o : Option Message) → message_numbered lines number ≡ o → option_map_or (λ m. is_gone lines clock m) o false ≡ true → option_map_or (λ m. is_gone lines later m) o false ≡ true
+    by_message None is h = absurd (false≢true h)
+    by_message (Some m) is h =
+        gone-either (is_removed lines m) (is_expired lines clock m) (is_removed lines m) (is_expired lines later m) (λ e. e)
+        (expired-later lines clock later m (numbered-place lines number m is) rises) h
+
+gone-numbered : (lines : List Line) (clock : ℕ) (event : Event ContentText) (number : ℕ) → opens event ≡ false → StandsAlone event → is_gone_number lines clock number ≡ true
+    → is_gone_number (lines ++ record { at = clock; event = event } ∷ []) clock number ≡ true
+gone-numbered lines clock event number unopened alone h = by_message (message_numbered lines number) refl h
+  where
+    by_message : (o : Option Message) → message_numbered lines number ≡ o → option_map_or (λ m. is_gone lines clock m) o false ≡ true
+        → is_gone_number (lines ++ record { at = clock; event = event } ∷ []) clock number ≡ true
+    by_message None is h = absurd (false≢true h)
+    by_message (Some m) is h =
+        let e : Line = record { at = clock; event = event } in
+        ap (λ (o : Option Message). option_map_or (λ m. is_gone (lines ++ e ∷ []) clock m) o false) (numbered-kept lines e number m is)
+        ∙ gone-either (is_removed lines m) (is_expired lines clock m) (is_removed (lines ++ e ∷ []) m) (is_expired (lines ++ e ∷ []) clock m) (removed-push lines e m)
+        (expired-push lines clock event m (numbered-place lines number m is) alone unopened) h
+
+pub gone_stays : (q : QueueHistory) (steps : List Step) (answers : List (Result Reply Fault)) (number : ℕ) → is_gone_number q.lines q.clock number ≡ true
+    → is_gone_number (after_all q steps answers).lines (after_all q steps answers).clock number ≡ true
+gone_stays q steps answers number h =
+    lasts_all (λ r. is_gone_number r.lines r.clock number ≡ true)
     (record {
-      later = λ r at p. expired-later r.lines r.clock (max r.clock at) m (expired-placed r.lines r.clock m p) (omega arith) p;
-      more = λ r event o p. expired-push r.lines r.clock event m (expired-placed r.lines r.clock m p) o p;
-    }) q steps answers h
+      later = λ r at p. gone-later r.lines r.clock (max r.clock at) number (omega arith) p;
+      more = λ r event o alone p. gone-numbered r.lines r.clock event number o alone p;
+    })
+    (λ r p. gone_based r.uid r.lines r.clock number p) q steps answers h
+
+pub expired_stays : (q : QueueHistory) (steps : List Step) (answers : List (Result Reply Fault)) (m : Message) → NeverRebases q steps answers → is_expired q.lines q.clock m ≡ true
+    → is_expired (after_all q steps answers).lines (after_all q steps answers).clock m ≡ true
+expired_stays q steps answers m never h = by_begun m.ran_out refl
+  where
+    by_begun : (b : Bool) → m.ran_out ≡ b → is_expired (after_all q steps answers).lines (after_all q steps answers).clock m ≡ true
+    by_begun true out = ap (λ (b : Bool). b || list_any (λ p. runs_out_in m p) (retention_periods (after_all q steps answers).lines (after_all q steps answers).clock)) out
+    by_begun false new =
+        lasts_in_place (λ r. is_expired r.lines r.clock m ≡ true)
+        (record {
+          later = λ r at p. expired-later r.lines r.clock (max r.clock at) m (expired-placed r.lines r.clock m new p) (omega arith) p;
+          more = λ r event o alone p. expired-push r.lines r.clock event m (expired-placed r.lines r.clock m new p) alone o p;
+        }) q steps answers never h
 
 -- ---- the content of a number
 
@@ -103,18 +183,49 @@ content-numbered lines e content number None is h = absurd cc
 content-numbered lines e content number (Some m) is h =
     ap (option_and_then (λ (x : Message). content_of (lines ++ e ∷ []) x)) (numbered-kept lines e number m is) ∙ content-push lines e m content h
 
+-- none of a message that was removed stays none
+none-numbered : (lines : List Line) (e : Line) (number : ℕ) → content_numbered lines number ≡ None → is_removed_number lines number ≡ true → content_numbered (lines ++ e ∷ []) number ≡ None
+none-numbered lines e number none h = by_message (message_numbered lines number) refl none h
+  where
+    by_message : (o : Option Message) → message_numbered lines number ≡ o → option_and_then (λ m. content_of lines m) o ≡ None → option_map_or (λ m. is_removed lines m) o false ≡ true
+        → content_numbered (lines ++ e ∷ []) number ≡ None
+    by_message None is none h = absurd (false≢true h)
+    by_message (Some m) is none h =
+        let below : m.number < length (contents lines) = omega (arith, numbered-number lines number m is, numbered-below lines number m is, length-contents lines) in
+        ap (option_and_then (λ (x : Message). content_of (lines ++ e ∷ []) x)) (numbered-kept lines e number m is)
+        ∙ ap (λ (cs : List (Option ContentText)). unwrap_or (slice_get cs m.number) None) (contents-push lines e)
+        ∙ ap (λ (o : Option (Option ContentText)). unwrap_or o None)
+        (slice_get-append (contents lines) (contents_in e.event) m.number
+        ∙ ap (λ (b : Bool). cond b (slice_get (contents lines) m.number) (slice_get (contents_in e.event) (m.number - length (contents lines)))) (lt-ltb m.number (length (contents lines)) below))
+        ∙ none
+
+names-numbered : (lines : List Line) (e : Line) (number : ℕ) (content : ContentText) → NamesOrLetGo lines number content → NamesOrLetGo (lines ++ e ∷ []) number content
+names-numbered lines e number content (inl named) = inl (content-numbered lines e content number (message_numbered lines number) refl named)
+names-numbered lines e number content (inr gone) = inr (none-numbered lines e number gone.0 gone.1, removed-numbered lines e number gone.1)
+
+names-based : (q : QueueHistory) (number : ℕ) (content : ContentText) → NamesOrLetGo q.lines number content → NamesOrLetGo (rebased q).lines number content
+names-based q number content (inl named) = content_based q.uid q.lines q.clock number content named
+names-based q number content (inr gone) = inr (none_based q.uid q.lines q.clock number gone.0 gone.1, removed_based q.uid q.lines q.clock number gone.1)
+
 pub content_stays : (q : QueueHistory) (steps : List Step) (answers : List (Result Reply Fault)) (number : ℕ) (content : ContentText) → content_numbered q.lines number ≡ Some content
-    → content_numbered (after_all q steps answers).lines number ≡ Some content
+    → NamesOrLetGo (after_all q steps answers).lines number content
 content_stays q steps answers number content h =
-    lasts_all (λ r. content_numbered r.lines number ≡ Some content)
-    (record { later = λ r at p. p; more = λ r event o p. content-numbered r.lines (record { at = r.clock; event = event }) content number (message_numbered r.lines number) refl p }) q steps answers h
+    lasts_all (λ r. NamesOrLetGo r.lines number content)
+    (record { later = λ r at p. p; more = λ r event o alone p. names-numbered r.lines (record { at = r.clock; event = event }) number content p })
+    (λ r p. names-based r number content p) q steps answers (inl h)
+
+pub content_stays_in_place : (q : QueueHistory) (steps : List Step) (answers : List (Result Reply Fault)) (number : ℕ) (content : ContentText) → NeverRebases q steps answers
+    → content_numbered q.lines number ≡ Some content → content_numbered (after_all q steps answers).lines number ≡ Some content
+content_stays_in_place q steps answers number content never h =
+    lasts_in_place (λ r. content_numbered r.lines number ≡ Some content)
+    (record { later = λ r at p. p; more = λ r event o alone p. content-numbered r.lines (record { at = r.clock; event = event }) content number (message_numbered r.lines number) refl p }) q steps answers never h
 
 -- the message that an entry at the end begins
 content-sent : (lines : List Line) (at delay : ℕ) (content : ContentText) → content_numbered (lines ++ record { at = at; event = Sent delay content } ∷ []) (message_count lines) ≡ Some content
 content-sent lines at delay content =
     let x : Line = record { at = at; event = Sent delay content } in
     let count : ℕ = message_count lines in
-    let birth : Birth ContentText = record { content = content; delay = delay; origin = None } in
+    let birth : Birth ContentText = record { content = Some content; delay = delay; origin = None; past = None } in
     let first : slice_get (effect_of x.event).births (count - count) ≡ Some birth = let none : count - count ≡ 0 = omega arith in ap (slice_get (birth ∷ [])) none in
     let last : message_numbered (lines ++ x ∷ []) count ≡ Some (message_in (length lines) count at birth) =
     numbered-push lines x count
@@ -123,7 +234,7 @@ content-sent lines at delay content =
 
 module _ (q : QueueHistory) (content : ContentText) (delay : ℕ) (posted : Posted) where
   abbrev sending : Outcome
-  sending = record { event = Some (Sent delay content); reply = Ok (replies.Sent (record { number = message_count q.lines; id = own_id q.uid (message_count q.lines) })) }
+  sending = adding (Sent delay content) (Ok (replies.Sent (record { number = message_count q.lines; id = own_id q.uid (message_count q.lines) })))
 
   content-posted : (r : Option Fault) (b : Bool) → (unless_refused r (cond b (refusal InvalidParameterValue) sending)).reply ≡ Ok (replies.Sent posted)
       → content_numbered (with_optional_event q (unless_refused r (cond b (refusal InvalidParameterValue) sending)).event).lines posted.number ≡ Some content
@@ -136,14 +247,22 @@ module _ (q : QueueHistory) (content : ContentText) (delay : ℕ) (posted : Post
 pub content_sent : (q : QueueHistory) (at : ℕ) (content : ContentText) (delay : Option ℕ) (posted : Posted) → (outcome_at q at (commands.Send content delay)).reply ≡ Ok (replies.Sent posted)
     → content_numbered (after_answer {T = Reply} q at (commands.Send content delay) (Ok (replies.Sent posted))).lines posted.number ≡ Some content
 content_sent q at content delay posted h =
-    content-posted (at_moment q at) content (unwrap_or delay (settings_of q.lines).delay_seconds) posted (first_refusal (at_moment q at))
-    (nat_lt (settings_of q.lines).maximum_message_size (content_size content)) h
+    let r : QueueHistory = at_moment q at in
+    let w : QueueHistory = rebased_where (rebases r (commands.Send content delay)) r in
+    content-posted w content (unwrap_or delay (settings_of w.lines).delay_seconds) posted (first_refusal w)
+    (nat_lt (settings_of w.lines).maximum_message_size (content_size content)) h
 
 -- ---- a look after all steps
 
+abbrev looked : QueueHistory → Result Reply Fault
+looked q = Ok (replies.Looked (look_of q))
+
 pub look_after : (q : QueueHistory) (steps : List Step) (answers : List (Result Reply Fault)) (at : ℕ) (answer : Result Reply Fault)
     → AreExact q (steps ++ record { at = at; command = commands.Look } ∷ []) (answers ++ answer ∷ []) → answer ≡ Ok (replies.Looked (look_of (at_moment (after_all q steps answers) at)))
-look_after q [] [] at answer h = h.0 refl
+look_after q [] [] at answer h =
+    let r : QueueHistory = at_moment q at in
+    let placed : rebases r commands.Look ≡ false = unwanted (is_at_limit r) (first_refusal r) in
+    h.0 (ap (λ (b : Bool). b || false || false) placed) ∙ ap (λ (b : Bool). looked (rebased_where b r)) placed
 look_after q [] (a ∷ []) at answer h = absurd h.1
 look_after q [] (a ∷ b ∷ answers) at answer h = absurd h.1
 look_after q (step ∷ []) [] at answer h = absurd h.1

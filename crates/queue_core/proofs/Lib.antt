@@ -1,5 +1,6 @@
 pub mod Scans
 pub mod TallyLemmas
+mod InPlaceLemmas
 pub mod LegalLemmas
 pub mod RunLemmas
 pub mod OrderLemmas
@@ -12,8 +13,10 @@ mod SumLemmas
 pub mod PushLemmas
 mod AlongLemmas
 pub mod CauseLemmas
+pub mod AloneLemmas
 mod UnbornLemmas
 pub mod PendingLemmas
+pub mod SoundLemmas
 mod FactLemmas
 mod ToldLemmas
 mod RecordLemmas
@@ -21,9 +24,18 @@ mod PairLemmas
 mod IndexedLemmas
 mod SummaryLemmas
 mod StandingLemmas
+mod StandingCountLemmas
 mod StandingStepLemmas
+mod OpenLemmas
+mod RebaseLemmas
+mod KeepingLemmas
+mod FewLemmas
+mod WeightLemmas
+pub mod LegalSoundLemmas
 mod StateLemmas
+mod GoneLemmas
 mod RefusalLemmas
+pub mod BehindLemmas
 pub mod OwnRefusalLemmas
 pub mod LastingLemmas
 mod CountedLemmas
@@ -48,5 +60,7 @@ mod AppliedLemmas
 mod ReceiveLemmas
 mod QuestionLemmas
 mod CostLemmas
+mod RoomLemmas
+pub mod WholeLemmas
 mod IndexLemmas
 mod AcceptedLemmas

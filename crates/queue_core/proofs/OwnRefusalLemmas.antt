@@ -7,7 +7,7 @@ use Rattle.std.proofs.lemmas.Bool.{false≢true}
 use Rattle.std.proofs.lemmas.List.{length-append}
 use Rattle.std.proofs.lemmas.List.Elements.{All-weaker, recursion_from_All}
 use Rattle.message.specs.declared.fault.Fault.{Fault}
-use Rattle.message.specs.declared.fault.Fault.TheVariants.{QueueDoesNotExist, InvalidParameterValue, ReceiptHandleIsInvalid, MessageNotInflight, OverLimit, JournalFull}
+use Rattle.message.specs.declared.fault.Fault.TheVariants.{QueueDoesNotExist, InvalidParameterValue, ReceiptHandleIsInvalid, MessageNotInflight, OverLimit, JournalFull, OutOfMemory}
 use Rattle.message.specs.Fault.{is_out_of_memory}
 use Rattle.message.specs.Content.{ContentText, content_size}
 use Rattle.queue_config.specs.Settings.{QueueSettings, default_settings}
@@ -22,7 +22,7 @@ use Rattle.queue_core.specs.declared.facts.MessageState.TheVariants.{InFlight}
 use Rattle.queue_core.specs.declared.reply.Reply.{Reply}
 use Rattle.queue_core.specs.Messages.{messages, settings_of, is_expired, receive_count, is_closed, has_accepted}
 use Rattle.queue_core.specs.States.{is_live, is_in_state, is_numbered}
-use Rattle.queue_core.specs.Queue.{QueueHistory, Outcome, at_moment, refusal, is_full, unless_refused, first_refusal, refused_or, done, in_flight_count, is_valid_handle, holds_in_flight, passes_twelve_hours, is_pending, outcome_of, reached, outcome_at, with_event, with_optional_event, after_answer}
+use Rattle.queue_core.specs.Queue.{QueueHistory, Outcome, at_moment, refusal, is_full, unless_refused, first_refusal, refused_or, done, in_flight_count, is_valid_handle, holds_in_flight, passes_twelve_hours, is_pending, rebased_where, outcome_in, reached, outcome_at, with_event, with_optional_event, after_answer}
 use Rattle.queue_core.specs.Lasting.{StandsAs}
 use Rattle.queue_core.specs.Refusals.{is_own_refusal, LastsAs}
 use Rattle.queue_core.specs.Recorded.{ran_out_before, runs_out_by}
@@ -32,9 +32,9 @@ use Rattle.queue_core.proofs.RefusalLemmas.{all-placed, StandsAs-refused}
 
 -- ---- which refusals are entries
 
--- the queue's own refusal is an entry, and no other
+-- the queue's own refusal is an entry, and no other, which is none of want of memory
 abbrev AddsFor : Option (Event ContentText) → Fault → Type 0
-AddsFor event fault = MatchBool (is_own_refusal fault) (event ≡ Some (Refused fault)) (event ≡ None)
+AddsFor event fault = MatchBool (is_own_refusal fault) (event ≡ Some (Refused fault)) ((event ≡ None) × (is_out_of_memory {T = Reply} (Err fault) ≡ false))
 
 abbrev IsTold : Outcome → Type 0
 IsTold o = (fault : Fault) → o.reply ≡ Err fault → AddsFor o.event fault
@@ -43,11 +43,11 @@ told_as : (first fault : Fault) (event : Option (Event ContentText)) → AddsFor
 told_as first fault event h is = let same : first ≡ fault = cc in subst (AddsFor event) same h
 
 told-room : (closed full : Bool) (o : Outcome) → IsTold o → IsTold (unless_refused (cond closed (Some QueueDoesNotExist) (cond full (Some JournalFull) None)) o)
-told-room true full o rest fault h = told_as QueueDoesNotExist fault None refl h
-told-room false true o rest fault h = told_as JournalFull fault None refl h
+told-room true full o rest fault h = told_as QueueDoesNotExist fault None (refl, refl) h
+told-room false true o rest fault h = told_as JournalFull fault None (refl, refl) h
 told-room false false o rest fault h = rest fault h
 
-told-answered : (event : Option (Event ContentText)) (reply : Reply) → IsTold (record { event = event; reply = Ok reply })
+told-answered : (event : Option (Event ContentText)) (reply : Reply) → IsTold (record { event = event; reply = Ok reply; rebases = false })
 told-answered event reply fault h = absurd cc
 
 told-either : (b : Bool) (one other : Outcome) → IsTold one → IsTold other → IsTold (cond b one other)
@@ -68,24 +68,24 @@ module _ (q : QueueHistory) where
   room : (o : Outcome) → IsTold o → IsTold (unless_refused (first_refusal q) o)
   room o h = told-room (is_closed q.lines) (is_full q) o h
 
-  told : (command : Command) → IsTold (outcome_of q command)
-  told (commands.Send content delay) =
+  told_in : (command : Command) → IsTold (outcome_in q command)
+  told_in (commands.Send content delay) =
       room _ (told-either (nat_lt (settings_of q.lines).maximum_message_size (content_size content)) _ _ (told-refusal InvalidParameterValue refl) (told-answered _ _))
-  told (commands.Receive maximum timeout) =
+  told_in (commands.Receive maximum timeout) =
       room _ (told-either (nat_le q.limits.in_flight (in_flight_count q)) _ _ (told-refusal OverLimit refl) (told-answered _ _))
-  told (commands.Change handle timeout) =
+  told_in (commands.Change handle timeout) =
       room _ (told-change (is_valid_handle q handle) (holds_in_flight q handle) (passes_twelve_hours q handle.number timeout) (Changed handle.number timeout))
-  told (commands.Delete handle) =
+  told_in (commands.Delete handle) =
       room _ (told-either (is_valid_handle q handle) _ _ (told-answered _ _) (told-refusal ReceiptHandleIsInvalid refl))
-  told commands.Purge = room _ (told-answered _ _)
-  told (commands.Set wish target) = room _ (told-answered _ _)
-  told (commands.Arrive parcel) =
+  told_in commands.Purge = room _ (told-answered _ _)
+  told_in (commands.Set wish target) = room _ (told-answered _ _)
+  told_in (commands.Arrive parcel) =
       room _ (told-either (has_accepted q.lines parcel.origin.uid parcel.origin.number) _ _ (told-answered _ _) (told-answered _ _))
-  told (commands.Settle number) = room _ (told-either (is_pending q number) _ _ (told-answered _ _) (told-answered _ _))
-  told (commands.Orphan target) = room _ (told-answered _ _)
-  told commands.FirstParcel = told-answered _ _
-  told commands.Close = told-either (is_closed q.lines) _ _ (λ fault h. told_as QueueDoesNotExist fault None refl h) (told-answered _ _)
-  told commands.Look = told-answered _ _
+  told_in (commands.Settle number) = room _ (told-either (is_pending q number) _ _ (told-answered _ _) (told-answered _ _))
+  told_in (commands.Orphan target) = room _ (told-answered _ _)
+  told_in commands.FirstParcel = told-answered _ _
+  told_in commands.Close = told-either (is_closed q.lines) _ _ (λ fault h. told_as QueueDoesNotExist fault None (refl, refl) h) (told-answered _ _)
+  told_in commands.Look = told-answered _ _
 
 pub own-answered : (T : Type 0) (fault : Fault) → is_own_refusal fault ≡ true → is_out_of_memory {T = T} (Err fault) ≡ false
 own-answered T InvalidParameterValue h = refl
@@ -94,28 +94,35 @@ own-answered T MessageNotInflight h = refl
 own-answered T OverLimit h = refl
 own-answered T fault h = absurd (false≢true h)
 
+same_memory : (T : Type 0) (fault : Fault) → is_out_of_memory {T = T} (Err fault) ≡ is_out_of_memory {T = Reply} (Err fault)
+same_memory T OutOfMemory = refl
+same_memory T fault = refl
+
 module _ (T : Type 0) (q : QueueHistory) (at : ℕ) (command : Command) (fault : Fault) (refused : (outcome_at q at command).reply ≡ Err fault) where
-  abbrev r : QueueHistory
-  r = reached q at command
+  -- the queue that it acts in
+  abbrev there : QueueHistory
+  there = rebased_where (outcome_at q at command).rebases (reached q at command)
 
   adds : AddsFor (outcome_at q at command).event fault
-  adds = told r command fault refused
+  adds = told_in there command fault refused
 
-  pub own-entry : is_own_refusal fault ≡ true → after_answer {T = T} q at command (Err fault) ≡ with_event r (Refused fault)
+  left : (event : Option (Event ContentText)) → is_out_of_memory {T = T} (Err fault) ≡ false → (outcome_at q at command).event ≡ event
+      → after_answer {T = T} q at command (Err fault) ≡ with_optional_event there event
+  left event kept is =
+      ap (λ (b : Bool). cond b (reached q at command) (with_optional_event there (outcome_at q at command).event)) kept
+      ∙ ap (with_optional_event there) is
+
+  pub own-entry : is_own_refusal fault ≡ true → after_answer {T = T} q at command (Err fault) ≡ with_event there (Refused fault)
   own-entry own =
       let event : (outcome_at q at command).event ≡ Some (Refused fault) =
-      subst (λ (b : Bool). MatchBool b ((outcome_at q at command).event ≡ Some (Refused fault)) ((outcome_at q at command).event ≡ None)) own adds in
-      ap (λ (b : Bool). cond b r (with_optional_event r (outcome_at q at command).event)) (own-answered T fault own)
-      ∙ ap (with_optional_event r) event
+      subst (λ (b : Bool). MatchBool b ((outcome_at q at command).event ≡ Some (Refused fault)) (((outcome_at q at command).event ≡ None) × (is_out_of_memory {T = Reply} (Err fault) ≡ false))) own adds in
+      left (Some (Refused fault)) (own-answered T fault own) event
 
-  pub no-entry : is_own_refusal fault ≡ false → after_answer {T = T} q at command (Err fault) ≡ r
+  pub no-entry : is_own_refusal fault ≡ false → after_answer {T = T} q at command (Err fault) ≡ there
   no-entry other =
-      let event : (outcome_at q at command).event ≡ None =
-      subst (λ (b : Bool). MatchBool b ((outcome_at q at command).event ≡ Some (Refused fault)) ((outcome_at q at command).event ≡ None)) other adds in
-      either (is_out_of_memory {T = T} (Err fault)) (ap (with_optional_event r) event) where
-        either : (b : Bool) → with_optional_event r (outcome_at q at command).event ≡ r → cond b r (with_optional_event r (outcome_at q at command).event) ≡ r
-        either true h = refl
-        either false h = h
+      let none : ((outcome_at q at command).event ≡ None) × (is_out_of_memory {T = Reply} (Err fault) ≡ false) =
+      subst (λ (b : Bool). MatchBool b ((outcome_at q at command).event ≡ Some (Refused fault)) (((outcome_at q at command).event ≡ None) × (is_out_of_memory {T = Reply} (Err fault) ≡ false))) other adds in
+      left None (same_memory T fault ∙ none.1) none.0
 
 -- ---- every later moment
 

@@ -20,15 +20,16 @@ use Rattle.queue_core.specs.declared.facts.Status.{Status}
 use Rattle.queue_core.specs.declared.facts.Status.TheVariants.{Present, Removed, Waiting, Transferred}
 use Rattle.queue_core.specs.declared.facts.MessageState.{MessageState}
 use Rattle.queue_core.specs.declared.facts.MessageState.TheVariants.{Visible}
-use Rattle.queue_core.specs.Messages.{effect_of, contains_number, is_expired, is_present_status, is_present, status_after, course_of, loses, closes, departures, ends_transfer, pending_transfers}
+use Rattle.queue_core.specs.Messages.{effect_of, contains_number, is_expired, is_present_status, is_present, status_after, course_of, loses, closes, departing, departures, ends_transfer, pending_transfers}
 use Rattle.queue_core.specs.States.{is_live, waiting_state, same_state, is_in_state, is_numbered, message_numbered}
 use Rattle.queue_core.specs.Queue.{QueueHistory}
-use Rattle.queue_core.specs.Legal.{IsLegal, IsOpening}
-use Rattle.queue_core.proofs.PushLemmas.{ended-push, IsNew, numbered-cases, numbered-kept, course-kept, new_course}
+use Rattle.queue_core.specs.Legal.{IsWhole, IsOpening}
+use Rattle.queue_core.proofs.PushLemmas.{ended-push, IsNew, numbered-cases, numbered-kept, course-kept, new_course, new_begun}
 use Rattle.queue_core.proofs.OfferLemmas.{Contains-filter, Contains-from_filter}
 use Rattle.queue_core.proofs.PairLemmas.{AllPairs-map}
 use Rattle.queue_core.proofs.CauseLemmas.{AllPairs-nil, AllPairs-head, AllPairs-tail, IsAbout, about-caused}
 use Rattle.queue_core.proofs.AlongLemmas.{holds_along}
+use Rattle.queue_core.proofs.AloneLemmas.{departures-alone}
 
 -- ---- one entry more
 
@@ -95,11 +96,11 @@ Contains-transfer target n (k ∷ ns) h =
       | inr later ↦ Contains-append_right (transfer target k ∷ []) (map (transfer target) ns) (transfer target n) (Contains-transfer target n ns later)
     ]
 
-pub departed : (event : Event ContentText) (t : Transfer) → Contains (departures event) t → (contains_number t.number (effect_of event).departures ≡ true) × (t.target ≡ (effect_of event).target)
+pub departed : (event : Event ContentText) (t : Transfer) → Contains (departing event) t → (contains_number t.number (effect_of event).departures ≡ true) × (t.target ≡ (effect_of event).target)
 departed event t h =
     let ns : List ℕ = (effect_of event).departures in
     let target : ℕ = (effect_of event).target in
-    All-contains (λ x. (contains_number x.number ns ≡ true) × (x.target ≡ target)) (departures event) t
+    All-contains (λ x. (contains_number x.number ns ≡ true) × (x.target ≡ target)) (departing event) t
     (All-map (λ x. (contains_number x.number ns ≡ true) × (x.target ≡ target)) (transfer target) ns
     (All-weaker (Contains ns) (λ n. (contains_number n ns ≡ true) × (target ≡ target)) (λ n is. (contains-number n ns is, refl)) ns (All-contains_itself ns))) h
 
@@ -216,10 +217,10 @@ module _ (q : QueueHistory) (e : Entry ContentText) (is : IsAbout q e.event) (be
   was_pending t h = Contains-from_filter (λ x. not (ends_transfer x e.event)) (pending_transfers q.lines) t h
 
   -- what leaves was there
-  there_before : (t : Transfer) → Contains (departures e.event) t → Stands q.lines t.number Present
+  there_before : (t : Transfer) → Contains (departing e.event) t → Stands q.lines t.number Present
   there_before t h = present_numbered q.lines q.clock t.number (is.departing t.number (departed e.event t h).0)
 
-  waiting_after : (t : Transfer) → Contains (still_open q.lines e) t ⊎ Contains (departures e.event) t → Stands (after q.lines e) t.number (Waiting t.target)
+  waiting_after : (t : Transfer) → Contains (still_open q.lines e) t ⊎ Contains (departing e.event) t → Stands (after q.lines e) t.number (Waiting t.target)
   waiting_after t (inl h) =
       let parts = was_pending t h in
       stands-push q.lines e t.number (Waiting t.target) (Waiting t.target) (status-kept t e.event (not-true (ends_transfer t e.event) parts.1)) (before.waiting t parts.0)
@@ -229,38 +230,38 @@ module _ (q : QueueHistory) (e : Entry ContentText) (is : IsAbout q e.event) (be
 
   pending_old : (n target : ℕ) (m : Message) → message_numbered q.lines n ≡ Some m
       → ((contains_number n (effect_of e.event).departures ≡ true) × ((effect_of e.event).target ≡ target)) ⊎ (((course_of q.lines m).status ≡ Waiting target) × (ends_transfer (transfer target n) e.event ≡ false))
-      → Contains (still_open q.lines e ++ departures e.event) (transfer target n)
+      → Contains (still_open q.lines e ++ departing e.event) (transfer target n)
   pending_old n target m h (inl left) =
-      Contains-append_right (still_open q.lines e) (departures e.event) (transfer target n)
-      (subst (λ (i : ℕ). Contains (departures e.event) (transfer i n)) left.1 (Contains-transfer (effect_of e.event).target n (effect_of e.event).departures left.0))
+      Contains-append_right (still_open q.lines e) (departing e.event) (transfer target n)
+      (subst (λ (i : ℕ). Contains (departing e.event) (transfer i n)) left.1 (Contains-transfer (effect_of e.event).target n (effect_of e.event).departures left.0))
   pending_old n target m h (inr waits) =
-      Contains-append_left (still_open q.lines e) (departures e.event) (transfer target n)
+      Contains-append_left (still_open q.lines e) (departing e.event) (transfer target n)
       (Contains-filter (λ t. not (ends_transfer t e.event)) (pending_transfers q.lines) (transfer target n) (not_from_false (ends_transfer (transfer target n) e.event) waits.1) (before.pending n target m h waits.0))
 
   pending_after : (n target : ℕ) (m : Message) → (message_numbered q.lines n ≡ Some m) ⊎ IsNew q.lines e n m
-      → (course_of (after q.lines e) m).status ≡ Waiting target → Contains (still_open q.lines e ++ departures e.event) (transfer target n)
+      → (course_of (after q.lines e) m).status ≡ Waiting target → Contains (still_open q.lines e ++ departing e.event) (transfer target n)
   pending_after n target m (inl old) h =
       pending_old n target m old (waits_since n target (course_of q.lines m).status e.event (sym (status-push q.lines e n m old) ∙ h))
-  pending_after n target m (inr new) h = absurd (not_both_statuses (course_of (after q.lines e) m).status target (ap (λ (c : Course). c.status) (new_course q.lines e n m new)) h)
+  pending_after n target m (inr new) h = absurd (not_both_statuses (course_of (after q.lines e) m).status target (ap (λ (c : Course). c.status) (new_course q.lines e n m new) ∙ new_begun q.lines e n m is.alone new) h)
 
-  apart_begun : (t d : Transfer) → Contains (still_open q.lines e) t → Contains (departures e.event) d → HaveOtherNumbers t d
+  apart_begun : (t d : Transfer) → Contains (still_open q.lines e) t → Contains (departing e.event) d → HaveOtherNumbers t d
   apart_begun t d h k =
       ne_eqb t.number d.number
       (λ same. apart_from_present q.lines d.number t.target (subst (λ (i : ℕ). Stands q.lines i (Waiting t.target)) same (before.waiting t (was_pending t h).0)) (there_before d k))
 
-  once_after : AllPairs HaveOtherNumbers (still_open q.lines e ++ departures e.event)
+  once_after : AllPairs HaveOtherNumbers (still_open q.lines e ++ departing e.event)
   once_after =
-      AllPairs-append HaveOtherNumbers (still_open q.lines e) (departures e.event) (AllPairs-filter HaveOtherNumbers (λ t. not (ends_transfer t e.event)) (pending_transfers q.lines) before.once)
+      AllPairs-append HaveOtherNumbers (still_open q.lines e) (departing e.event) (AllPairs-filter HaveOtherNumbers (λ t. not (ends_transfer t e.event)) (pending_transfers q.lines) before.once)
       (AllPairs-map (transfer (effect_of e.event).target) HaveOtherNumbers (effect_of e.event).departures is.departing_once)
-      (All-weaker (Contains (still_open q.lines e)) (λ t. All (HaveOtherNumbers t) (departures e.event))
-      (λ t h. All-weaker (Contains (departures e.event)) (HaveOtherNumbers t) (λ d k. apart_begun t d h k) (departures e.event) (All-contains_itself (departures e.event)))
+      (All-weaker (Contains (still_open q.lines e)) (λ t. All (HaveOtherNumbers t) (departing e.event))
+      (λ t h. All-weaker (Contains (departing e.event)) (HaveOtherNumbers t) (λ d k. apart_begun t d h k) (departing e.event) (All-contains_itself (departing e.event)))
       (still_open q.lines e) (All-contains_itself (still_open q.lines e)))
 
-  IsPendingOf-push : IsPendingOf (after q.lines e)
+  pub IsPendingOf-push : IsPendingOf (after q.lines e)
   IsPendingOf-push =
-      let push = pending_transfers-push q.lines e in
+      let push = pending_transfers-push q.lines e ∙ ap (λ (ts : List Transfer). still_open q.lines e ++ ts) (departures-alone e.event is.alone) in
       record {
-        waiting = λ t h. waiting_after t (Contains-append_cases (still_open q.lines e) (departures e.event) t (subst (λ (ts : List Transfer). Contains ts t) push h));
+        waiting = λ t h. waiting_after t (Contains-append_cases (still_open q.lines e) (departing e.event) t (subst (λ (ts : List Transfer). Contains ts t) push h));
         pending = λ n target m h w.
             subst (λ (ts : List Transfer). Contains ts (transfer target n)) (sym push)
             (pending_after n target m (numbered-cases q.lines e n m h) w);
@@ -269,7 +270,7 @@ module _ (q : QueueHistory) (e : Entry ContentText) (is : IsAbout q e.event) (be
 
 -- ---- legal journals
 
-IsPendingOf-opened : (at uid : ℕ) (settings : QueueSettings) → IsPendingOf (record { at = at; event = Opened uid settings } ∷ [])
+pub IsPendingOf-opened : (at uid : ℕ) (settings : QueueSettings) → IsPendingOf (record { at = at; event = Opened uid settings } ∷ [])
 IsPendingOf-opened at uid settings = record {
   waiting = λ t h. absurd (Contains-nil t h);
   pending = λ n target m h w. absurd cc;
@@ -280,7 +281,7 @@ IsPendingOf-opening : (uid : ℕ) (e : Entry ContentText) → IsOpening uid e.ev
 IsPendingOf-opening uid e h =
     subst (λ (event : Event ContentText). IsPendingOf (record { at = e.at; event = event } ∷ [])) (sym h.opened) (IsPendingOf-opened e.at uid h.settings)
 
-pub pending_legal : (q : QueueHistory) → IsLegal q → IsPendingOf q.lines
+pub pending_legal : (q : QueueHistory) → IsWhole q → IsPendingOf q.lines
 pending_legal q legal =
     holds_along q (λ lines. IsPendingOf lines) (IsPendingOf-opening q.uid)
     (λ lines e caused before. IsPendingOf-push (record q { clock = e.at; lines = lines }) e (about-caused (record q { clock = e.at; lines = lines }) e.event caused) before) q.lines legal.caused

@@ -1,28 +1,31 @@
 -- What one entry more makes of what a journal says of its messages, and which messages it has by number.
 use Rattle.std.proofs.Common.{◌≡◌, ℕ, zero, suc, ◌+◌, ◌*◌, ◌≤◌, ◌<◌, Bool, true, false, cond, ◌&&◌, ◌||◌, ltb, leb, List, [], ◌∷◌, ◌++◌, length, drop, Option, Some, None, refl, sym, ap, subst, inl, inr, ◌∙◌, arith}
-use Rattle.std.specs.Prelude.{◌⊎◌, ◌-◌, nat_lt, slice_get, option_map}
-use Rattle.std.specs.Option.{option_or}
-use Rattle.std.specs.List.{list_any, find}
+use Rattle.std.specs.Prelude.{◌⊎◌, ◌-◌, min, nat_lt, slice_get, option_map, unwrap_or, sum_by}
+use Rattle.std.specs.Option.{option_map_or}
+use Rattle.std.specs.List.{list_any, range_with_len}
 use Rattle.std.proofs.Math.Seq.{drop-append_seam}
-use Rattle.std.proofs.lemmas.Bool.{lt-ltb, le-ltb, ltb-false, cases_lt, and_left, and_right, or_from}
+use Rattle.std.proofs.lemmas.Bool.{false≢true, lt-ltb, le-ltb, ltb-false, cases_lt, and_left, and_right, or_from}
 use Rattle.std.proofs.lemmas.Grind.{flat_map-append}
 use Rattle.std.proofs.lemmas.List.{append-nil, append_assoc, drop-append-le, length-append, length-map}
-use Rattle.std.proofs.lemmas.List.Folds.{find-append, list_any-append}
+use Rattle.std.proofs.lemmas.List.Folds.{list_any-append}
 use Rattle.std.proofs.lemmas.List.Sums.{sum_by_push}
 use Rattle.std.proofs.lemmas.Option.{none-some, same_Some, slice_get-map, slice_get_past, slice_get_within}
 use Rattle.message.specs.Content.{ContentText}
 use Rattle.queue_config.specs.Settings.{QueueSettings, default_settings}
 use Rattle.journal.specs.declared.entry.Entry.{Entry}
 use Rattle.journal.specs.declared.entry.Event.{Event}
-use Rattle.journal.specs.declared.entry.Event.TheVariants.{Sent, Arrived}
+use Rattle.journal.specs.declared.entry.Event.TheVariants.{Sent, Arrived, Base}
+use Rattle.journal.specs.declared.base.KeptMessage.{KeptMessage}
+use Rattle.metric_window.specs.Flows.{greatest}
 use Rattle.queue_core.specs.declared.facts.Message.{Message}
 use Rattle.queue_core.specs.declared.facts.Course.{Course}
-use Rattle.queue_core.specs.declared.facts.Status.TheVariants.{Present}
+use Rattle.queue_core.specs.declared.facts.Status.{Status}
+use Rattle.queue_core.specs.declared.facts.Status.TheVariants.{Present, Removed, Waiting, Transferred}
 use Rattle.queue_core.specs.declared.facts.Transfer.{Transfer}
-use Rattle.queue_core.specs.Messages.{Birth, effect_of, message_in, messages_in, messages_from, messages, message_count, contents_in, contents, content_of, settings_after, settings_from, settings_of, RetentionPeriod, closes_period, periods_from, runs_out_in, is_expired, offers_number, receive_count, first_receive_time, last_receive_from, last_receive_time, course_after, course_from, course_of, ends_transfer, accepts, has_accepted, closes, is_closed}
+use Rattle.queue_core.specs.Messages.{Birth, Past, Receives, Since, never_received, kept_birth, gone_birth, kept_numbered, effect_of, no_past, message_in, messages_in, messages_from, messages, message_count, contents_in, contents, content_of, settings_after, settings_from, settings_of, RetentionPeriod, closes_period, periods_from, runs_out_in, is_expired, offers_number, receives_before, receives_in, receive_count, first_of_both, first_receive_in, first_receive_time, last_receive_by, last_receive_from, last_receive_time, is_removed_status, is_removed, status_after, course_after, course_from, course_of, ends_transfer, accepts, has_accepted, closes, is_closed}
 use Rattle.queue_core.specs.Tally.{births}
 use Rattle.queue_core.specs.States.{message_numbered}
-use Rattle.queue_core.proofs.Scans.{by_closing, length-messages_in, births_few}
+use Rattle.queue_core.proofs.Scans.{StandsAlone, by_closing, length-messages_in, births_few}
 use Rattle.queue_core.specs.Recorded.{closed_periods_from, ran_out_before, runs_out_by}
 
 abbrev pub Line : Type 0
@@ -97,13 +100,9 @@ course_from-push : (number : ℕ) (c : Course) (xs : List Line) (e : Line) → c
 course_from-push number c [] e = refl
 course_from-push number c (x ∷ xs) e = course_from-push number (course_after number c x) xs e
 
--- as a message begins
-abbrev pub first_course : Message → Course
-first_course m = record { status = Present; due = m.first_due_time; returned = false }
-
 pub course-push : (lines : List Line) (e : Line) (m : Message) → m.place < length lines → course_of (lines ++ e ∷ []) m ≡ course_after m.number (course_of lines m) e
 course-push lines e m h =
-    ap (course_from m.number (first_course m)) (drop-append-le m.place lines (e ∷ []) (omega arith)) ∙ course_from-push m.number (first_course m) (drop m.place lines) e
+    ap (course_from m.number m.begun) (drop-append-le m.place lines (e ∷ []) (omega arith)) ∙ course_from-push m.number m.begun (drop m.place lines) e
 
 -- ---- retention
 
@@ -147,54 +146,95 @@ runs_out-behind lines end m h = ap (λ (b : Bool). b && runs_out_by (settings_of
 pub ran_out-push : (lines : List Line) (e : Line) (m : Message) → m.place < length lines
     → ran_out_before (lines ++ e ∷ []) m ≡ (ran_out_before lines m || (closes_period e.event && runs_out_by (settings_of lines) e.at m))
 ran_out-push lines e m h =
-    any-closed-push (λ p. runs_out_in m p) 0 default_settings lines e (length lines) (omega arith)
+    ap (λ (b : Bool). m.ran_out || b) (any-closed-push (λ p. runs_out_in m p) 0 default_settings lines e (length lines) (omega arith))
+    ∙ or_assoc m.ran_out (list_any (λ p. runs_out_in m p) (closed_periods_from 0 default_settings lines)) (closes_period e.event && runs_out_in m (period (length lines) (settings_of lines) e.at))
     ∙ ap (λ (b : Bool). ran_out_before lines m || (closes_period e.event && b)) (runs_out-behind lines e.at m h)
 
 pub expired-split : (lines : List Line) (clock : ℕ) (m : Message) → m.place < length lines
     → is_expired lines clock m ≡ (ran_out_before lines m || runs_out_by (settings_of lines) clock m)
 expired-split lines clock m h =
-    any-periods (λ p. runs_out_in m p) 0 default_settings clock lines (length lines) (omega arith)
+    ap (λ (b : Bool). m.ran_out || b) (any-periods (λ p. runs_out_in m p) 0 default_settings clock lines (length lines) (omega arith))
+    ∙ or_assoc m.ran_out (list_any (λ p. runs_out_in m p) (closed_periods_from 0 default_settings lines)) (runs_out_in m (period (length lines) (settings_of lines) clock))
     ∙ ap (λ (b : Bool). ran_out_before lines m || b) (runs_out-behind lines clock m h)
 
 -- ---- receives
 
-pub receives-push : (lines : List Line) (e : Line) (n : ℕ) → receive_count (lines ++ e ∷ []) n ≡ receive_count lines n + cond (offers_number n e.event) 1 0
-receives-push lines e n = sum_by_push (λ (x : Line). cond (offers_number n x.event) 1 0) lines e
+-- a sum that stops at the greatest number
+capped-more : (most a b : ℕ) → min (a + b) most ≡ min (min a most + b) most
+capped-more most a b = omega arith
 
--- the first of two
-abbrev pub first_of_both : Option ℕ → Option ℕ → Option ℕ
-first_of_both None b = b
-first_of_both (Some a) b = Some a
+-- a count is within it already
+pub count-upto : (lines : List Line) (n : ℕ) → receive_count lines n ≤ greatest
+count-upto lines n = omega arith
 
-time_of-or : (a b : Option Line) → option_map (λ x. x.at) (option_or a b) ≡ first_of_both (option_map (λ x. x.at) a) (option_map (λ x. x.at) b)
-time_of-or None b = refl
-time_of-or (Some x) b = refl
+pub capped-same : (k : ℕ) → k ≤ greatest → min (k + 0) greatest ≡ k
+capped-same k h = omega arith
 
-time_of-cond : (b : Bool) (e : Line) → option_map (λ x. x.at) (cond b (Some e) None) ≡ cond b (Some e.at) None
-time_of-cond true e = refl
-time_of-cond false e = refl
+receives-told : (lines : List Line) (e : Line) (n : ℕ) → receive_count (lines ++ e ∷ []) n ≡ min (receive_count lines n + receives_in n e.event) greatest
+receives-told lines e n =
+    ap (λ (k : ℕ). min k greatest) (sum_by_push (λ (x : Line). receives_in n x.event) lines e)
+    ∙ capped-more greatest (sum_by (λ (x : Line). receives_in n x.event) lines) (receives_in n e.event)
 
-pub first-push : (lines : List Line) (e : Line) (n : ℕ) → first_receive_time (lines ++ e ∷ []) n ≡ first_of_both (first_receive_time lines n) (cond (offers_number n e.event) (Some e.at) None)
-first-push lines e n =
-    let test = λ (x : Line). offers_number n x.event in
-    ap (option_map (λ (x : Line). x.at)) (find-append test lines (e ∷ []))
-    ∙ (time_of-or (find test lines) (find test (e ∷ [])) ∙ ap (first_of_both (first_receive_time lines n)) (time_of-cond (offers_number n e.event) e))
+pub first-alone : (a : Option ℕ) → first_of_both a None ≡ a
+first-alone None = refl
+first-alone (Some time) = refl
 
-last_receive_from-push : (n time : ℕ) (lines : List Line) (e : Line) → last_receive_from n time (lines ++ e ∷ []) ≡ cond (offers_number n e.event) e.at (last_receive_from n time lines)
+first-assoc : (a b c : Option ℕ) → first_of_both a (first_of_both b c) ≡ first_of_both (first_of_both a b) c
+first-assoc None b c = refl
+first-assoc (Some time) b c = refl
+
+first-told : (lines : List Line) (e : Line) (n : ℕ) → first_receive_time (lines ++ e ∷ []) n ≡ first_of_both (first_receive_time lines n) (first_receive_in n e)
+first-told [] e n = first-alone (first_receive_in n e)
+first-told (x ∷ xs) e n =
+    ap (first_of_both (first_receive_in n x)) (first-told xs e n) ∙ first-assoc (first_receive_in n x) (first_receive_time xs n) (first_receive_in n e)
+
+last_receive_from-push : (n time : ℕ) (lines : List Line) (e : Line) → last_receive_from n time (lines ++ e ∷ []) ≡ last_receive_by n (last_receive_from n time lines) e
 last_receive_from-push n time [] e = refl
-last_receive_from-push n time (x ∷ xs) e = last_receive_from-push n (cond (offers_number n x.event) x.at time) xs e
+last_receive_from-push n time (x ∷ xs) e = last_receive_from-push n (last_receive_by n time x) xs e
 
-pub last-push : (lines : List Line) (e : Line) (n : ℕ) → last_receive_time (lines ++ e ∷ []) n ≡ cond (offers_number n e.event) e.at (last_receive_time lines n)
-last-push lines e n = last_receive_from-push n 0 lines e
+none-more : (k : ℕ) → 0 + k ≡ k
+none-more k = omega arith
+
+-- an event that is no checkpoint tells of its own receives
+module _ {C : Type 0} (n : ℕ) (e : Entry C) (alone : StandsAlone e.event) where
+  before-alone : receives_before n e.event ≡ never_received
+  before-alone = ap (λ (s : Option Since). option_map_or (λ (x : Since). x.receives n) s never_received) alone
+
+  pub receives_in-alone : receives_in n e.event ≡ cond (offers_number n e.event) 1 0
+  receives_in-alone = ap (λ (r : Receives). r.count + cond (offers_number n e.event) 1 0) before-alone ∙ none-more (cond (offers_number n e.event) 1 0)
+
+  pub first_receive_in-alone : first_receive_in n e ≡ cond (offers_number n e.event) (Some e.at) None
+  first_receive_in-alone = ap (λ (r : Receives). cond (offers_number n e.event) (Some e.at) r.first) before-alone
+
+  pub last_receive_by-alone : (time : ℕ) → last_receive_by n time e ≡ cond (offers_number n e.event) e.at time
+  last_receive_by-alone time = ap (λ (s : Option Since). cond (offers_number n e.event) e.at (option_map_or (λ (x : Since). (x.receives n).last) s time)) alone
+
+module _ (lines : List Line) (e : Line) (n : ℕ) (alone : StandsAlone e.event) where
+  pub receives-push : receive_count (lines ++ e ∷ []) n ≡ min (receive_count lines n + cond (offers_number n e.event) 1 0) greatest
+  receives-push = receives-told lines e n ∙ ap (λ (k : ℕ). min (receive_count lines n + k) greatest) (receives_in-alone n e alone)
+
+  pub first-push : first_receive_time (lines ++ e ∷ []) n ≡ first_of_both (first_receive_time lines n) (cond (offers_number n e.event) (Some e.at) None)
+  first-push = first-told lines e n ∙ ap (first_of_both (first_receive_time lines n)) (first_receive_in-alone n e alone)
+
+  pub last-push : last_receive_time (lines ++ e ∷ []) n ≡ cond (offers_number n e.event) e.at (last_receive_time lines n)
+  last-push = last_receive_from-push n 0 lines e ∙ last_receive_by-alone n e alone (last_receive_time lines n)
 
 -- ---- contents
 
 pub contents-push : {C : Type 0} (lines : List (Entry C)) (e : Entry C) → contents (lines ++ e ∷ []) ≡ contents lines ++ contents_in e.event
 contents-push {C} lines e =
-    flat_map-append (λ (x : Entry C). contents_in x.event) lines (e ∷ []) ∙ ap (λ (cs : List C). contents lines ++ cs) (append-nil (contents_in e.event))
+    flat_map-append (λ (x : Entry C). contents_in x.event) lines (e ∷ []) ∙ ap (λ (cs : List (Option C)). contents lines ++ cs) (append-nil (contents_in e.event))
+
+-- what is there of a content is there
+pub contained : {C : Type 0} (o : Option (Option C)) (content : C) → unwrap_or o None ≡ Some content → o ≡ Some (Some content)
+contained None content h = absurd (none-some content h)
+contained (Some x) content h = ap (λ (c : Option _). Some c) h
 
 pub content-push : (lines : List Line) (e : Line) (m : Message) (content : ContentText) → content_of lines m ≡ Some content → content_of (lines ++ e ∷ []) m ≡ Some content
-content-push lines e m content h = ap (λ (cs : List ContentText). slice_get cs m.number) (contents-push lines e) ∙ slice_get-prefix (contents lines) (contents_in e.event) m.number content h
+content-push lines e m content h =
+    ap (λ (o : Option (Option ContentText)). unwrap_or o None)
+    (ap (λ (cs : List (Option ContentText)). slice_get cs m.number) (contents-push lines e)
+    ∙ slice_get-prefix (contents lines) (contents_in e.event) m.number (Some content) (contained (slice_get (contents lines) m.number) content h))
 
 -- ---- the messages by number
 
@@ -317,17 +357,27 @@ module _ (lines : List Line) (e : Line) (n : ℕ) (m : Message) where
 
 -- ---- a message at its own entry
 
-pub record IsNewborn (lines : List Line) (e : Line) (text : ContentText) (m : Message) : Type 0 where
-  pub content : content_of (lines ++ e ∷ []) m ≡ Some text
-  pub course : course_of (lines ++ e ∷ []) m ≡ record { status = Present; due = m.first_due_time; returned = false }
-  pub ran_out : ran_out_before (lines ++ e ∷ []) m ≡ false
+pub record IsNewborn (lines : List Line) (e : Line) (text : Option ContentText) (m : Message) : Type 0 where
+  pub content : content_of (lines ++ e ∷ []) m ≡ text
+  pub course : course_of (lines ++ e ∷ []) m ≡ m.begun
+  pub ran_out : ran_out_before (lines ++ e ∷ []) m ≡ m.ran_out
 
 -- an event that begins a message leaves every message where it stands
-course-birth : (number due at i : ℕ) (event : Event ContentText) (b : Birth ContentText) → slice_get (effect_of event).births i ≡ Some b
-    → course_after number (record { status = Present; due = due; returned = false }) (record { at = at; event = event }) ≡ record { status = Present; due = due; returned = false }
-course-birth number due at i (Sent delay content) b h = refl
-course-birth number due at i (Arrived origin content) b h = refl
-course-birth number due at i event b h = absurd cc
+course-birth : (number due at i : ℕ) (returned : Bool) (status : Status) (event : Event ContentText) (b : Birth ContentText) → slice_get (effect_of event).births i ≡ Some b
+    → course_after number (record { status = status; due = due; returned = returned }) (record { at = at; event = event }) ≡ record { status = status; due = due; returned = returned }
+course-birth number due at i returned Present (Sent delay content) b h = refl
+course-birth number due at i returned Removed (Sent delay content) b h = refl
+course-birth number due at i returned (Waiting target) (Sent delay content) b h = refl
+course-birth number due at i returned Transferred (Sent delay content) b h = refl
+course-birth number due at i returned Present (Arrived origin content) b h = refl
+course-birth number due at i returned Removed (Arrived origin content) b h = refl
+course-birth number due at i returned (Waiting target) (Arrived origin content) b h = refl
+course-birth number due at i returned Transferred (Arrived origin content) b h = refl
+course-birth number due at i returned Present (Base base) b h = refl
+course-birth number due at i returned Removed (Base base) b h = refl
+course-birth number due at i returned (Waiting target) (Base base) b h = refl
+course-birth number due at i returned Transferred (Base base) b h = refl
+course-birth number due at i returned status event b h = absurd cc
 
 -- no period that ends up to a message's entry counts for it
 none_ran_out : (place : ℕ) (s : QueueSettings) (lines : List Line) (m : Message) → place + length lines ≤ m.place + 1 → list_any (λ p. runs_out_in m p) (closed_periods_from place s lines) ≡ false
@@ -339,12 +389,15 @@ none_ran_out place s (x ∷ xs) m h =
     ∙ or_from (closes_period x.event && runs_out_in m (period place s x.at)) (list_any (λ p. runs_out_in m p) (closed_periods_from (suc place) (settings_after s x.event) xs)) here
     (none_ran_out (suc place) (settings_after s x.event) xs m (omega arith))
 
--- what has not come has not expired
-pub unexpired-past : (lines : List Line) (clock : ℕ) (m : Message) → length lines ≤ m.place → is_expired lines clock m ≡ false
+-- what has not come has expired only where it had before
+pub unexpired-past : (lines : List Line) (clock : ℕ) (m : Message) → length lines ≤ m.place → is_expired lines clock m ≡ m.ran_out
 unexpired-past lines clock m h =
-    any-periods (λ p. runs_out_in m p) 0 default_settings clock lines (length lines) (omega arith)
-    ∙ or_from (ran_out_before lines m) (runs_out_in m (period (length lines) (settings_of lines) clock)) (none_ran_out 0 default_settings lines m (omega arith))
-    (and_left (ltb m.place (length lines)) (runs_out_by (settings_of lines) clock m) (le-ltb m.place (length lines) h))
+    let closed : List RetentionPeriod = closed_periods_from 0 default_settings lines in
+    ap (λ (b : Bool). m.ran_out || b)
+    (any-periods (λ p. runs_out_in m p) 0 default_settings clock lines (length lines) (omega arith)
+    ∙ or_from (list_any (λ p. runs_out_in m p) closed) (runs_out_in m (period (length lines) (settings_of lines) clock)) (none_ran_out 0 default_settings lines m (omega arith))
+    (and_left (ltb m.place (length lines)) (runs_out_by (settings_of lines) clock m) (le-ltb m.place (length lines) h)))
+    ∙ or_false m.ran_out
 
 pub newborn : (lines : List Line) (e : Line) (n : ℕ) (b : Birth ContentText) → message_count lines ≤ n → slice_get (effect_of e.event).births (n - message_count lines) ≡ Some b
     → IsNewborn lines e b.content (message_in (length lines) n e.at b)
@@ -353,12 +406,13 @@ newborn lines e n b past h =
     let count = length-append lines (e ∷ []) in
     record {
       content =
-          ap (λ (cs : List ContentText). slice_get cs n) (contents-push lines e)
+          ap (λ (o : Option (Option ContentText)). unwrap_or o None)
+          (ap (λ (cs : List (Option ContentText)). slice_get cs n) (contents-push lines e)
           ∙ (slice_get-behind (contents lines) (contents_in e.event) n (n - message_count lines) (omega (arith, length-contents lines))
-          ∙ (slice_get-map (λ (x : Birth ContentText). x.content) (effect_of e.event).births (n - message_count lines) ∙ ap (option_map (λ (x : Birth ContentText). x.content)) h));
+          ∙ (slice_get-map (λ (x : Birth ContentText). x.content) (effect_of e.event).births (n - message_count lines) ∙ ap (option_map (λ (x : Birth ContentText). x.content)) h)));
       course =
-          ap (course_from n (first_course m)) (drop-append_seam lines (e ∷ [])) ∙ course-birth n m.first_due_time e.at (n - message_count lines) e.event b h;
-      ran_out = none_ran_out 0 default_settings (lines ++ e ∷ []) m (omega arith);
+          ap (course_from n m.begun) (drop-append_seam lines (e ∷ [])) ∙ course-birth n m.begun.due e.at (n - message_count lines) m.begun.returned m.begun.status e.event b h;
+      ran_out = ap (λ (x : Bool). m.ran_out || x) (none_ran_out 0 default_settings (lines ++ e ∷ []) m (omega arith)) ∙ or_false m.ran_out;
     }
 
 -- a message that an entry begins is that of a birth
@@ -366,15 +420,109 @@ pub new_birth : (lines : List Line) (e : Line) (n : ℕ) (m : Message) → IsNew
     → (b : Birth ContentText) × (slice_get (effect_of e.event).births (n - message_count lines) ≡ Some b) × (message_in (length lines) n e.at b ≡ m)
 new_birth lines e n m new = mapped_some (message_in (length lines) n e.at) (slice_get (effect_of e.event).births (n - message_count lines)) m new.1
 
--- and its number is the next one
-pub new_number : (lines : List Line) (e : Line) (n : ℕ) (m : Message) → IsNew lines e n m → n ≡ message_count lines
-new_number lines e n m new =
+-- and its number is the next one, where the entry is no checkpoint
+pub new_number : (lines : List Line) (e : Line) (n : ℕ) (m : Message) → StandsAlone e.event → IsNew lines e n m → n ≡ message_count lines
+new_number lines e n m alone new =
     let b = new_birth lines e n m new in
     let past = new.0 in
     let within = slice_get_within (effect_of e.event).births (n - message_count lines) b.0 b.1 in
-    omega (arith, births_few e.event)
+    omega (arith, births_few e.event alone)
 
-pub new_course : (lines : List Line) (e : Line) (n : ℕ) (m : Message) → IsNew lines e n m → course_of (lines ++ e ∷ []) m ≡ first_course m
+pub new_course : (lines : List Line) (e : Line) (n : ℕ) (m : Message) → IsNew lines e n m → course_of (lines ++ e ∷ []) m ≡ m.begun
 new_course lines e n m new =
     let b = new_birth lines e n m new in
-    subst (λ (x : Message). course_of (lines ++ e ∷ []) x ≡ first_course x) b.2 (newborn lines e n b.0 new.0 b.1).course
+    subst (λ (x : Message). course_of (lines ++ e ∷ []) x ≡ x.begun) b.2 (newborn lines e n b.0 new.0 b.1).course
+
+-- ---- a message that begins with an event that is no checkpoint
+
+-- it was not there before, and has a content
+pub record IsFresh {C : Type 0} (b : Birth C) : Type 0 where
+  pub past : ◌≡◌ {A = Option Past} b.past None
+  pub text : C
+  pub contained : b.content ≡ Some text
+
+pub fresh : {C : Type 0} (event : Event C) → StandsAlone event → (i : ℕ) (b : Birth C) → slice_get (effect_of event).births i ≡ Some b → IsFresh b
+fresh {C} (Sent delay content) alone i b h =
+    let same = (slice_get-only (record { content = Some content; delay = delay; origin = None; past = None }) b i h).1 in
+    record { past = ap (λ (x : Birth C). x.past) (sym same); text = content; contained = ap (λ (x : Birth C). x.content) (sym same) }
+fresh {C} (Arrived origin content) alone i b h =
+    let same = (slice_get-only (record { content = Some content; delay = 0; origin = Some origin; past = None }) b i h).1 in
+    record { past = ap (λ (x : Birth C). x.past) (sym same); text = content; contained = ap (λ (x : Birth C). x.content) (sym same) }
+fresh (Base base) alone i b h = absurd cc
+fresh event alone i b h = absurd cc
+
+-- as a message that is there, and due after its delay
+pub new_begun : (lines : List Line) (e : Line) (n : ℕ) (m : Message) → StandsAlone e.event → IsNew lines e n m → m.begun.status ≡ Present
+new_begun lines e n m alone new =
+    let b = new_birth lines e n m new in
+    ap (λ (x : Message). x.begun.status) (sym b.2)
+    ∙ ap (λ (o : Option Past). (unwrap_or o (no_past e.at b.0)).course.status) (fresh e.event alone (n - message_count lines) b.0 b.1).past
+
+-- ---- what is not removed has a content
+
+abbrev HasText : {C : Type 0} → Option (Option C) → Type 0
+HasText {C} o = (content : C) × (o ≡ Some (Some content))
+
+-- what a checkpoint has no content of is removed
+kept_told : {C : Type 0} (at place n : ℕ) (o : Option (KeptMessage C)) (b : Birth C) → option_map_or kept_birth o gone_birth ≡ b
+    → HasText (Some b.content) ⊎ ((message_in place n at b).begun.status ≡ Removed)
+kept_told {C} at place n None b h = inr (ap (λ (x : Birth C). (message_in place n at x).begun.status) (sym h))
+kept_told {C} at place n (Some m) b h = inl (m.content, ap (λ (x : Birth C). Some x.content) (sym h))
+
+birth_told : {C : Type 0} (at place n : ℕ) (event : Event C) (i : ℕ) (b : Birth C) → slice_get (effect_of event).births i ≡ Some b
+    → HasText (Some b.content) ⊎ ((message_in place n at b).begun.status ≡ Removed)
+birth_told {C} at place n (Sent delay content) i b h = inl (content, ap (λ (x : Birth C). Some x.content) (sym (slice_get-only _ b i h).1))
+birth_told {C} at place n (Arrived origin content) i b h = inl (content, ap (λ (x : Birth C). Some x.content) (sym (slice_get-only _ b i h).1))
+birth_told {C} at place n (Base base) i b h =
+    let one : ℕ → Birth C = λ k. option_map_or kept_birth (kept_numbered base k) gone_birth in
+    let k = mapped_some one (slice_get (range_with_len 0 (length base.receives)) i) b (sym (slice_get-map one (range_with_len 0 (length base.receives)) i) ∙ h) in
+    kept_told at place n (kept_numbered base k.0) b k.2
+birth_told at place n event i b h = absurd cc
+
+-- the messages and the contents side by side
+told_from : {C : Type 0} (place number : ℕ) (lines : List (Entry C)) (k : ℕ) (m : Message) → slice_get (messages_from place number lines) k ≡ Some m
+    → HasText (slice_get (contents lines) k) ⊎ (m.begun.status ≡ Removed)
+told_from place number [] k m h = absurd (none-some m h)
+told_from {C} place number (e ∷ es) k m h =
+    let bs : List (Birth C) = (effect_of e.event).births in
+    let begun = messages_in place number e.at bs in
+    let later = messages_from (suc place) (number + births e.event) es in
+    let many = length-messages_in place number e.at bs in
+    let contained_many = length-map bs (λ (b : Birth C). b.content) in
+    elim (cases_lt k (length bs)) [
+      | inl below ↦
+          let b = mapped_some (message_in place (number + k) e.at) (slice_get bs k) m
+          (sym (numbered_in place number e.at bs k (number + k) (omega arith)) ∙ sym (slice_get-before begun later k (omega arith)) ∙ h) in
+          let text : slice_get (contents (e ∷ es)) k ≡ Some b.0.content =
+          slice_get-before (contents_in e.event) (contents es) k (omega arith) ∙ slice_get-map (λ (x : Birth C). x.content) bs k ∙ ap (option_map (λ (x : Birth C). x.content)) b.1 in
+          elim (birth_told e.at place (number + k) e.event k b.0 b.1) [
+            | inl has ↦ inl (has.0, text ∙ has.1)
+            | inr gone ↦ inr (ap (λ (x : Message). x.begun.status) (sym b.2) ∙ gone)
+          ]
+      | inr behind ↦
+          let there = told_from (suc place) (number + births e.event) es (k - length bs) m (sym (slice_get-behind begun later k (k - length bs) (omega arith)) ∙ h) in
+          elim there [
+            | inl has ↦ inl (has.0, slice_get-behind (contents_in e.event) (contents es) k (k - length bs) (omega arith) ∙ has.1)
+            | inr gone ↦ inr gone
+          ]
+    ]
+
+-- what is removed stays so
+pub removed_after : {C : Type 0} (number : ℕ) (status : Status) (event : Event C) → is_removed_status status ≡ true → is_removed_status (status_after number status event) ≡ true
+removed_after number Present event h = absurd (false≢true h)
+removed_after number Removed event h = refl
+removed_after number (Waiting target) event h = absurd (false≢true h)
+removed_after number Transferred event h = absurd (false≢true h)
+
+pub removed_from : {C : Type 0} (number : ℕ) (c : Course) (lines : List (Entry C)) → is_removed_status c.status ≡ true → is_removed_status (course_from number c lines).status ≡ true
+removed_from number c [] h = h
+removed_from number c (e ∷ es) h = removed_from number (course_after number c e) es (removed_after number c.status e.event h)
+
+abbrev pub HasContent : {C : Type 0} → List (Entry C) → Message → Type 0
+HasContent {C} lines m = (content : C) × (content_of lines m ≡ Some content)
+
+pub content_numbered : {C : Type 0} (lines : List (Entry C)) (n : ℕ) (m : Message) → message_numbered lines n ≡ Some m → is_removed lines m ≡ false → HasContent lines m
+content_numbered {C} lines n m h lasts = elim (told_from 0 0 lines n m h) [
+  | inl has ↦ (has.0, ap (λ (i : ℕ). unwrap_or (slice_get (contents lines) i) None) (numbered-number lines n m h) ∙ ap (λ (o : Option (Option C)). unwrap_or o None) has.1)
+  | inr gone ↦ absurd (false≢true (sym lasts ∙ removed_from m.number m.begun (drop m.place lines) (ap is_removed_status gone)))
+]

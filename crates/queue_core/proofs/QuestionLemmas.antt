@@ -30,7 +30,8 @@ use Rattle.queue_core.specs.Records.{records_in, slots_in, born_in}
 use Rattle.queue_core.specs.Recorded.{IsStanding, IsRecordOf}
 use Rattle.queue_core.specs.Indexed.{IsIndexOf}
 use Rattle.queue_core.proofs.SummaryLemmas.{records-kept}
-use Rattle.queue_core.proofs.FactLemmas.{Line, numbered-number, pending_of}
+use Rattle.queue_core.proofs.FactLemmas.{Line, numbered-number, IsSound}
+use Rattle.queue_core.proofs.LegalSoundLemmas.{sound_legal}
 use Rattle.queue_core.proofs.SlotCountLemmas.{count_agree, count_members}
 use Rattle.queue_core.proofs.IndexedLemmas as indexed
 
@@ -124,6 +125,9 @@ index_of p q x same is = subst (λ (q : QueueHistory). IsIndexOf q.lines q.clock
 
 pub legal_of : (p q : QueueHistory) → p ≡ q → IsLegal p → IsLegal q
 legal_of p q same is = subst (λ (q : QueueHistory). IsLegal q) same is
+
+pub sound_of : (p q : QueueHistory) → p ≡ q → IsLegal p → IsSound q.lines q.clock
+sound_of p q same is = sound_legal q (legal_of p q same is)
 
 abbrev slot_in : Option Record → Option Slot
 slot_in o = option_map (λ r. r.slot) o
@@ -236,7 +240,7 @@ module _ (q : QueueHistory) (x : MessageIndex) (is : IsIndexOf q.lines q.clock x
       (sym (slice_get-map (λ (t : Transfer). t.number) (pending_transfers q.lines) 0) ∙ ap (λ (ns : List ℕ). slice_get ns 0) (sym is.leaving) ∙ sym h) in
       (first.0, (first.1, first.2))
 
-  module _ (legal : IsLegal q) where
+  module _ (sound : IsSound q.lines q.clock) where
     waiting_by : (t : Transfer) (m : Message) (kept : Option Record) → message_numbered q.lines t.number ≡ Some m → (course_of q.lines m).status ≡ Waiting t.target → records_in x t.number ≡ kept → IsWaiting q.lines x t
     waiting_by t m None e status k = absurd (false≢true (sym ((records-kept q.lines q.clock x is).none t.number m e k).1 ∙ ap awaits_status status))
     waiting_by t m (Some r) e status k =
@@ -249,7 +253,7 @@ module _ (q : QueueHistory) (x : MessageIndex) (is : IsIndexOf q.lines q.clock x
     first_waits : (t : Transfer) → first_transfer q ≡ Some t → IsWaiting q.lines x t
     first_waits t h =
         let there : Contains (pending_transfers q.lines) t = (0, slice_get_within (pending_transfers q.lines) 0 t h, get_or_from_slice_get (pending_transfers q.lines) 0 t t h) in
-        let waits = (pending_of q legal).waiting t there in
+        let waits = sound.pending.waiting t there in
         waiting_by t waits.0 (records_in x t.number) waits.1 waits.2 refl
 
     -- a message that stands first among those that have left, by its slot

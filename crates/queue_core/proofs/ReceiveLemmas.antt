@@ -16,13 +16,12 @@ use Rattle.message.specs.Content.{ContentText}
 use Rattle.queue_core.specs.Messages.{message_count, receive_count, settings_of, content_of}
 use Rattle.queue_core.specs.States.{receive_order}
 use Rattle.queue_core.specs.Queue.{QueueHistory, is_exhausted, scanned, offered_candidates, offer_of, offers_of, numbers_of}
-use Rattle.queue_core.specs.Legal.{IsLegal}
 use Rattle.queue_core.specs.Slots.{AreIndexed}
 use Rattle.queue_core.specs.Records.{records_in, slots_in, born_in}
 use Rattle.queue_core.specs.Recorded.{IsRecordOf}
 use Rattle.queue_core.specs.Indexed.{IsIndexOf}
 use Rattle.queue_core.proofs.SummaryLemmas.{records-kept}
-use Rattle.queue_core.proofs.FactLemmas.{Line, unborn}
+use Rattle.queue_core.proofs.FactLemmas.{Line, IsSound}
 use Rattle.queue_core.proofs.IndexedLemmas.{pair_of, IsOffered, IsTurn, offered, order_is, turn_at}
 use Rattle.queue_core.proofs.OfferLemmas.{All-offered, scan-leaving, scan-offered, scan-stop, stops}
 use Rattle.queue_core.proofs.OrderLemmas.{filter_map-more_some}
@@ -34,7 +33,7 @@ index_seen q r x e is = subst (λ (p : QueueHistory). IsIndexOf p.lines p.clock 
 
 -- ---- how often a message was received
 
-module _ (q : QueueHistory) (legal : IsLegal q) (counts : List ℕ) (are : counts ≡ map (λ n. receive_count q.lines n) (range_with_len 0 (message_count q.lines))) where
+module _ (q : QueueHistory) (sound : IsSound q.lines q.clock) (counts : List ℕ) (are : counts ≡ map (λ n. receive_count q.lines n) (range_with_len 0 (message_count q.lines))) where
   many : length counts ≡ message_count q.lines
   many = ap length are ∙ length-map-range_with_len (λ n. receive_count q.lines n) 0 (message_count q.lines)
 
@@ -56,7 +55,7 @@ module _ (q : QueueHistory) (legal : IsLegal q) (counts : List ℕ) (are : count
   pub count_missing : (n : ℕ) → slice_get counts n ≡ None → 0 ≡ receive_count q.lines n
   count_missing n missing = elim (cases_lt n (message_count q.lines)) [
     | inl below ↦ absurd (none-some (receive_count q.lines n) (sym missing ∙ count_below n below))
-    | inr past ↦ sym (unborn q n legal past).receives
+    | inr past ↦ sym (sound.unborn n past).receives
   ]
 
 -- ---- the order of receives

@@ -1,6 +1,6 @@
 -- The records of messages stay those of the journal, whatever event comes and however much time passes.
 use Rattle.std.proofs.Common.{◌≡◌, ℕ, ◌+◌, ◌*◌, ◌≤◌, ◌<◌, Bool, true, false, not, cond, ◌&&◌, ◌||◌, List, [], ◌∷◌, ◌++◌, length, Option, Some, None, inl, inr, refl, sym, ap, subst, ◌∙◌, eqb, arith}
-use Rattle.std.specs.Prelude.{◌⊎◌, ◌-◌, nat_le, nat_lt, min, slice_get, option_map, option_and_then}
+use Rattle.std.specs.Prelude.{◌⊎◌, ◌-◌, nat_le, nat_lt, min, slice_get, option_map, option_and_then, unwrap_or}
 use Rattle.std.specs.Option.{option_map_or}
 use Rattle.std.proofs.Math.Bool.{and-false}
 use Rattle.std.proofs.Math.Nat.{add-zero}
@@ -10,25 +10,28 @@ use Rattle.std.proofs.lemmas.Option.{none-some, same_Some}
 use Rattle.message.specs.Content.{ContentText}
 use Rattle.queue_config.specs.Settings.{QueueSettings, default_settings}
 use Rattle.journal.specs.declared.entry.Event.{Event}
-use Rattle.journal.specs.declared.entry.Event.TheVariants.{Opened, Set}
+use Rattle.journal.specs.declared.entry.Event.TheVariants.{Opened, Set, Base}
+use Rattle.metric_window.specs.Flows.{greatest}
 use Rattle.queue_core.specs.declared.facts.Message.{Message}
 use Rattle.queue_core.specs.declared.facts.Course.{Course}
 use Rattle.queue_core.specs.declared.facts.Status.{Status}
 use Rattle.queue_core.specs.declared.facts.Status.TheVariants.{Present, Waiting}
 use Rattle.queue_core.specs.declared.facts.MessageState.{MessageState}
 use Rattle.queue_core.specs.declared.facts.MessageState.TheVariants.{Visible}
-use Rattle.queue_core.specs.Messages.{Birth, effect_of, contains_number, message_in, message_count, content_of, settings_after, settings_of, opens, closes_period, is_expired, offers_number, receive_count, first_receive_time, last_receive_time, returns, course_of, is_present_status, is_present, is_returned, awaits_status, awaits_transfer}
+use Rattle.queue_core.specs.Messages.{Birth, Past, effect_of, contains_number, no_past, message_since, message_in, message_count, content_of, settings_after, settings_of, opens, closes_period, is_expired, offers_number, receive_count, first_receive_time, last_receive_time, returns, course_of, is_present_status, is_present, is_returned, awaits_status, awaits_transfer}
 use Rattle.queue_core.specs.States.{is_live, waiting_state, same_state, is_in_state, message_numbered, is_numbered}
 use Rattle.queue_core.specs.Queue.{QueueHistory, with_event}
-use Rattle.queue_core.specs.Legal.{IsLegal, IsCausedIn}
+use Rattle.queue_core.proofs.CauseLemmas.{IsAbout}
 use Rattle.queue_core.specs.declared.slot.Stay.{Stay}
 use Rattle.queue_core.specs.declared.slot.Stay.TheVariants.{Hidden, Shown, Left}
 use Rattle.queue_core.specs.declared.record.Record.{Record}
 use Rattle.queue_core.specs.Slots.{is_left_stay}
-use Rattle.queue_core.specs.Records.{with_stay, has_run_out, tried, stay_at, is_left_record, settled_record, record_after, Records, IsSettled, born_record, record_begun, records_after, records_settled}
+use Rattle.queue_core.specs.Records.{with_stay, has_run_out, tried, stay_at, is_left_record, settled_record, record_after, Records, IsSettled, born_record, record_of_birth, record_begun, records_after, records_settled}
 use Rattle.queue_core.specs.Recorded.{ran_out_before, runs_out_by, IsStanding, IsRecordOf, notes_end, TellsExpiry, AreRecorded}
-use Rattle.queue_core.proofs.FactLemmas.{Line, settings_from-push, course-push, ran_out-push, expired-split, receives-push, first-push, last-push, content-push, numbered-push, numbered-number, numbered-place, numbered-past, IsNewborn, newborn, unborn, about}
-use Rattle.queue_core.proofs.PushLemmas.{or_false, mapped_some, begun_at}
+use Rattle.queue_core.proofs.FactLemmas.{Line, settings_from-push, course-push, ran_out-push, expired-split, receives-push, first-push, last-push, content-push, numbered-push, numbered-number, numbered-place, numbered-past, IsNewborn, newborn, IsSound}
+use Rattle.std.proofs.lemmas.Bool.Decides.{nat_tests}
+use Rattle.queue_core.proofs.Scans.{StandsAlone}
+use Rattle.queue_core.proofs.PushLemmas.{or_false, mapped_some, begun_at, fresh}
 use Rattle.queue_core.proofs.ToldLemmas.{Told, IsTold, told-with, told_after, there_unless, gone_if, told-next, told-gone, expired-next, untold}
 
 -- ---- what is there behind a step
@@ -261,6 +264,13 @@ fresh-more count returned true back =
     rw (received, and-false (eqb count 0 && not returned)) refl
 fresh-more count returned false back = rw add-zero (fresh-back (eqb count 0) returned back)
 
+-- a sum that stops at a number of at least three
+capped-never : (most k : ℕ) → 1 ≤ most → eqb (min k most) 0 ≡ eqb k 0
+capped-never most k h = grind (arith, nat_tests)
+
+capped-tries : (most k : ℕ) → 3 ≤ most → min (min k most) 3 ≡ min k 3
+capped-tries most k h = omega arith
+
 tried-more : (count : ℕ) (offered : Bool) → min (count + cond offered 1 0) 3 ≡ cond offered (tried (min count 3)) (min count 3)
 tried-more count true = elim (cases_lt (min count 3) 3) [
   | inl few ↦ let test : nat_lt (min count 3) 3 ≡ true = lt-ltb (min count 3) 3 few in rw test (omega (arith, few))
@@ -268,27 +278,30 @@ tried-more count true = elim (cases_lt (min count 3) 3) [
 ]
 tried-more count false = ap (λ n. min n 3) (add-zero count)
 
-retention-kept : (s : QueueSettings) (event : Event ContentText) → opens event ≡ false → closes_period event ≡ false → (settings_after s event).retention_seconds ≡ s.retention_seconds
-retention-kept s (Opened uid settings) h k = absurd cc
-retention-kept s (Set settings) h k = absurd cc
-retention-kept s event h k = refl
+retention-kept : (s : QueueSettings) (event : Event ContentText) → StandsAlone event → opens event ≡ false → closes_period event ≡ false → (settings_after s event).retention_seconds ≡ s.retention_seconds
+retention-kept s (Opened uid settings) alone h k = absurd cc
+retention-kept s (Set settings) alone h k = absurd cc
+retention-kept s (Base base) alone h k = absurd cc
+retention-kept s event alone h k = refl
 
-module _ (lines : List Line) (at : ℕ) (event : Event ContentText) (m : Message) (placed : m.place < length lines) where
+module _ (lines : List Line) (at : ℕ) (event : Event ContentText) (m : Message) (placed : m.place < length lines) (alone : StandsAlone event) where
   abbrev line : Line
   line = record { at = at; event = event }
 
   told-push : (content : ContentText) → content_of lines m ≡ Some content → told_of (lines ++ line ∷ []) m ≡ told_after at event m (told_of lines m)
   told-push content h =
       let text : content_of (lines ++ line ∷ []) m ≡ content_of lines m = content-push lines line m content h ∙ sym h in
-      let first = first-push lines line m.number in
-      let last = last-push lines line m.number in
+      let more : ℕ = receive_count lines m.number + cond (offers_number m.number event) 1 0 in
+      let first = first-push lines line m.number alone in
+      let last = last-push lines line m.number alone in
       let course = course-push lines line m placed in
       let fresh : (told_of (lines ++ line ∷ []) m).fresh ≡ (told_after at event m (told_of lines m)).fresh =
       ap (λ (c : Course). eqb (receive_count (lines ++ line ∷ []) m.number) 0 && not c.returned) course
-      ∙ (ap (λ n. eqb n 0 && not (returns (course_of lines m).status event || is_returned lines m)) (receives-push lines line m.number)
+      ∙ (ap (λ n. eqb n 0 && not (returns (course_of lines m).status event || is_returned lines m)) (receives-push lines line m.number alone)
+      ∙ ap (λ (b : Bool). b && not (returns (course_of lines m).status event || is_returned lines m)) (capped-never greatest more (omega arith))
       ∙ fresh-more (receive_count lines m.number) (is_returned lines m) (offers_number m.number event) (returns (course_of lines m).status event)) in
       let tries : (told_of (lines ++ line ∷ []) m).tries ≡ (told_after at event m (told_of lines m)).tries =
-      ap (λ n. min n 3) (receives-push lines line m.number) ∙ tried-more (receive_count lines m.number) (offers_number m.number event) in
+      ap (λ n. min n 3) (receives-push lines line m.number alone) ∙ capped-tries greatest more (omega arith) ∙ tried-more (receive_count lines m.number) (offers_number m.number event) in
       λ i. record { content = text i; first_receive = first i; last_receive = last i; fresh = fresh i; tries = tries i; course = course i }
 
   placed_more : m.place < length (lines ++ line ∷ [])
@@ -298,7 +311,7 @@ module _ (lines : List Line) (at : ℕ) (event : Event ContentText) (m : Message
   runs_out-kept : opens event ≡ false → closes_period event ≡ false → runs_out_by (settings_of (lines ++ line ∷ [])) at m ≡ runs_out_by (settings_of lines) at m
   runs_out-kept unopened unclosed =
       ap (λ (seconds : ℕ). nat_le (m.first_send_time + 1000 * seconds) at)
-      (ap (λ (s : QueueSettings). s.retention_seconds) (settings_from-push default_settings lines line) ∙ retention-kept (settings_of lines) event unopened unclosed)
+      (ap (λ (s : QueueSettings). s.retention_seconds) (settings_from-push default_settings lines line) ∙ retention-kept (settings_of lines) event alone unopened unclosed)
 
   ends-push : (before closed by behind : Bool) → (closed ≡ false → behind ≡ by) → ((before || (closed && by)) || behind) ≡ ((before || by) || (closed && behind))
   ends-push before true by behind k = refl
@@ -331,7 +344,7 @@ module _ (lines : List Line) (clock n : ℕ) (seen : is_numbered (λ m. is_in_st
   none_numbered : message_numbered lines n ≡ None → ⊥
   none_numbered none = false≢true (sym (ap (λ (o : Option Message). option_map_or (λ m. is_in_state Visible lines clock m) o false) none) ∙ seen)
 
-module _ (q : QueueHistory) (event : Event ContentText) (caused : IsCausedIn q event) where
+module _ (q : QueueHistory) (event : Event ContentText) (of : IsAbout q event) where
   abbrev entry : Line
   entry = record { at = q.clock; event = event }
 
@@ -351,7 +364,7 @@ module _ (q : QueueHistory) (event : Event ContentText) (caused : IsCausedIn q e
     unoffered target waiting =
         let dead : is_live q.lines q.clock m ≡ false = ap (λ (s : Status). is_present_status s && not (is_expired q.lines q.clock m)) waiting in
         false_from_ne_true (offers_number m.number event)
-        (λ offered. false≢true (sym dead ∙ live_numbered q.lines q.clock m.number ((about q event caused).offered m.number offered) m own_number))
+        (λ offered. false≢true (sym dead ∙ live_numbered q.lines q.clock m.number (of.offered m.number offered) m own_number))
 
     unmoved : (target : ℕ) → (course_of q.lines m).status ≡ Waiting target → contains_number m.number (effect_of event).rescheduled ≡ false
     unmoved target waiting =
@@ -359,12 +372,12 @@ module _ (q : QueueHistory) (event : Event ContentText) (caused : IsCausedIn q e
         false_from_ne_true (contains_number m.number (effect_of event).rescheduled)
         (λ moved.
         false≢true
-        (sym dead ∙ sym (ap (λ (o : Option Message). option_map_or (λ m. is_live q.lines q.clock m) o false) own_number) ∙ (about q event caused).rescheduled m.number moved))
+        (sym dead ∙ sym (ap (λ (o : Option Message). option_map_or (λ m. is_live q.lines q.clock m) o false) own_number) ∙ of.rescheduled m.number moved))
 
     undeparting : is_live q.lines q.clock m ≡ false → contains_number m.number (effect_of event).departures ≡ false
     undeparting dead =
         false_from_ne_true (contains_number m.number (effect_of event).departures)
-        (λ departing. false≢true (sym dead ∙ live_numbered q.lines q.clock m.number ((about q event caused).departing m.number departing) m own_number))
+        (λ departing. false≢true (sym dead ∙ live_numbered q.lines q.clock m.number (of.departing m.number departing) m own_number))
 
     record-next : (r after : Record) → IsRecordOf q.lines m r → TellsExpiry q.lines q.clock m r → settled_record (settings_of q.lines).retention_seconds q.clock r ≡ Some r
         → record_after (settings_of q.lines) q.clock event n r ≡ Some after → IsRecordOf more m after × TellsExpiry more q.clock m after
@@ -373,11 +386,12 @@ module _ (q : QueueHistory) (event : Event ContentText) (caused : IsCausedIn q e
         let test = there_unless (not (is_left_record r) && has_run_out (settings_of q.lines).retention_seconds q.clock r) (settled_stay q.clock r) r settled in
         let told = told_from q.lines m r is in
         let next = told-next (settings_of q.lines) q.clock event m (told_of q.lines m) r told after unoffered unmoved by_number in
-        let unopened = (about q event caused).unopened in (
-          record_from more m after (subst (λ (t : Told). IsTold m t after) (sym (told-push q.lines q.clock event m placed r.content is.content)) next),
-          expired-behind q.lines q.clock event m placed unopened
+        let unopened = of.unopened in
+        let alone = of.alone in (
+          record_from more m after (subst (λ (t : Told). IsTold m t after) (sym (told-push q.lines q.clock event m placed alone r.content is.content)) next),
+          expired-behind q.lines q.clock event m placed alone unopened
               ∙ expired-next (settings_of q.lines) q.clock event m (told_of q.lines m) r told (is_expired q.lines q.clock m) (runs_out_by (settings_of more) q.clock m) tells test.0
-              (runs_out-kept q.lines q.clock event m placed unopened) after by_number,
+              (runs_out-kept q.lines q.clock event m placed alone unopened) after by_number,
         )
 
     record-gone : (r : Record) → IsRecordOf q.lines m r → TellsExpiry q.lines q.clock m r → record_after (settings_of q.lines) q.clock event n r ≡ None
@@ -385,98 +399,108 @@ module _ (q : QueueHistory) (event : Event ContentText) (caused : IsCausedIn q e
     record-gone r is tells h =
         let by_number = subst (λ k. record_after (settings_of q.lines) q.clock event k r ≡ None) (sym (numbered-number q.lines n m numbered)) h in
         let ended : notes_end r.slot.stay ≡ true → is_expired more q.clock m ≡ true =
-        λ noted. expired-push q.lines q.clock event m placed (about q event caused).unopened (tells ∙ ap (λ b. b || runs_out_by (settings_of q.lines) q.clock m) noted) in
+        λ noted. expired-push q.lines q.clock event m placed of.alone of.unopened (tells ∙ ap (λ b. b || runs_out_by (settings_of q.lines) q.clock m) noted) in
         let gone = told-gone (settings_of q.lines) q.clock event m (told_of q.lines m) r (told_from q.lines m r is) (is_expired more q.clock m) ended by_number in
-        let push = told-push q.lines q.clock event m placed r.content is.content in
+        let push = told-push q.lines q.clock event m placed of.alone r.content is.content in
         (ap (λ (t : Told). is_present_status t.course.status && not (is_expired more q.clock m)) push ∙ gone.0, ap (λ (t : Told). awaits_status t.course.status) push ∙ gone.1)
 
     none-next : (is_live q.lines q.clock m ≡ false) × (awaits_transfer q.lines m ≡ false) → (is_live more q.clock m ≡ false) × (awaits_transfer more m ≡ false)
     none-next dead =
         let push = course-push q.lines entry m placed in
         let next = untold m.number event (course_of q.lines m).status (is_expired q.lines q.clock m) (is_expired more q.clock m) dead
-        (expired-push q.lines q.clock event m placed (about q event caused).unopened) (undeparting dead.0) in
+        (expired-push q.lines q.clock event m placed of.alone of.unopened) (undeparting dead.0) in
         (ap (λ (c : Course). is_present_status c.status && not (is_expired more q.clock m)) push ∙ next.0, ap (λ (c : Course). awaits_status c.status) push ∙ next.1)
 
   -- ---- a message that the event begins
 
-  module _ (legal : IsLegal q) (n : ℕ) (past : message_count q.lines ≤ n) (birth : Birth ContentText) (begins : slice_get (effect_of event).births (n - message_count q.lines) ≡ Some birth) where
-    abbrev born_message : Message
-    born_message = message_in (length q.lines) n q.clock birth
+  module _ (sound : IsSound q.lines q.clock) (n : ℕ) (past : message_count q.lines ≤ n) (birth : Birth ContentText) (begins : slice_get (effect_of event).births (n - message_count q.lines) ≡ Some birth) where
+    -- it was not there before
+    first : birth.past ≡ None
+    first = (fresh event of.alone (n - message_count q.lines) birth begins).past
 
-    new : IsNewborn q.lines entry birth.content born_message
-    new = newborn q.lines entry n birth past begins
+    abbrev new_message : Message
+    new_message = message_since (length q.lines) n birth (no_past q.clock birth)
 
-    born_tells : TellsExpiry more q.clock born_message (born_record q.clock birth)
-    born_tells =
-        expired-split more q.clock born_message (omega (arith, length-append q.lines (entry ∷ [])))
-        ∙ ap (λ (b : Bool). b || runs_out_by (settings_of more) q.clock born_message) new.ran_out
+    born_message : message_in (length q.lines) n q.clock birth ≡ new_message
+    born_message = ap (λ (o : Option Past). message_since (length q.lines) n birth (unwrap_or o (no_past q.clock birth))) first
 
-    born_is : IsRecordOf more born_message (born_record q.clock birth)
-    born_is =
-        let un = unborn q n legal past in
+    new : IsNewborn q.lines entry birth.content new_message
+    new = subst (IsNewborn q.lines entry birth.content) born_message (newborn q.lines entry n birth past begins)
+
+    born_tells : (content : ContentText) → TellsExpiry more q.clock new_message (born_record q.clock birth content)
+    born_tells content =
+        expired-split more q.clock new_message (omega (arith, length-append q.lines (entry ∷ [])))
+        ∙ ap (λ (b : Bool). b || runs_out_by (settings_of more) q.clock new_message) new.ran_out
+
+    born_is : (content : ContentText) → birth.content ≡ Some content → IsRecordOf more new_message (born_record q.clock birth content)
+    born_is content has =
+        let alone = of.alone in
+        let un = sound.unborn n past in
         let none = numbered-past q.lines n past in
         let unoffered_yet : offers_number n event ≡ false =
-        false_from_ne_true (offers_number n event) (λ offered. none_numbered q.lines q.clock n ((about q event caused).offered n offered) none) in
-        let receives : receive_count more n ≡ 0 = receives-push q.lines entry n ∙ rw (un.receives, unoffered_yet) refl in
+        false_from_ne_true (offers_number n event) (λ offered. none_numbered q.lines q.clock n (of.offered n offered) none) in
+        let receives : receive_count more n ≡ 0 = receives-push q.lines entry n alone ∙ rw (un.receives, unoffered_yet) refl in
         record {
-          content = new.content;
+          content = new.content ∙ has;
           enqueue_time = refl;
           first_send_time = refl;
           origin = refl;
-          first_receive = sym (first-push q.lines entry n ∙ rw (un.first, unoffered_yet) refl);
-          last_receive = sym (last-push q.lines entry n ∙ rw (unoffered_yet, un.last) refl);
-          fresh = sym (ap (λ k. eqb k 0 && not (is_returned more born_message)) receives ∙ ap (λ (c : Course). not c.returned) new.course);
+          first_receive = sym (first-push q.lines entry n alone ∙ rw (un.first, unoffered_yet) refl);
+          last_receive = sym (last-push q.lines entry n alone ∙ rw (unoffered_yet, un.last) refl);
+          fresh = sym (ap (λ k. eqb k 0 && not (is_returned more new_message)) receives ∙ ap (λ (c : Course). not c.returned) new.course);
           tries = sym (ap (λ k. min k 3) receives);
           returned = sym (ap (λ (c : Course). c.returned) new.course);
           standing = (ap (λ (c : Course). c.status) new.course, ap (λ (c : Course). c.due) new.course);
         }
 
-  record-born : IsLegal q → (n : ℕ) → message_count q.lines ≤ n → (after : Record) → record_begun q.clock event (message_count q.lines) n ≡ Some after
+  record-born : IsSound q.lines q.clock → (n : ℕ) → message_count q.lines ≤ n → (after : Record) → record_begun q.clock event (message_count q.lines) n ≡ Some after
       → (m : Message) × (begun_at q.lines entry n ≡ Some m) × IsRecordOf more m after × TellsExpiry more q.clock m after
-  record-born legal n past after h =
-      let b = mapped_some (born_record q.clock) (slice_get (effect_of event).births (n - message_count q.lines)) after h in
-      let m = message_in (length q.lines) n q.clock b.0 in (
+  record-born sound n past after h =
+      let b = then_some (record_of_birth q.clock) (slice_get (effect_of event).births (n - message_count q.lines)) after h in
+      let content = mapped_some (born_record q.clock b.0) b.0.content after b.2 in
+      let m = new_message sound n past b.0 b.1 in (
         m,
-        ap (option_map (message_in (length q.lines) n q.clock)) b.1,
-        subst (IsRecordOf more m) b.2 (born_is legal n past b.0 b.1),
-        subst (TellsExpiry more q.clock m) b.2 (born_tells legal n past b.0 b.1),
+        ap (option_map (message_in (length q.lines) n q.clock)) b.1 ∙ ap (λ (x : Message). Some x) (born_message sound n past b.0 b.1),
+        subst (IsRecordOf more m) content.2 (born_is sound n past b.0 b.1 content.0 content.1),
+        subst (TellsExpiry more q.clock m) content.2 (born_tells sound n past b.0 b.1 content.0),
       )
 
   -- a message that begins has a record
   born-none : (n : ℕ) (m : Message) → begun_at q.lines entry n ≡ Some m → record_begun q.clock event (message_count q.lines) n ≡ None → ⊥
   born-none n m h none =
       let b = mapped_some (message_in (length q.lines) n q.clock) (slice_get (effect_of event).births (n - message_count q.lines)) m h in
-      none-some (born_record q.clock b.0) (sym none ∙ ap (option_map (born_record q.clock)) b.1)
+      let text = fresh event of.alone (n - message_count q.lines) b.0 b.1 in
+      none-some (born_record q.clock b.0 text.text) (sym none ∙ ap (option_and_then (record_of_birth q.clock)) b.1 ∙ ap (option_map (born_record q.clock b.0)) text.contained)
 
-pub recorded-event : (q : QueueHistory) (event : Event ContentText) (records after : Records) → IsLegal q → IsCausedIn q event → AreRecorded q.lines q.clock records
+pub recorded-event : (q : QueueHistory) (event : Event ContentText) (records after : Records) → IsSound q.lines q.clock → IsAbout q event → AreRecorded q.lines q.clock records
     → IsSettled (settings_of q.lines).retention_seconds q.clock records → ((n : ℕ) → after n ≡ records_after (settings_of q.lines) q.clock event (message_count q.lines) records n)
     → AreRecorded (with_event q event).lines q.clock after
-recorded-event q event records after legal caused is settled same = record {
-  some = λ n r at. some_by n r (nat_lt n (message_count q.lines)) refl (sym (same n) ∙ at) (numbered-push q.lines (entry q event caused) n);
-  none = λ n m numbered at. none_by n m (nat_lt n (message_count q.lines)) refl (sym (same n) ∙ at) (sym (numbered-push q.lines (entry q event caused) n) ∙ numbered);
+recorded-event q event records after sound of is settled same = record {
+  some = λ n r at. some_by n r (nat_lt n (message_count q.lines)) refl (sym (same n) ∙ at) (numbered-push q.lines (entry q event of) n);
+  none = λ n m numbered at. none_by n m (nat_lt n (message_count q.lines)) refl (sym (same n) ∙ at) (sym (numbered-push q.lines (entry q event of) n) ∙ numbered);
 }
   where
     some_by : (n : ℕ) (r : Record) (b : Bool) → nat_lt n (message_count q.lines) ≡ b
         → cond b (option_and_then (λ r. record_after (settings_of q.lines) q.clock event n r) (records n)) (record_begun q.clock event (message_count q.lines) n) ≡ Some r
-        → message_numbered (with_event q event).lines n ≡ cond b (message_numbered q.lines n) (begun_at q.lines (entry q event caused) n)
+        → message_numbered (with_event q event).lines n ≡ cond b (message_numbered q.lines n) (begun_at q.lines (entry q event of) n)
         → (m : Message) × (message_numbered (with_event q event).lines n ≡ Some m) × IsRecordOf (with_event q event).lines m r × TellsExpiry (with_event q event).lines q.clock m r
     some_by n r true e at numbered =
         let x = then_some (λ r. record_after (settings_of q.lines) q.clock event n r) (records n) r at in
         let m = is.some n x.0 x.1 in
-        let next = record-next q event caused n m.0 m.1 x.0 r m.2 m.3 (settled.settled n x.0 x.1) x.2 in
+        let next = record-next q event of n m.0 m.1 x.0 r m.2 m.3 (settled.settled n x.0 x.1) x.2 in
         (m.0, numbered ∙ m.1, next.0, next.1)
     some_by n r false e at numbered =
-        let x = record-born q event caused legal n (ltb-false n (message_count q.lines) e) r at in
+        let x = record-born q event of sound n (ltb-false n (message_count q.lines) e) r at in
         (x.0, numbered ∙ x.1, x.2, x.3)
 
     gone_by : (n : ℕ) (m : Message) → message_numbered q.lines n ≡ Some m → (records n ≡ None) ⊎ ((r : Record) × (records n ≡ Some r) × (record_after (settings_of q.lines) q.clock event n r ≡ None))
         → (is_live (with_event q event).lines q.clock m ≡ false) × (awaits_transfer (with_event q event).lines m ≡ false)
-    gone_by n m numbered (inl gone) = none-next q event caused n m numbered (is.none n m numbered gone)
-    gone_by n m numbered (inr x) = record-gone q event caused n m numbered x.0 (record_numbered q.lines q.clock records is n m x.0 numbered x.1) (tells_numbered q.lines q.clock records is n m x.0 numbered x.1) x.2
+    gone_by n m numbered (inl gone) = none-next q event of n m numbered (is.none n m numbered gone)
+    gone_by n m numbered (inr x) = record-gone q event of n m numbered x.0 (record_numbered q.lines q.clock records is n m x.0 numbered x.1) (tells_numbered q.lines q.clock records is n m x.0 numbered x.1) x.2
 
     none_by : (n : ℕ) (m : Message) (b : Bool) → nat_lt n (message_count q.lines) ≡ b
         → cond b (option_and_then (λ r. record_after (settings_of q.lines) q.clock event n r) (records n)) (record_begun q.clock event (message_count q.lines) n) ≡ None
-        → cond b (message_numbered q.lines n) (begun_at q.lines (entry q event caused) n) ≡ Some m
+        → cond b (message_numbered q.lines n) (begun_at q.lines (entry q event of) n) ≡ Some m
         → (is_live (with_event q event).lines q.clock m ≡ false) × (awaits_transfer (with_event q event).lines m ≡ false)
     none_by n m true e at numbered = gone_by n m numbered (then_none (λ r. record_after (settings_of q.lines) q.clock event n r) (records n) at)
-    none_by n m false e at numbered = absurd (born-none q event caused n m numbered at)
+    none_by n m false e at numbered = absurd (born-none q event of n m numbered at)

@@ -1,5 +1,5 @@
 -- An entry that records a refusal changes nothing, and a refused call adds no other.
-use Rattle.std.proofs.Common.{◌≡◌, ℕ, suc, ◌<◌, Bool, true, false, cond, ◌&&◌, ◌||◌, eqb, zero, List, [], ◌∷◌, ◌++◌, length, drop, get_or, Option, Some, None, Result, Err, refl, sym, ap, subst, ◌∙◌, arith}
+use Rattle.std.proofs.Common.{◌≡◌, ℕ, suc, ◌<◌, Bool, true, false, not, cond, ◌&&◌, ◌||◌, eqb, zero, List, [], ◌∷◌, ◌++◌, length, drop, get_or, Option, Result, Err, refl, sym, ap, subst, ◌∙◌, arith}
 use Rattle.std.specs.Prelude.{filter, slice_get}
 use Rattle.std.specs.Option.{option_map_or}
 use Rattle.std.specs.List.{All, AllByRecursion}
@@ -22,15 +22,15 @@ use Rattle.queue_core.specs.declared.facts.Status.TheVariants.{Present, Removed,
 use Rattle.queue_core.specs.declared.facts.MessageState.TheVariants.{InFlight}
 use Rattle.queue_core.specs.declared.command.Command.{Command}
 use Rattle.queue_core.specs.declared.reply.Reply.{Reply}
-use Rattle.queue_core.specs.Messages.{messages, settings_of, is_expired, receive_count, first_receive_time, last_receive_time, course_after, course_from, course_of, is_closed, opens, created_time, pending_transfers, has_accepted}
+use Rattle.queue_core.specs.Messages.{Since, effect_of, messages, settings_of, is_expired, receive_count, first_receive_time, last_receive_time, course_after, course_from, course_of, is_closed, opens, created_time, pending_transfers, has_accepted}
 use Rattle.queue_core.specs.States.{is_live, is_in_state, is_numbered}
-use Rattle.queue_core.specs.Queue.{QueueHistory, reached, outcome_at, with_event, with_optional_event, after_answer, is_valid_handle}
-use Rattle.queue_core.specs.Lasting.{StandsAs, refusal_event}
+use Rattle.queue_core.specs.Queue.{QueueHistory, rebased_where, rebases, reached, outcome_of, outcome_at, with_event, with_optional_event, after_outcome, after_answer, is_valid_handle}
+use Rattle.queue_core.specs.Lasting.{StandsAs, left_by_refusal, refusal_event}
 use Rattle.queue_core.specs.Recorded.{ran_out_before, runs_out_by}
-use Rattle.queue_core.proofs.PushLemmas.{first_course, first_of_both, first-push, last-push, or_false, settings_from-push, closed-push, accepted-push, course-push, ran_out-push, expired-split, receives-push, messages-push, numbered-place}
+use Rattle.queue_core.proofs.PushLemmas.{count-upto, capped-same, first-alone, first-push, last-push, or_false, settings_from-push, closed-push, accepted-push, course-push, ran_out-push, expired-split, receives-push, messages-push, numbered-place}
 use Rattle.queue_core.proofs.PendingLemmas.{filter_all, pending_transfers-push}
 use Rattle.queue_core.proofs.TallyLemmas.{modified_from-push}
-use Rattle.queue_core.proofs.CountedLemmas.{recorded}
+use Rattle.queue_core.proofs.CountedLemmas.{recorded_in}
 use Rattle.queue_core.proofs.AlikeLemmas.{Agree, IsAlike, agree-live, agree-state, gauges-alike, order-alike}
 
 numbered-agree : {X : Type 0} (p q : X → Bool) (xs : List X) (i : ℕ) → Agree p q xs → option_map_or p (slice_get xs i) false ≡ option_map_or q (slice_get xs i) false
@@ -45,21 +45,17 @@ module _ (at : ℕ) (fault : Fault) where
   refused = record { at = at; event = Refused fault }
 
   receive_count-refused : (number : ℕ) (lines : List (Entry ContentText)) → receive_count (lines ++ refused ∷ []) number ≡ receive_count lines number
-  receive_count-refused number lines = receives-push lines refused number ∙ omega arith
-
-  first-alone : (a : Option ℕ) → first_of_both a None ≡ a
-  first-alone None = refl
-  first-alone (Some time) = refl
+  receive_count-refused number lines = receives-push lines refused number refl ∙ capped-same (receive_count lines number) (count-upto lines number)
 
   first_receive-refused : (number : ℕ) (lines : List (Entry ContentText)) → first_receive_time (lines ++ refused ∷ []) number ≡ first_receive_time lines number
-  first_receive-refused number lines = first-push lines refused number ∙ first-alone (first_receive_time lines number)
+  first_receive-refused number lines = first-push lines refused number refl ∙ first-alone (first_receive_time lines number)
 
   last_receive-refused : (number : ℕ) (lines : List (Entry ContentText)) → last_receive_time (lines ++ refused ∷ []) number ≡ last_receive_time lines number
-  last_receive-refused number lines = last-push lines refused number
+  last_receive-refused number lines = last-push lines refused number refl
 
   created_time-refused : (lines : List (Entry ContentText)) → created_time (lines ++ refused ∷ []) ≡ created_time lines
   created_time-refused [] = refl
-  created_time-refused (e ∷ es) = ap (λ (n : ℕ). cond (opens e.event) e.at n) (created_time-refused es)
+  created_time-refused (e ∷ es) = ap (λ (n : ℕ). cond (opens e.event) e.at (option_map_or (λ (s : Since). s.created) (effect_of e.event).since n)) (created_time-refused es)
 
   pending-refused : (lines : List (Entry ContentText)) → pending_transfers (lines ++ refused ∷ []) ≡ pending_transfers lines
   pending-refused lines = pending_transfers-push lines refused ∙ append-nil (filter (λ t. true) (pending_transfers lines)) ∙ filter_all (pending_transfers lines)
@@ -132,12 +128,12 @@ module _ (q : QueueHistory) (fault : Fault) where
     counts = gauges-alike after q.lines q.clock messages-refused alike;
     order = order-alike after q.lines q.clock messages-refused alike;
     messages = messages-refused;
-    courses = λ m. course_from-refused q.clock fault m.number (first_course m) m.place q.lines;
+    courses = λ m. course_from-refused q.clock fault m.number m.begun m.place q.lines;
     receives = λ number. receive_count-refused q.clock fault number q.lines;
     first_receives = λ number. first_receive-refused q.clock fault number q.lines;
     last_receives = λ number. last_receive-refused q.clock fault number q.lines;
     created = created_time-refused q.clock fault q.lines;
-    modified = modified_from-push 0 q.lines (refused q.clock fault);
+    modified = modified_from-push 0 q.lines (refused q.clock fault) refl;
     closed = closed-push q.lines (refused q.clock fault) ∙ or_false (is_closed q.lines);
     settings = settings_from-push default_settings q.lines (refused q.clock fault);
     waiting = pending-refused q.clock fault q.lines;
@@ -163,13 +159,25 @@ StandsAs-recorded q QueueDoesNotExist = StandsAs-itself q
 StandsAs-recorded q JournalFull = StandsAs-itself q
 StandsAs-recorded q fault = StandsAs-refused q fault
 
-module _ (q : QueueHistory) (at : ℕ) (command : Command) where
-  stands_at : (b : Bool) (answer : Result Reply Fault) (fault : Fault) → is_out_of_memory answer ≡ b → answer ≡ Err fault → Meets answer (outcome_at q at command).reply
-      → StandsAs (after_answer q at command answer) (reached q at command)
-  stands_at true answer fault h is meets = rw h (StandsAs-itself (reached q at command))
-  stands_at false answer fault h is meets =
-      rw h (subst (λ (event : Option (Event ContentText)). StandsAs (with_optional_event (reached q at command) event) (reached q at command))
-      (sym (recorded (reached q at command) command fault (sym (rw h at meets) ∙ is))) (StandsAs-recorded (reached q at command) fault))
+module _ (r : QueueHistory) (command : Command) where
+  abbrev there : QueueHistory
+  there = rebased_where (rebases r command) r
 
-  pub StandsAs-refusal : (fault : Fault) → Meets {T = Reply} (Err fault) (outcome_at q at command).reply → StandsAs (after_answer {T = Reply} q at command (Err fault)) (reached q at command)
-  StandsAs-refusal fault meets = stands_at (is_out_of_memory {T = Reply} (Err fault)) (Err fault) fault refl refl meets
+  kept_memory : (b : Bool) → (b && not false) ≡ b
+  kept_memory true = refl
+  kept_memory false = refl
+
+  no_memory : (b : Bool) → (b && not true) ≡ false
+  no_memory true = refl
+  no_memory false = refl
+
+  stands_by : (lost : Bool) (answer : Result Reply Fault) (fault : Fault) → is_out_of_memory answer ≡ lost → answer ≡ Err fault → Meets answer (outcome_of r command).reply
+      → StandsAs (after_outcome r (outcome_of r command) answer) (rebased_where (rebases r command && not (is_out_of_memory answer)) r)
+  stands_by true answer fault h is meets = rw (h, no_memory (rebases r command)) (StandsAs-itself r)
+  stands_by false answer fault h is meets =
+      rw (h, kept_memory (rebases r command)) (subst (λ (event : Option (Event ContentText)). StandsAs (with_optional_event there event) there)
+      (sym (recorded_in there command fault (sym (rw h at meets) ∙ is))) (StandsAs-recorded there fault))
+
+pub StandsAs-refusal : (q : QueueHistory) (at : ℕ) (command : Command) (fault : Fault) → Meets {T = Reply} (Err fault) (outcome_at q at command).reply
+    → StandsAs (after_answer {T = Reply} q at command (Err fault)) (left_by_refusal q at command fault)
+StandsAs-refusal q at command fault meets = stands_by (reached q at command) command (is_out_of_memory {T = Reply} (Err fault)) (Err fault) fault refl refl meets

@@ -1,14 +1,33 @@
 -- Rows one minute on.
-use Rattle.std.proofs.Common.{◌≡◌, ℕ, ◌+◌, ◌-◌, ◌<◌, ◌≤◌, true, List, [], ◌∷◌, ◌++◌, map, Some, None, refl, sym, ap, ◌∙◌, arith}
-use Rattle.std.specs.Prelude.{nat_le, nat_lt}
+use Rattle.std.proofs.Common.{◌≡◌, ℕ, ◌+◌, ◌-◌, ◌<◌, ◌≤◌, Bool, true, false, cond, ◌==◌, List, [], ◌∷◌, ◌++◌, map, Option, Some, None, refl, sym, ap, ◌∙◌, arith}
+use Rattle.std.specs.Prelude.{nat_le, nat_lt, unwrap_or}
+use Rattle.std.proofs.lemmas.Bool.{eqb-true}
+use Rattle.std.proofs.lemmas.Option.{none-some, same_Some}
 use Rattle.std.specs.List.{range_with_len}
 use Rattle.std.proofs.lemmas.Bool.Decides.{nat_tests}
 use Rattle.std.proofs.lemmas.List.FromFn.{map-range_with_len_more}
 use Rattle.journal.specs.declared.entry.Entry.{Entry}
 use Rattle.metric_window.specs.declared.row.Row.{Row}
+use Rattle.metric_window.specs.KeptRows.{row_in}
 use Rattle.metric_window.specs.Window.{window_start, window_end}
-use Rattle.queue_core.specs.Messages.{created_time}
-use Rattle.queue_core.specs.Metrics.{metric_row, row_of, window_rows}
+use Rattle.queue_core.specs.Messages.{created_time, rows_known}
+use Rattle.queue_core.specs.Metrics.{told_row, metric_row, row_of, window_rows}
+
+-- a row is of its own minute, wherever it comes from
+found_minute : (rows : List Row) (minute : ℕ) (r : Row) → row_in rows minute ≡ Some r → r.minute ≡ minute
+found_minute [] minute r h = absurd (none-some r h)
+found_minute (x ∷ xs) minute r h = by_test (x.minute == minute) refl h (found_minute xs minute r)
+  where
+    by_test : (b : Bool) → (x.minute == minute) ≡ b → cond b (Some x) (row_in xs minute) ≡ Some r → (row_in xs minute ≡ Some r → r.minute ≡ minute) → r.minute ≡ minute
+    by_test true e k rest = ap (λ (y : Row). y.minute) (sym (same_Some x r k)) ∙ eqb-true x.minute minute e
+    by_test false e k rest = rest k
+
+pub metric_row-minute : {C : Type 0} (size : C → ℕ) (lines : List (Entry C)) (minute : ℕ) → (metric_row size lines minute).minute ≡ minute
+metric_row-minute size lines minute = by_row (row_in (rows_known lines) minute) refl
+  where
+    by_row : (o : Option Row) → row_in (rows_known lines) minute ≡ o → (unwrap_or o (told_row size lines minute)).minute ≡ minute
+    by_row None e = refl
+    by_row (Some r) e = found_minute (rows_known lines) minute r e
 
 module _ {C : Type 0} (size : C → ℕ) (lines : List (Entry C)) (clock : ℕ) where
   abbrev pub first_minute : ℕ

@@ -46,6 +46,16 @@ count_given test slots slots' count number before after h at to =
     count_changed (λ n. test (slots n)) (λ n. test (slots' n)) number count h (λ n other. ap test (given_other number after slots slots' to n other)) in
     omega arith
 
+-- ---- the numbers of each kind of slot together
+
+test_parts : (o : Option Slot) → one_if (is_delayed o) + one_if (is_in_flight o) + one_if (is_shown o) + one_if (is_left o) ≤ one_if (is_some o)
+test_parts o = let c = counted o in omega (arith, c.hidden, c.one)
+
+count_slot_parts : (slots : ℕ → Option Slot) (count : ℕ)
+    → count_slots is_delayed slots count + count_slots is_in_flight slots count + count_slots is_shown slots count + count_slots is_left slots count ≤ count_slots is_some slots count
+count_slot_parts slots count =
+    count_parts (λ n. is_delayed (slots n)) (λ n. is_in_flight (slots n)) (λ n. is_shown (slots n)) (λ n. is_left (slots n)) (λ n. is_some (slots n)) (range_with_len 0 count) (λ n. test_parts (slots n))
+
 -- ---- a number can get another slot
 
 -- there is room for one where there is no slot yet
@@ -82,7 +92,7 @@ has_counted slots count x number (Some s) is at =
     }
 
 pub can_replace : (slots : ℕ → Option Slot) (count : ℕ) (x : Indices) (number : ℕ) (before after : Option Slot) → AreIndexed slots count x → slots number ≡ before
-    → (before ≡ None → HasRoomForOne slots count x) → number < length x.ages.places.items → count < 2 ^ 62 → CanReplace number before after x
+    → (before ≡ None → HasRoomForOne slots count x) → number < length x.ages.places.items → count < 2 ^ 63 → CanReplace number before after x
 can_replace slots count x number before after is at room place few =
     let parts = counted before in
     let spare = slack slots count x before is room in
@@ -97,7 +107,7 @@ can_replace slots count x number before after is at room place few =
       visible_room = λ e. let none = ap one_if e in omega (arith, none, parts.one, parts.hidden, spare.visible, had.left, had.delayed, had.in_flight, is.delayed, is.in_flight);
       delayed = omega (arith, had.delayed, is.delayed);
       in_flight = omega (arith, had.in_flight, is.in_flight);
-      few = omega (arith, few, is.delayed, is.in_flight, count_upto (λ n. is_delayed (slots n)) count, count_upto (λ n. is_in_flight (slots n)) count);
+      few = omega (arith, few, is.delayed, is.in_flight, count_slot_parts slots count, count_upto (λ n. is_some (slots n)) count);
       failing = omega (arith, had.failing, is.failing);
       few_failing = omega (arith, few, is.failing, count_upto (λ n. is_failing (slots n)) count);
       ages =
@@ -230,14 +240,6 @@ room_enough slots count x due sent visible has d s v a =
     record { due = omega (arith, has.due, d); visible = omega (arith, has.visible, v); sent = omega (arith, has.sent, s); ages = omega (arith, a) }
 
 -- as many numbers as have a slot, and one
-test_parts : (o : Option Slot) → one_if (is_delayed o) + one_if (is_in_flight o) + one_if (is_shown o) + one_if (is_left o) ≤ one_if (is_some o)
-test_parts o = let c = counted o in omega (arith, c.hidden, c.one)
-
-count_slot_parts : (slots : ℕ → Option Slot) (count : ℕ)
-    → count_slots is_delayed slots count + count_slots is_in_flight slots count + count_slots is_shown slots count + count_slots is_left slots count ≤ count_slots is_some slots count
-count_slot_parts slots count =
-    count_parts (λ n. is_delayed (slots n)) (λ n. is_in_flight (slots n)) (λ n. is_shown (slots n)) (λ n. is_left (slots n)) (λ n. is_some (slots n)) (range_with_len 0 count) (λ n. test_parts (slots n))
-
 pub room_for_one : (slots : ℕ → Option Slot) (count : ℕ) (x : Indices) (due sent visible : ℕ) → AreIndexed slots count x → HasRoom due sent visible x
     → count_slots is_some slots count < due → count_slots is_some slots count < sent → count_slots is_some slots count < visible → count_slots is_left slots count + x.failing < x.ages.list.spare
     → HasRoomForOne slots count x

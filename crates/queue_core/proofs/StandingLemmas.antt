@@ -6,11 +6,12 @@ use Rattle.std.specs.List.{AllByRecursion, Contains, find, filter_map, list_any,
 use Rattle.std.proofs.lemmas.Bool.{false≢true, cases_lt}
 use Rattle.std.proofs.lemmas.List.Elements.{All-contains_itself, recursion_from_All}
 use Rattle.message.specs.declared.fault.Fault.{Fault}
-use Rattle.message.specs.declared.fault.Fault.TheVariants.{QueueDoesNotExist, InvalidParameterValue, ReceiptHandleIsInvalid, MessageNotInflight, OverLimit, JournalFull}
+use Rattle.message.specs.declared.fault.Fault.TheVariants.{QueueDoesNotExist, InvalidParameterValue, ReceiptHandleIsInvalid, MessageNotInflight, OverLimit}
 use Rattle.message.specs.Content.{ContentText, content_size}
 use Rattle.queue_config.specs.Settings.{settings_with}
 use Rattle.receipt_handle.specs.declared.handle.Handle.{Handle}
 use Rattle.journal.specs.declared.entry.Event.TheVariants.{Sent, Arrived, Received, Changed, Deleted, DeletedAgain, Set, Settled, Orphaned, Closed}
+use Rattle.metric_window.specs.Flows.{greatest}
 use Rattle.queue_core.specs.declared.command.Command.{Command}
 use Rattle.queue_core.specs.declared.command.Command.TheVariants as commands
 use Rattle.queue_core.specs.declared.reply.Reply.TheVariants as replies
@@ -24,18 +25,17 @@ use Rattle.queue_core.specs.declared.facts.Status.TheVariants.{Present, Removed,
 use Rattle.queue_core.specs.declared.facts.MessageState.{MessageState}
 use Rattle.queue_core.specs.declared.facts.MessageState.TheVariants.{Visible, Delayed, InFlight}
 use Rattle.queue_core.specs.declared.facts.Transfer.{Transfer}
-use Rattle.queue_core.specs.Messages.{messages, own_id, message_count, content_of, settings_of, created_time, modified_time, is_closed, is_expired, receive_count, first_receive_time, last_receive_time, course_of, is_present_status, is_returned, due_time, is_waiting_status, waits_for, awaits_status, awaits_transfer, pending_transfers, has_accepted}
-use Rattle.queue_core.specs.States.{is_live, waiting_state, same_state, is_in_state, count_in_state, failing_receives, has_age, oldest_age, gauges_of, receive_order, message_numbered, is_numbered}
-use Rattle.queue_core.specs.Queue.{QueueHistory, Outcome, is_full, first_refusal, unless_refused, with_room, uncounted_refusal, refusal, refused_or, done, send_outcome, receive_outcome, most_departures, offer_limit, scanned, scanned_candidates, offered_candidates, leaving_candidates, offer_of, offers_of, numbers_of, is_valid_handle, is_latest_handle, holds_in_flight, holds_live, passes_twelve_hours, change_refusal, waiting_count, parcel_of, transferred_parcel, first_parcel_of, outcome_of}
-use Rattle.queue_core.specs.Legal.{IsLegal}
+use Rattle.queue_core.specs.Messages.{messages, own_id, message_count, content_of, settings_of, created_time, modified_time, is_closed, is_expired, receive_count, last_receive_time, course_of, is_present_status, is_returned, due_time, is_waiting_status, waits_for, awaits_status, awaits_transfer, pending_transfers, has_accepted}
+use Rattle.queue_core.specs.States.{kept_count, is_live, waiting_state, same_state, is_in_state, count_in_state, failing_receives, has_age, oldest_age, gauges_of, receive_order, message_numbered, is_numbered}
+use Rattle.queue_core.specs.Queue.{QueueHistory, Outcome, adding, answering, first_refusal, unless_refused, with_room, uncounted_refusal, refusal, refused_or, done, send_outcome, receive_outcome, most_departures, offer_limit, scanned, scanned_candidates, offered_candidates, leaving_candidates, offer_of, offers_of, numbers_of, is_valid_handle, is_latest_handle, holds_in_flight, holds_live, passes_twelve_hours, change_refusal, parcel_of, transferred_parcel, first_parcel_of, outcome_in}
 use Rattle.queue_core.specs.Turns.{IsVisibleCandidate}
 use Rattle.queue_core.specs.Summary.{KnownMessage, Summary, known_message, known_where, summary_of}
-use Rattle.queue_core.specs.Standing.{StandsFor, without_lines, AnswersAs}
-use Rattle.queue_core.proofs.FactLemmas.{Line, numbered-number, unborn}
+use Rattle.queue_core.specs.Standing.{StandsFor, without_lines}
+use Rattle.queue_core.proofs.FactLemmas.{Line, numbered-number, IsSound}
 use Rattle.queue_core.proofs.TallyLemmas.{received-count}
 use Rattle.queue_core.proofs.AcceptedLemmas.{is_key, keys_any}
 use Rattle.queue_core.proofs.PairLemmas.{ascending_same, count_by-places}
-use Rattle.queue_core.proofs.PendingLemmas.{IsPendingOf, pending_legal}
+use Rattle.queue_core.proofs.PendingLemmas.{IsPendingOf}
 use Rattle.queue_core.proofs.OfferLemmas.{offered_visible}
 use Rattle.queue_core.proofs.IndexedLemmas.{pair_of, Contains-at, order_ascending, numbered_there, is_visible_at, pairs_are}
 use Rattle.queue_core.proofs.SummaryLemmas.{receives_within, receives_numbered}
@@ -97,7 +97,7 @@ unwaiting target (Waiting own) h = absurd (false≢true (sym h))
 unwaiting target Transferred h = refl
 
 -- whether it is live, in what state it then is, and whether its age is looked at and it is visible from a moment on
-abbrev is_there : KnownMessage → Bool
+abbrev pub is_there : KnownMessage → Bool
 is_there k = not (is_some k.target)
 
 abbrev state_told : List ℕ → ℕ → KnownMessage → MessageState
@@ -120,7 +120,7 @@ abbrev transfer_told : Summary → ℕ → Transfer
 transfer_told s n = record { number = n; target = option_map_or (λ k. unwrap_or k.target 0) (s.known n) 0 }
 
 -- a test of what a summary has under a number
-abbrev passes : (KnownMessage → Bool) → (ℕ → Option KnownMessage) → ℕ → Bool
+abbrev pub passes : (KnownMessage → Bool) → (ℕ → Option KnownMessage) → ℕ → Bool
 passes test kept n = option_map_or test (kept n) false
 
 module _ (lines : List Line) (clock : ℕ) where
@@ -185,6 +185,23 @@ module _ (lines : List Line) (clock : ℕ) where
         let from_first : (k : ℕ) → k ≡ 0 + k = λ k. omega arith in
         count_by-places p (passes test told.known) 0 (messages lines) (λ k. told_numbered k ∙ ap (passes test told.known) (from_first k))
         ∙ ap (λ (n : ℕ). count_by (passes test told.known) (range_with_len 0 n)) (sym (received-count lines clock))
+
+  -- how many are live or wait
+  abbrev pub is_known : KnownMessage → Bool
+  is_known k = true
+
+  awaited : (m : Message) (target : ℕ) → (course_of lines m).status ≡ Waiting target → awaits_transfer lines m ≡ true
+  awaited m target e = ap awaits_status e
+
+  tells-kept : Tells (λ m. is_live lines clock m || awaits_transfer lines m) is_known
+  tells-kept = record {
+    there = λ m own live. ap (λ (b : Bool). b || awaits_transfer lines m) live;
+    away = λ m target e. ap (λ (b : Bool). b || awaits_transfer lines m) (dead_away target m e) ∙ awaited m target e;
+    gone = λ m dead none. ap (λ (b : Bool). b || awaits_transfer lines m) dead ∙ none;
+  }
+
+  pub kept_told : kept_count lines clock ≡ count_by (passes is_known told.known) (range_with_len 0 (length told.receives))
+  kept_told = told_count (λ m. is_live lines clock m || awaits_transfer lines m) is_known tells-kept
 
   tells-live : Tells (λ m. is_live lines clock m) is_there
   tells-live = record {
@@ -348,7 +365,7 @@ offer_known uid clock number receives k =
     option_map
     (λ content. record {
       number = number;
-      receipt = receives + 1;
+      receipt = min (receives + 1) greatest;
       id = option_map_or (λ origin. origin.id) k.origin (own_id uid number);
       sent = k.sent;
       first_receive = unwrap_or k.first_receive clock;
@@ -474,7 +491,12 @@ module _ (one another : List Line) (clock now : ℕ) (clocks : clock ≡ now) (r
 
 -- ---- two queues
 
-module _ (q w : QueueHistory) (legal : IsLegal q) (other : IsLegal w) (same : StandsFor q w) where
+-- a command adds the same entry to their journals as they stand, and has the same reply, but for the number of entries
+pub record AnswersIn (q w : QueueHistory) (command : Command) : Type 0 where
+  pub event : (outcome_in q command).event ≡ (outcome_in w command).event
+  pub reply : without_lines (outcome_in q command).reply ≡ without_lines (outcome_in w command).reply
+
+module _ (q w : QueueHistory) (sound : IsSound q.lines q.clock) (other : IsSound w.lines w.clock) (same : StandsFor q w) where
   pub receives_same : (summary q).receives ≡ (summary w).receives
   receives_same = ap (λ (x : Summary). x.receives) same.summary
 
@@ -502,10 +524,10 @@ module _ (q w : QueueHistory) (legal : IsLegal q) (other : IsLegal w) (same : St
         sym (receives_within q.lines q.clock n below)
         ∙ ap (λ (x : Summary). slice_index x.receives n) same.summary
         ∙ receives_within w.lines w.clock n (omega (arith, below, count_same))
-    | inr past ↦ (unborn q n legal past).receives ∙ sym (unborn w n other (omega (arith, past, count_same))).receives
+    | inr past ↦ (sound.unborn n past).receives ∙ sym (other.unborn n (omega (arith, past, count_same))).receives
   ]
 
-  accepted_same : (uid number : ℕ) → has_accepted q.lines uid number ≡ has_accepted w.lines uid number
+  pub accepted_same : (uid number : ℕ) → has_accepted q.lines uid number ≡ has_accepted w.lines uid number
   accepted_same uid number = sym (keys_any uid number q.lines) ∙ ap (λ (x : Summary). list_any (is_key uid number) x.accepted) same.summary ∙ keys_any uid number w.lines
 
   -- ---- messages
@@ -554,15 +576,15 @@ module _ (q w : QueueHistory) (legal : IsLegal q) (other : IsLegal w) (same : St
 
   pub transfers_same : pending_transfers q.lines ≡ pending_transfers w.lines
   transfers_same =
-      sym (transfers_told q.lines q.clock (pending_legal q legal))
+      sym (transfers_told q.lines q.clock sound.pending)
       ∙ ap (λ (x : Summary). map (transfer_told x) x.leaving) same.summary
-      ∙ transfers_told w.lines w.clock (pending_legal w other)
+      ∙ transfers_told w.lines w.clock other.pending
 
-  first_same : first_parcel_of q ≡ first_parcel_of w
+  pub first_same : first_parcel_of q ≡ first_parcel_of w
   first_same =
-      first_told q (pending_legal q legal)
+      first_told q sound.pending
       ∙ (λ i. option_and_then (parcel_told (same.uid i) (same.name i) (same.summary i)) (slice_get (transfers_same i) 0))
-      ∙ sym (first_told w (pending_legal w other))
+      ∙ sym (first_told w other.pending)
 
   -- ---- handles
 
@@ -603,10 +625,7 @@ module _ (q w : QueueHistory) (legal : IsLegal q) (other : IsLegal w) (same : St
 
   -- ---- commands
 
-  module _ (full : is_full q ≡ is_full w) where
-    room_same : first_refusal q ≡ first_refusal w
-    room_same = λ i. cond (closed_same i) (Some QueueDoesNotExist) (cond (full i) (Some JournalFull) None)
-
+  module _ (room_same : first_refusal q ≡ first_refusal w) where
     in_room : (one another : Outcome) → one ≡ another → with_room q one ≡ with_room w another
     in_room one another h = λ i. unless_refused (room_same i) (h i)
 
@@ -614,50 +633,46 @@ module _ (q w : QueueHistory) (legal : IsLegal q) (other : IsLegal w) (same : St
     send_same content delay =
         λ i.
         cond (nat_lt (settings_same i).maximum_message_size (content_size content)) (refusal InvalidParameterValue)
-        (record {
-          event = Some (Sent (unwrap_or delay (settings_same i).delay_seconds) content);
-          reply = Ok (replies.Sent (record { number = count_same i; id = own_id (same.uid i) (count_same i) }));
-        })
+        (adding (Sent (unwrap_or delay (settings_same i).delay_seconds) content) (Ok (replies.Sent (record { number = count_same i; id = own_id (same.uid i) (count_same i) }))))
 
     receive_same : (maximum : ℕ) (timeout : Option ℕ) → receive_outcome q maximum timeout ≡ receive_outcome w maximum timeout
     receive_same maximum timeout =
         λ i.
         cond (nat_le (same.in_flight i) (states_same InFlight i)) (refusal OverLimit)
-        (record {
-          event = Some (Received (unwrap_or timeout (settings_same i).visibility_timeout) (offered_numbers maximum i) (leaving_numbers maximum i) (option_map_or (λ p. p.target) (settings_same i).redrive_policy 0));
-          reply = Ok (replies.Received (offers_same maximum i));
-        })
+        (adding (Received (unwrap_or timeout (settings_same i).visibility_timeout) (offered_numbers maximum i) (leaving_numbers maximum i) (option_map_or (λ p. p.target) (settings_same i).redrive_policy 0))
+        (Ok (replies.Received (offers_same maximum i))))
 
-    answers : (command : Command) → outcome_of q command ≡ outcome_of w command → AnswersAs q w command
+    -- in the journals as they stand
+    answers : (command : Command) → outcome_in q command ≡ outcome_in w command → AnswersIn q w command
     answers command h = record { event = ap (λ (o : Outcome). o.event) h; reply = ap (λ (o : Outcome). without_lines o.reply) h }
 
-    pub answers_same : (command : Command) → AnswersAs q w command
-    answers_same (commands.Send content delay) = answers (commands.Send content delay) (in_room _ _ (send_same content delay))
-    answers_same (commands.Receive maximum timeout) = answers (commands.Receive maximum timeout) (in_room _ _ (receive_same maximum timeout))
-    answers_same (commands.Change handle timeout) =
+    pub answers_in : (command : Command) → AnswersIn q w command
+    answers_in (commands.Send content delay) = answers (commands.Send content delay) (in_room _ _ (send_same content delay))
+    answers_in (commands.Receive maximum timeout) = answers (commands.Receive maximum timeout) (in_room _ _ (receive_same maximum timeout))
+    answers_in (commands.Change handle timeout) =
         answers (commands.Change handle timeout) (in_room _ _ (λ i. refused_or (change_same handle timeout i) (done (Changed handle.number timeout))))
-    answers_same (commands.Delete handle) =
+    answers_in (commands.Delete handle) =
         answers (commands.Delete handle)
         (in_room _ _ (λ i. cond (valid_same handle i) (done (cond (held_same handle i) (Deleted handle.number) DeletedAgain)) (refusal ReceiptHandleIsInvalid)))
-    answers_same commands.Purge = answers commands.Purge (in_room _ _ refl)
-    answers_same (commands.Set wish target) = answers (commands.Set wish target) (in_room _ _ (λ i. done (Set (settings_with (settings_same i) wish target))))
-    answers_same (commands.Arrive parcel) =
+    answers_in commands.Purge = answers commands.Purge (in_room _ _ refl)
+    answers_in (commands.Set wish target) = answers (commands.Set wish target) (in_room _ _ (λ i. done (Set (settings_with (settings_same i) wish target))))
+    answers_in (commands.Arrive parcel) =
         answers (commands.Arrive parcel)
         (in_room _ _
         (λ i.
-        cond (accepted_same parcel.origin.uid parcel.origin.number i) (record { event = None; reply = Ok (replies.Arrived arrivals.Again) })
-        (record { event = Some (Arrived parcel.origin parcel.content); reply = Ok (replies.Arrived arrivals.New) })))
-    answers_same (commands.Settle number) =
+        cond (accepted_same parcel.origin.uid parcel.origin.number i) (answering (Ok (replies.Arrived arrivals.Again)))
+        (adding (Arrived parcel.origin parcel.content) (Ok (replies.Arrived arrivals.New)))))
+    answers_in (commands.Settle number) =
         answers (commands.Settle number)
         (in_room _ _
         (λ i.
-        cond (awaits_alike q.lines w.lines q.clock w.clock same.clock receives_same known_same number i) (record { event = Some (Settled number); reply = Ok (replies.Settled true) })
-        (record { event = None; reply = Ok (replies.Settled false) })))
-    answers_same (commands.Orphan target) =
-        answers (commands.Orphan target) (in_room _ _ (λ i. record { event = Some (Orphaned target); reply = Ok (replies.Orphaned (waiting_alike q.lines w.lines q.clock w.clock same.clock receives_same known_same target i)) }))
-    answers_same commands.Close =
-        answers commands.Close (λ i. cond (closed_same i) (uncounted_refusal QueueDoesNotExist) (record { event = Some Closed; reply = Ok replies.Done }))
-    answers_same commands.Look = record {
+        cond (awaits_alike q.lines w.lines q.clock w.clock same.clock receives_same known_same number i) (adding (Settled number) (Ok (replies.Settled true)))
+        (answering (Ok (replies.Settled false)))))
+    answers_in (commands.Orphan target) =
+        answers (commands.Orphan target) (in_room _ _ (λ i. adding (Orphaned target) (Ok (replies.Orphaned (waiting_alike q.lines w.lines q.clock w.clock same.clock receives_same known_same target i)))))
+    answers_in commands.Close =
+        answers commands.Close (λ i. cond (closed_same i) (uncounted_refusal QueueDoesNotExist) (adding Closed (Ok replies.Done)))
+    answers_in commands.Look = record {
       event = refl;
       reply = λ i.
           Ok (replies.Looked (record {
@@ -670,4 +685,4 @@ module _ (q w : QueueHistory) (legal : IsLegal q) (other : IsLegal w) (same : St
             closed = closed_same i;
           }));
     }
-    answers_same commands.FirstParcel = answers commands.FirstParcel (λ i. record { event = None; reply = Ok (replies.Parcel (first_same i)) })
+    answers_in commands.FirstParcel = answers commands.FirstParcel (λ i. answering (Ok (replies.Parcel (first_same i))))

@@ -11,7 +11,7 @@ use Rattle.queue_config.specs.Limits.{max_lines_row}
 use Rattle.queue_config.specs.Settings.{settings_with, default_settings}
 use Rattle.journal.specs.declared.entry.Entry.{Entry}
 use Rattle.journal.specs.declared.entry.Event.{Event}
-use Rattle.journal.specs.declared.entry.Event.TheVariants.{Opened, Sent, Arrived, Received, Changed, Deleted, DeletedAgain, Purged, Set, Settled, Orphaned, Refused, Closed}
+use Rattle.journal.specs.declared.entry.Event.TheVariants.{Opened, Sent, Arrived, Received, Changed, Deleted, DeletedAgain, Purged, Set, Settled, Orphaned, Refused, Closed, Base}
 use Rattle.metric_window.specs.declared.flows.Flows.{Flows}
 use Rattle.metric_window.specs.Flows.{no_flows, flows_of, added, total, capped, greatest, minute_of, entries_in, minute_flows, flows_total}
 use Rattle.metric_window.specs.Window.{longest_window, window_end}
@@ -20,11 +20,12 @@ use Rattle.queue_core.specs.declared.command.Command.{Command}
 use Rattle.queue_core.specs.declared.command.Command.TheVariants as commands
 use Rattle.queue_core.specs.Messages.{settings_of, settings_after, created_time}
 use Rattle.queue_core.specs.Metrics.{current_flows, window_rows}
-use Rattle.queue_core.specs.Queue.{QueueHistory, refusal, first_refusal, send_outcome, offered_candidates, received_event, numbers_of, outcome_of, with_optional_event}
-use Rattle.queue_core.specs.Legal.{IsAllowedIn, IsCausedIn, AreCaused, BeginsAndFollows, IsLegal}
+use Rattle.queue_core.specs.Queue.{QueueHistory, refusal, first_refusal, send_outcome, offered_candidates, received_event, numbers_of, rebased_where, outcome_in, outcome_of, with_optional_event}
+use Rattle.queue_core.specs.Legal.{IsAllowedIn, IsCausedIn, AreCaused, BeginsAndFollows, IsWhole}
 use Rattle.queue_core.proofs.OfferLemmas.{offered_at_most}
 use Rattle.queue_core.proofs.PushLemmas.{settings_from-push}
 use Rattle.queue_core.proofs.CauseLemmas as cause
+use Rattle.queue_core.proofs.InPlaceLemmas.{added_in}
 use Rattle.queue_core.proofs.CountedLemmas.{counted}
 use Rattle.queue_core.proofs.MetricLemmas.{flows_add}
 
@@ -59,11 +60,13 @@ flows-sent delay content h = record { sent = omega arith; sent_size = omega arit
 abbrev IsOther : Event ContentText → Type 0
 IsOther (Sent delay content) = ⊥
 IsOther (Received timeout offered leaving target) = ⊥
+IsOther (Base base) = ⊥
 IsOther event = Unit {0}
 
 flows-other : (event : Event ContentText) → IsOther event → AreAtMost 1 (flows_of content_size event)
 flows-other (Sent delay content) h = absurd h
 flows-other (Received timeout offered leaving target) h = absurd h
+flows-other (Base base) h = absurd h
 flows-other event h = record { sent = omega arith; sent_size = omega arith; received = omega arith; empty_receives = omega arith; deleted = omega arith; refused = omega arith; dead_letters_arrived = omega arith }
 
 module _ (q : QueueHistory) (within : (settings_of q.lines).maximum_message_size ≤ largest) where
@@ -82,7 +85,7 @@ module _ (q : QueueHistory) (within : (settings_of q.lines).maximum_message_size
     at : (m n : ℕ) → nat_lt m n ≡ false → n ≤ m
     at m n h = grind (arith, nat_tests)
 
-  small_sent : (content : ContentText) (delay : Option ℕ) → IfSome (outcome_of q (commands.Send content delay)).event (IsSmall q)
+  small_sent : (content : ContentText) (delay : Option ℕ) → IfSome (outcome_in q (commands.Send content delay)).event (IsSmall q)
   small_sent content delay =
       cause.added-unless_refused (IsSmall q) (first_refusal q) (send_outcome q content delay)
       (cause.added-cond (IsSmall q) (nat_lt (settings_of q.lines).maximum_message_size (content_size content)) (refusal InvalidParameterValue) _ (λ large. small_refusal InvalidParameterValue)
@@ -91,10 +94,10 @@ module _ (q : QueueHistory) (within : (settings_of q.lines).maximum_message_size
   small_other : (event : Event ContentText) → IsOther event → (settings_after (settings_of q.lines) event).maximum_message_size ≤ largest → IsSmall q event
   small_other event other size = record { flows = flows-other event other; size = size }
 
-  by_added : (command : Command) → cause.IsSoOfAdded q (IsSmall q) command → IfSome (outcome_of q command).event (IsSmall q)
+  by_added : (command : Command) → cause.IsSoOfAdded q (IsSmall q) command → IfSome (outcome_in q command).event (IsSmall q)
   by_added command h = cause.added (IsSmall q) q small_refusal command h
 
-  small_outcome : (command : Command) → IsAllowedIn q command → IfSome (outcome_of q command).event (IsSmall q)
+  small_outcome : (command : Command) → IsAllowedIn q command → IfSome (outcome_in q command).event (IsSmall q)
   small_outcome (commands.Send content delay) h = small_sent content delay
   small_outcome (commands.Receive maximum timeout) h = by_added (commands.Receive maximum timeout) (small_received maximum timeout h.0.1)
   small_outcome (commands.Change handle timeout) h = by_added (commands.Change handle timeout) (λ unrefused. small_other (Changed handle.number timeout) tt within)
@@ -110,7 +113,7 @@ module _ (q : QueueHistory) (within : (settings_of q.lines).maximum_message_size
   small_outcome commands.FirstParcel h = tt
 
   small_caused : (event : Event ContentText) → IsCausedIn q event → IsSmall q event
-  small_caused event caused = subst (λ (o : Option (Event ContentText)). IfSome o (IsSmall q)) caused.added (small_outcome caused.command caused.allowed)
+  small_caused event caused = subst (λ (o : Option (Event ContentText)). IfSome o (IsSmall q)) (added_in q event caused) (small_outcome caused.command caused.allowed)
 
 -- ---- every entry of a legal journal
 
@@ -194,7 +197,7 @@ whole count f g short h e =
 next_number : (n m count : ℕ) → IsShort count → m ≤ count * largest → n ≡ m → min (n + 1) greatest ≡ n + 1
 next_number n m count short h e = omega arith
 
-module _ (q : QueueHistory) (legal : IsLegal q) (short : IsShort (length q.lines)) where
+module _ (q : QueueHistory) (legal : IsWhole q) (short : IsShort (length q.lines)) where
   small : AreSmall q.lines
   small = small_lines q q.lines legal.caused
 
@@ -212,7 +215,7 @@ module _ (q : QueueHistory) (legal : IsLegal q) (short : IsShort (length q.lines
       short all (flows_add q legal kept ∙ uncut (length q.lines) (flows_total content_size q.lines) short all)
 
   pub refusal_counts : (command : Command) (fault : Fault) → (outcome_of q command).event ≡ Some (Refused fault)
-      → (current_flows content_size (with_optional_event q (outcome_of q command).event).lines q.clock).refused ≡ (current_flows content_size q.lines q.clock).refused + 1
+      → (current_flows content_size (with_optional_event (rebased_where (outcome_of q command).rebases q) (outcome_of q command).event).lines q.clock).refused ≡ (current_flows content_size q.lines q.clock).refused + 1
   refusal_counts command fault is =
       let one = ap (λ x. x.refused) (counted q command fault is) in
       let few = (minute_at_most (minute_of q.clock)).refused in

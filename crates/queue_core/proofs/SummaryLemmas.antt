@@ -8,7 +8,7 @@ use Rattle.queue_core.specs.declared.facts.Message.{Message}
 use Rattle.queue_core.specs.declared.facts.Course.{Course}
 use Rattle.queue_core.specs.declared.facts.Status.{Status}
 use Rattle.queue_core.specs.declared.facts.Status.TheVariants.{Present, Removed, Waiting, Transferred}
-use Rattle.queue_core.specs.Messages.{message_count, content_of, settings_of, is_expired, receive_count, course_of, is_present_status, is_returned, due_time, awaits_status, awaits_transfer}
+use Rattle.queue_core.specs.Messages.{message_count, settings_of, is_expired, receive_count, course_of, is_present_status, is_returned, due_time, awaits_status, awaits_transfer}
 use Rattle.queue_core.specs.States.{is_live, failing_receives, message_numbered}
 use Rattle.queue_core.specs.declared.slot.Stay.{Stay}
 use Rattle.queue_core.specs.declared.slot.Stay.TheVariants.{Hidden, Shown, Left}

@@ -1,24 +1,23 @@
 -- What one entry more makes of what a journal comes to.
-use Rattle.std.proofs.Common.{◌≡◌, ℕ, ◌+◌, true, cond, ◌||◌, List, [], ◌∷◌, ◌++◌, length, refl, sym, ap, ◌∙◌}
+use Rattle.std.proofs.Common.{◌≡◌, ℕ, ◌+◌, cond, Option, ◌||◌, List, [], ◌∷◌, ◌++◌, length, refl, sym, ap, ◌∙◌}
 use Rattle.std.proofs.lemmas.List.FromFn.{length-map-range_with_len}
 use Rattle.queue_core.specs.declared.tally.Tally.{Tally}
-use Rattle.queue_core.specs.Messages.{message_count, settings_after, gives_settings, opens, created_time, modified_from, receive_count, closes}
+use Rattle.std.specs.Option.{option_map_or}
+use Rattle.queue_core.specs.Messages.{Since, message_count, settings_after, gives_settings, modified_by, modified_from, receive_count, closes}
 use Rattle.queue_core.specs.Tally.{births, Tallies}
 use Rattle.queue_core.specs.Summary.{summary_of}
-use Rattle.queue_core.specs.Queue.{QueueHistory}
-use Rattle.queue_core.specs.Legal.{BeginsAndFollows}
+use Rattle.queue_core.proofs.Scans.{StandsAlone}
+use Rattle.queue_core.proofs.SoundLemmas.{Begins, created_time-push}
 use Rattle.queue_core.proofs.PushLemmas.{Line, settings_from-push, closed-push, count-push}
 
-pub modified_from-push : (time : ℕ) (lines : List Line) (e : Line) → modified_from time (lines ++ e ∷ []) ≡ cond (gives_settings e.event) e.at (modified_from time lines)
-modified_from-push time [] e = refl
-modified_from-push time (x ∷ xs) e = modified_from-push (cond (gives_settings x.event) x.at time) xs e
+modified_from-told : (time : ℕ) (lines : List Line) (e : Line) → modified_from time (lines ++ e ∷ []) ≡ modified_by (modified_from time lines) e
+modified_from-told time [] e = refl
+modified_from-told time (x ∷ xs) e = modified_from-told (modified_by time x) xs e
 
--- a journal that begins with an opening was created then, whatever comes behind
-pub created_time-push : (q : QueueHistory) (lines : List Line) (e : Line) → BeginsAndFollows q lines → created_time (lines ++ e ∷ []) ≡ created_time lines
-created_time-push q [] e begins = absurd begins
-created_time-push q (x ∷ xs) e begins =
-    let is : opens x.event ≡ true = ap opens begins.0.opened in
-    ap (λ b. cond b x.at (created_time (xs ++ e ∷ []))) is ∙ sym (ap (λ b. cond b x.at (created_time xs)) is)
+pub modified_from-push : (time : ℕ) (lines : List Line) (e : Line) → StandsAlone e.event → modified_from time (lines ++ e ∷ []) ≡ cond (gives_settings e.event) e.at (modified_from time lines)
+modified_from-push time lines e alone =
+    modified_from-told time lines e
+    ∙ ap (λ (s : Option Since). option_map_or (λ (x : Since). x.modified) s (cond (gives_settings e.event) e.at (modified_from time lines))) alone
 
 -- a tally behind one entry more is that of the entries with it
 pub record GoesOn (t u : Tally) (count : ℕ) (e : Line) : Type 0 where
@@ -36,12 +35,12 @@ received-count lines clock = length-map-range_with_len (λ n. receive_count line
 pub tallies-later : (lines : List Line) (clock later : ℕ) (t : Tally) → Tallies t (summary_of lines clock) → Tallies t (summary_of lines later)
 tallies-later lines clock later t is = record { settings = is.settings; created = is.created; modified = is.modified; closed = is.closed; messages = is.messages }
 
-pub tallies-push : (q : QueueHistory) (lines : List Line) (clock : ℕ) (e : Line) (t u : Tally) → BeginsAndFollows q lines → Tallies t (summary_of lines clock) → GoesOn t u (message_count lines) e
+pub tallies-push : (lines : List Line) (clock : ℕ) (e : Line) (t u : Tally) → Begins lines → StandsAlone e.event → Tallies t (summary_of lines clock) → GoesOn t u (message_count lines) e
     → Tallies u (summary_of (lines ++ e ∷ []) clock)
-tallies-push q lines clock e t u begins is goes = record {
+tallies-push lines clock e t u begins alone is goes = record {
   settings = goes.settings ∙ ap (λ s. settings_after s e.event) is.settings ∙ sym (settings_from-push _ lines e);
-  created = goes.created ∙ is.created ∙ sym (created_time-push q lines e begins);
-  modified = goes.modified ∙ ap (λ time. cond (gives_settings e.event) e.at time) is.modified ∙ sym (modified_from-push 0 lines e);
+  created = goes.created ∙ is.created ∙ sym (created_time-push lines e begins);
+  modified = goes.modified ∙ ap (λ time. cond (gives_settings e.event) e.at time) is.modified ∙ sym (modified_from-push 0 lines e alone);
   closed = goes.closed ∙ ap (λ b. b || closes e.event) is.closed ∙ sym (closed-push lines e);
   messages = goes.messages ∙ sym (count-push lines e) ∙ sym (received-count (lines ++ e ∷ []) clock);
 }

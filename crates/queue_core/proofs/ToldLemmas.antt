@@ -12,7 +12,7 @@ use Rattle.queue_core.specs.declared.facts.Message.{Message}
 use Rattle.queue_core.specs.declared.facts.Course.{Course}
 use Rattle.queue_core.specs.declared.facts.Status.{Status}
 use Rattle.queue_core.specs.declared.facts.Status.TheVariants.{Present, Removed, Waiting, Transferred}
-use Rattle.queue_core.specs.Messages.{effect_of, contains_number, offers_number, loses, closes, closes_period, status_after, returns, due_after, course_after, is_present_status, awaits_status}
+use Rattle.queue_core.specs.Messages.{effect_of, contains_number, offers_number, loses, closes, closes_period, status_after, returns, due_after, course_after, first_of_both, is_present_status, awaits_status}
 use Rattle.queue_core.specs.declared.slot.Stay.{Stay}
 use Rattle.queue_core.specs.declared.slot.Stay.TheVariants.{Hidden, Shown, Left}
 use Rattle.queue_core.specs.declared.record.Record.{Record}
@@ -20,7 +20,6 @@ use Rattle.queue_core.specs.Slots.{is_left_stay}
 use Rattle.queue_core.specs.Records.{with_stay, with_parts, hidden_until, tried, received_at, back_at, has_run_out, offered_after, rescheduled_after, here_after, left_after, record_after_stay, record_after}
 use Rattle.queue_core.specs.Recorded.{runs_out_by, notes_end, IsStanding}
 use Rattle.queue_core.proofs.PushLemmas.{or_false}
-use Rattle.queue_core.proofs.FactLemmas.{first_of_both}
 
 -- what a journal tells of a message that it has
 pub record Told : Type 0 where

@@ -1,49 +1,61 @@
 -- What the messages that are touched weigh, and how much an event adds to their weight at most.
-use Rattle.std.proofs.Common.{◌≡◌, ℕ, suc, ◌+◌, ◌*◌, ◌<◌, ◌≤◌, Bool, true, false, not, cond, ◌&&◌, ◌==◌, List, [], ◌∷◌, ◌++◌, length, Option, Some, None, refl, sym, ap, ◌∙◌, max, arith}
-use Rattle.std.specs.Prelude.{count_by, nat_eq, slice_get}
+use Rattle.std.proofs.Common.{◌≡◌, ℕ, zero, suc, ◌+◌, ◌*◌, ◌<◌, ◌≤◌, Bool, true, false, not, cond, ◌&&◌, ◌==◌, List, [], ◌∷◌, length, Option, Some, None, refl, sym, ap, ◌∙◌, min, arith}
+use Rattle.std.specs.Prelude.{count_by, slice_get, option_and_then}
 use Rattle.std.specs.Option.{option_map_or}
-use Rattle.std.specs.List.{sum_by, AllPairs}
+use Rattle.std.specs.List.{sum_by, range_with_len}
 use Rattle.std.proofs.Math.Nat.{mul-add}
-use Rattle.std.proofs.lemmas.Bool.{false≢true, eqb-true, eq-eqb, ne_eqb, false_from_ne_true, and_parts, and_left, and_right}
-use Rattle.std.proofs.lemmas.List.Sums.{sum_by-cons, sum_by-append}
+use Rattle.std.proofs.lemmas.Bool.{false≢true, eqb-true, eq-eqb, and_parts, and_left, and_right}
+use Rattle.std.proofs.lemmas.Bool.Decides.{nat_tests}
+use Rattle.std.proofs.lemmas.List.Sums.{sum_by-cons}
 use Rattle.message.specs.Content.{ContentText}
 use Rattle.journal.specs.declared.entry.Event.{Event}
-use Rattle.journal.specs.declared.entry.Event.TheVariants.{Sent, Arrived, Received, Changed, Orphaned}
+use Rattle.journal.specs.declared.entry.Event.TheVariants.{Sent, Arrived, Received, Changed, Orphaned, Base}
+use Rattle.metric_window.specs.Flows.{greatest}
 use Rattle.queue_core.specs.declared.facts.Course.{Course}
 use Rattle.queue_core.specs.declared.facts.Message.{Message}
 use Rattle.queue_core.specs.declared.facts.MessageState.{MessageState}
 use Rattle.queue_core.specs.declared.facts.MessageState.TheVariants.{Visible, Delayed, InFlight}
 use Rattle.queue_core.specs.declared.facts.Status.{Status}
 use Rattle.queue_core.specs.declared.facts.Status.TheVariants.{Present, Removed, Waiting, Transferred}
-use Rattle.queue_core.specs.Messages.{messages, message_count, contains_number, receive_count, course_of, due_time, status_after, is_present_status, is_expired, awaits_status, awaits_transfer, is_waiting_status, waits_for}
+use Rattle.queue_core.specs.Messages.{messages, message_count, contains_number, receive_count, course_of, status_after, is_present_status, is_expired, awaits_status, awaits_transfer, is_waiting_status, waits_for}
 use Rattle.queue_core.specs.States.{waiting_state, state_of, is_in_state, is_numbered, message_numbered}
 use Rattle.queue_core.specs.Queue.{QueueHistory, at_moment, waiting_count, with_event}
-use Rattle.queue_core.specs.Legal.{IsCausedIn}
 use Rattle.queue_core.specs.Slots.{one_if}
-use Rattle.queue_core.specs.Cost.{same_standing, alike, is_touched, touched_count}
+use Rattle.queue_core.specs.Standing.{StandsFor}
+use Rattle.queue_core.specs.Cost.{same_standing, alike, state_numbered, waits_numbered, due_numbered, same_due, same_count, is_touched, touched_count}
 use Rattle.queue_core.specs.Spending.{event_adds, state_weight, queue_weight}
-use Rattle.queue_core.proofs.PairLemmas.{count_by-places}
 use Rattle.queue_core.proofs.SlotCountLemmas.{count_members}
-use Rattle.queue_core.proofs.FactLemmas.{Line, about, course-push, receives-push, numbered-number, numbered-place, numbered-below}
-use Rattle.queue_core.proofs.PushLemmas.{messages-push, begun_by}
+use Rattle.queue_core.proofs.FactLemmas.{Line, IsAbout, course-push, receives-push, numbered-place, numbered-below}
+use Rattle.queue_core.proofs.PushLemmas.{slice_get-prefix, messages-push, begun_by, count-push}
+use Rattle.queue_core.proofs.StandingCountLemmas.{numbers, weight_numbered, waiting_numbered, numbers_same, awaits_same, counted_same}
 
--- ---- sums over messages
+-- ---- sums over numbers
 
-sums : (f g h : Message → ℕ) (touched : Message → Bool) (ms : List Message)
-    → ((k : ℕ) (m : Message) → slice_get ms k ≡ Some m → f m + g m ≤ h m + 12 * one_if (touched m)) → sum_by f ms + sum_by g ms ≤ sum_by h ms + 12 * count_by touched ms
+sums : (f g h : ℕ → ℕ) (touched : ℕ → Bool) (ns : List ℕ) → ((n : ℕ) → f n + g n ≤ h n + 12 * one_if (touched n)) → sum_by f ns + sum_by g ns ≤ sum_by h ns + 12 * count_by touched ns
 sums f g h touched [] each = omega arith
-sums f g h touched (m ∷ ms) each =
-    let first : f m + g m ≤ h m + 12 * one_if (touched m) = each 0 m refl in
-    let rest : sum_by f ms + sum_by g ms ≤ sum_by h ms + 12 * count_by touched ms = sums f g h touched ms (λ k x is. each (suc k) x is) in
-    omega (arith, sum_by-cons f m ms, sum_by-cons g m ms, sum_by-cons h m ms, sum_by-cons (λ x. one_if (touched x)) m ms)
+sums f g h touched (n ∷ ns) each =
+    let first : f n + g n ≤ h n + 12 * one_if (touched n) = each n in
+    let rest : sum_by f ns + sum_by g ns ≤ sum_by h ns + 12 * count_by touched ns = sums f g h touched ns each in
+    omega (arith, sum_by-cons f n ns, sum_by-cons g n ns, sum_by-cons h n ns, sum_by-cons (λ x. one_if (touched x)) n ns)
 
-sum_times : (k : ℕ) (test : Message → Bool) (ms : List Message) → sum_by (λ m. k * one_if (test m)) ms ≡ k * count_by test ms
+sum_none : (ns : List ℕ) → sum_by (λ n. 0) ns ≡ 0
+sum_none [] = refl
+sum_none (n ∷ ns) = omega (arith, sum_by-cons (λ x. 0) n ns, sum_none ns)
+
+sum_times : (k : ℕ) (test : ℕ → Bool) (ns : List ℕ) → sum_by (λ n. k * one_if (test n)) ns ≡ k * count_by test ns
 sum_times k test [] = omega arith
-sum_times k test (m ∷ ms) =
-    let rest : sum_by (λ x. k * one_if (test x)) ms ≡ k * count_by test ms = sum_times k test ms in
-    let all : count_by test (m ∷ ms) ≡ one_if (test m) + count_by test ms = sum_by-cons (λ x. one_if (test x)) m ms in
-    let same : k * count_by test (m ∷ ms) ≡ k * (one_if (test m) + count_by test ms) = ap (λ (n : ℕ). k * n) all in
-    omega (arith, sum_by-cons (λ x. k * one_if (test x)) m ms, mul-add k (one_if (test m)) (count_by test ms))
+sum_times k test (n ∷ ns) =
+    let rest : sum_by (λ x. k * one_if (test x)) ns ≡ k * count_by test ns = sum_times k test ns in
+    let all : count_by test (n ∷ ns) ≡ one_if (test n) + count_by test ns = sum_by-cons (λ x. one_if (test x)) n ns in
+    let same : k * count_by test (n ∷ ns) ≡ k * (one_if (test n) + count_by test ns) = ap (λ (x : ℕ). k * x) all in
+    omega (arith, sum_by-cons (λ x. k * one_if (test x)) n ns, mul-add k (one_if (test n)) (count_by test ns))
+
+-- more numbers do not come to less
+sum_more : (f : ℕ → ℕ) (start few many : ℕ) → few ≤ many → sum_by f (range_with_len start few) ≤ sum_by f (range_with_len start many)
+sum_more f start zero many h = omega arith
+sum_more f start (suc few) zero h = absurd (omega arith)
+sum_more f start (suc few) (suc many) h =
+    omega (arith, sum_by-cons f start (range_with_len (start + 1) few), sum_by-cons f start (range_with_len (start + 1) many), sum_more f (start + 1) few many (omega arith))
 
 -- ---- the weight of a message
 
@@ -72,14 +84,13 @@ weight-by s t true h = let same = weight-same s t (h refl) in omega arith
 weight-by s t false h = omega (arith, weight-upto s)
 
 -- what is not touched weighs the same
-weight-touched : (q r : QueueHistory) (m : Message)
-    → state_weight (state_of q.lines q.clock m) ≤ state_weight (state_of r.lines r.clock m) + 12 * one_if (is_touched q r m)
-weight-touched q r m =
-    let standing = same_standing (state_of q.lines q.clock m) (state_of r.lines r.clock m) in
-    let waiting = alike (awaits_transfer q.lines m) (awaits_transfer r.lines m) in
-    let due = due_time q.lines m == due_time r.lines m in
-    let received = receive_count q.lines m.number == receive_count r.lines m.number in
-    weight-by (state_of q.lines q.clock m) (state_of r.lines r.clock m) (standing && waiting && due && received)
+weight-touched : (p r : QueueHistory) (n : ℕ) → state_weight (state_numbered p n) ≤ state_weight (state_numbered r n) + 12 * one_if (is_touched p r n)
+weight-touched p r n =
+    let standing = same_standing (state_numbered p n) (state_numbered r n) in
+    let waiting = alike (waits_numbered p n) (waits_numbered r n) in
+    let due = same_due (due_numbered p n) (due_numbered r n) in
+    let received = same_count (receive_count p.lines n) (receive_count r.lines n) in
+    weight-by (state_numbered p n) (state_numbered r n) (standing && waiting && due && received)
     (λ all. let rest = and_parts (standing && waiting && due) received all in (and_parts standing waiting (and_parts (standing && waiting) due rest.0).0).0)
 
 touched_by-waiting : (standing waiting due received : Bool) → waiting ≡ false → not (standing && waiting && due && received) ≡ true
@@ -88,71 +99,31 @@ touched_by-waiting standing waiting due received h = ap not (and_left (standing 
 touched_by-received : (standing waiting due received : Bool) → received ≡ false → not (standing && waiting && due && received) ≡ true
 touched_by-received standing waiting due received h = ap not (and_right (standing && waiting && due) received h)
 
--- ---- the passing of time
+-- ---- from a queue to another that has no fewer messages
 
-pub later-weight : (q : QueueHistory) (at : ℕ) → queue_weight q ≤ queue_weight (at_moment q at) + 12 * (touched_count q (at_moment q at) + 1)
-later-weight q at =
-    let r = at_moment q at in
-    let all = sums (λ m. state_weight (state_of q.lines q.clock m)) (λ m. 0) (λ m. state_weight (state_of r.lines r.clock m)) (λ m. is_touched q r m) (messages q.lines)
-    (λ k m is. omega (arith, weight-touched q r m)) in
-    omega arith
-
--- ---- an event
-
-abbrev line_of : ℕ → Event ContentText → Line
-line_of at event = record { at = at; event = event }
-
--- what begins is not lighter than nothing
-pushed-weight : (h : Message → ℕ) (lines : List Line) (e : Line) → sum_by h (messages lines) ≤ sum_by h (messages (lines ++ e ∷ []))
-pushed-weight h lines e =
-    let all = ap (λ (ms : List Message). sum_by h ms) (messages-push lines e) in
-    omega (arith, sum_by-append h (messages lines) (begun_by lines e))
-
-module _ (p : QueueHistory) (at : ℕ) (event : Event ContentText) where
-  abbrev added : QueueHistory
-  added = with_event (at_moment p at) event
-
-  abbrev before : Message → ℕ
-  before m = state_weight (state_of p.lines p.clock m)
-
-  abbrev after : Message → ℕ
-  after m = state_weight (state_of added.lines added.clock m)
-
-  added-sums : (adds : ℕ) (g : Message → ℕ) → adds ≤ sum_by g (messages p.lines) + 12
-      → ((k : ℕ) (m : Message) → slice_get (messages p.lines) k ≡ Some m → before m + g m ≤ after m + 12 * one_if (is_touched p added m))
-      → queue_weight p + adds ≤ queue_weight added + 12 * (touched_count p added + 1)
+module _ (p r : QueueHistory) (more : message_count p.lines ≤ message_count r.lines) where
+  added-sums : (adds : ℕ) (g : ℕ → ℕ) → adds ≤ sum_by g (numbers p) + 12
+      → ((n : ℕ) → state_weight (state_numbered p n) + g n ≤ state_weight (state_numbered r n) + 12 * one_if (is_touched p r n))
+      → queue_weight p + adds ≤ queue_weight r + 12 * (touched_count p r + 1)
   added-sums adds g few each =
-      let all = sums before g after (λ m. is_touched p added m) (messages p.lines) each in
-      let more = pushed-weight after p.lines (line_of (max p.clock at) event) in
-      omega arith
+      let all = sums (λ n. state_weight (state_numbered p n)) g (λ n. state_weight (state_numbered r n)) (λ n. is_touched p r n) (numbers p) each in
+      let begun = sum_more (λ n. state_weight (state_numbered r n)) 0 (message_count p.lines) (message_count r.lines) more in
+      omega (arith, weight_numbered p, weight_numbered r)
 
-  -- one that adds no more than twelve
-  added-few : (adds : ℕ) → adds ≤ 12 → queue_weight p + adds ≤ queue_weight added + 12 * (touched_count p added + 1)
-  added-few adds few = added-sums adds (λ m. 0) (omega arith) (λ k m is. omega (arith, weight-touched p added m))
+  -- what adds no more than twelve
+  added-few : (adds : ℕ) → adds ≤ 12 → queue_weight p + adds ≤ queue_weight r + 12 * (touched_count p r + 1)
+  added-few adds few = added-sums adds (λ n. 0) (omega arith) (λ n. omega (arith, weight-touched p r n))
+
+  -- as time passes, nothing is added
+  pub later-weight : queue_weight p ≤ queue_weight r + 12 * (touched_count p r + 1)
+  later-weight = omega (arith, added-few 0 (omega arith))
 
 -- ---- messages that are offered
 
-receive-differs : (n n' : ℕ) (b : Bool) → n' ≡ n + cond b 1 0 → b ≡ true → (n == n') ≡ false
-receive-differs n n' true h is = ne_eqb n n' (λ e. omega arith)
-receive-differs n n' false h is = absurd (false≢true is)
-
-module _ (p : QueueHistory) (at timeout : ℕ) (offered leaving : List ℕ) (target : ℕ) where
-  abbrev received : QueueHistory
-  received = with_event (at_moment p at) (Received timeout offered leaving target)
-
-  touched-offered : (m : Message) → contains_number m.number offered ≡ true → is_touched p received m ≡ true
-  touched-offered m h =
-      touched_by-received (same_standing (state_of p.lines p.clock m) (state_of received.lines received.clock m)) (alike (awaits_transfer p.lines m) (awaits_transfer received.lines m))
-      (due_time p.lines m == due_time received.lines m) (receive_count p.lines m.number == receive_count received.lines m.number)
-      (receive-differs (receive_count p.lines m.number) (receive_count received.lines m.number) (contains_number m.number offered)
-      (receives-push p.lines (line_of (max p.clock at) (Received timeout offered leaving target)) m.number) h)
-
-  offered-weight : (m : Message) (b : Bool) → contains_number m.number offered ≡ b
-      → state_weight (state_of p.lines p.clock m) + 6 * one_if b ≤ state_weight (state_of received.lines received.clock m) + 12 * one_if (is_touched p received m)
-  offered-weight m true h =
-      let touched : one_if (is_touched p received m) ≡ 1 = ap one_if (touched-offered m h) in
-      omega (arith, weight-upto (state_of p.lines p.clock m))
-  offered-weight m false h = omega (arith, weight-touched p received m)
+-- a receive makes another count, but where the count was as great as can be told, which is the same as none
+count-rises : (a b : ℕ) (offered : Bool) → b ≡ min (a + cond offered 1 0) greatest → offered ≡ true → same_count a b ≡ false
+count-rises a b true is h = grind (arith, nat_tests)
+count-rises a b false is h = absurd (false≢true h)
 
 and-true : (b : Bool) → b ≡ (b && true)
 and-true true = refl
@@ -162,34 +133,12 @@ count-all : (xs : List ℕ) → count_by (λ n. true) xs ≡ length xs
 count-all [] = refl
 count-all (x ∷ xs) = omega (arith, sum_by-cons (λ n. one_if true) x xs, count-all xs)
 
-module _ (lines : List Line) (offered : List ℕ) (test : Message → Bool) where
-  numbered-offered : (k : ℕ) (found : Option Message) → message_numbered lines k ≡ found → (contains_number k offered ≡ true → option_map_or test found false ≡ true)
-      → option_map_or (λ m. contains_number m.number offered) found false ≡ (contains_number k offered && true)
-  numbered-offered k None is there = sym (and_left (contains_number k offered) true (false_from_ne_true (contains_number k offered) (λ h. false≢true (there h))))
-  numbered-offered k (Some m) is there = ap (λ (n : ℕ). contains_number n offered) (numbered-number lines k m is) ∙ and-true (contains_number k offered)
+count-and_true : (test : ℕ → Bool) (ns : List ℕ) → count_by test ns ≡ count_by (λ n. test n && true) ns
+count-and_true test ns = λ i. count_by (λ n. and-true (test n) i) ns
 
-  numbered-within : (n : ℕ) (found : Option Message) → message_numbered lines n ≡ found → option_map_or test found false ≡ true → n < message_count lines
-  numbered-within n None is h = absurd (false≢true h)
-  numbered-within n (Some m) is h = numbered-below lines n m is
-
-  -- each of distinct numbers of messages is that of one
-  offered-count : AllPairs (λ a b. nat_eq a b ≡ false) offered → ((n : ℕ) → contains_number n offered ≡ true → is_numbered test lines n ≡ true)
-      → count_by (λ m. contains_number m.number offered) (messages lines) ≡ length offered
-  offered-count once there =
-      let from_first : (k : ℕ) → k ≡ 0 + k = λ k. omega arith in
-      count_by-places (λ m. contains_number m.number offered) (λ n. contains_number n offered && true) 0 (messages lines)
-      (λ k. numbered-offered k (message_numbered lines k) refl (there k) ∙ ap (λ (n : ℕ). contains_number n offered && true) (from_first k))
-      ∙ (count_members (λ n. true) offered (message_count lines) once (λ n h. numbered-within n (message_numbered lines n) refl (there n h)) ∙ count-all offered)
-
-added-received : (p : QueueHistory) (at timeout : ℕ) (offered leaving : List ℕ) (target : ℕ) → IsCausedIn (at_moment p at) (Received timeout offered leaving target)
-    → queue_weight p + 6 * length offered
-    ≤ queue_weight (with_event (at_moment p at) (Received timeout offered leaving target)) + 12 * (touched_count p (with_event (at_moment p at) (Received timeout offered leaving target)) + 1)
-added-received p at timeout offered leaving target caused =
-    let caused_by = about (at_moment p at) (Received timeout offered leaving target) caused in
-    let count = offered-count p.lines offered (λ m. is_in_state Visible p.lines (max p.clock at) m) caused_by.offered_once caused_by.offered in
-    let total = sum_times 6 (λ m. contains_number m.number offered) (messages p.lines) in
-    added-sums p at (Received timeout offered leaving target) (6 * length offered) (λ m. 6 * one_if (contains_number m.number offered)) (omega arith)
-    (λ k m is. offered-weight p at timeout offered leaving target m (contains_number m.number offered) refl)
+within : (lines : List Line) (test : Message → Bool) (n : ℕ) (found : Option Message) → message_numbered lines n ≡ found → option_map_or test found false ≡ true → n < message_count lines
+within lines test n None is h = absurd (false≢true h)
+within lines test n (Some m) is h = numbered-below lines n m is
 
 -- ---- messages that come back
 
@@ -199,11 +148,11 @@ status-awaits target Removed h = absurd (false≢true h)
 status-awaits target (Waiting own) h = refl
 status-awaits target Transferred h = absurd (false≢true h)
 
-status-gone : (target : ℕ) (status : Status) → is_waiting_status target status ≡ true → is_present_status status ≡ false
-status-gone target Present h = absurd (false≢true h)
-status-gone target Removed h = absurd (false≢true h)
-status-gone target (Waiting own) h = refl
-status-gone target Transferred h = absurd (false≢true h)
+status-gone : (status : Status) → awaits_status status ≡ true → is_present_status status ≡ false
+status-gone Present h = absurd (false≢true h)
+status-gone Removed h = absurd (false≢true h)
+status-gone (Waiting own) h = refl
+status-gone Transferred h = absurd (false≢true h)
 
 status-returned : (target number : ℕ) (status : Status) → is_waiting_status target status ≡ true → awaits_status (status_after {C = ContentText} number status (Orphaned target)) ≡ false
 status-returned target number Present h = absurd (false≢true h)
@@ -214,44 +163,124 @@ status-returned target number Transferred h = absurd (false≢true h)
 alike-differs : (x y : Bool) → x ≡ true → y ≡ false → alike x y ≡ false
 alike-differs x y h k = rw (h, k) refl
 
+-- what waits for a dead-letter queue weighs nothing
 weight-gone : (present expired : Bool) (s : MessageState) → present ≡ false → state_weight (cond (present && not expired) (Some s) None) ≡ 0
 weight-gone present expired s h = rw h refl
 
-module _ (p : QueueHistory) (at target : ℕ) where
-  abbrev orphaned : QueueHistory
-  orphaned = with_event (at_moment p at) (Orphaned target)
+weight-waiting : (p : QueueHistory) (found : Option Message) → option_map_or (λ m. awaits_transfer p.lines m) found false ≡ true
+    → state_weight (option_and_then (λ m. state_of p.lines p.clock m) found) ≡ 0
+weight-waiting p None h = absurd (false≢true h)
+weight-waiting p (Some m) h =
+    weight-gone (is_present_status (course_of p.lines m).status) (is_expired p.lines p.clock m) (waiting_state p.lines p.clock m) (status-gone (course_of p.lines m).status h)
 
-  touched-waiting : (k : ℕ) (m : Message) → message_numbered p.lines k ≡ Some m → waits_for p.lines target m ≡ true → is_touched p orphaned m ≡ true
-  touched-waiting k m is h =
-      let course = course-push p.lines (line_of (max p.clock at) (Orphaned target)) m (numbered-place p.lines k m is) in
-      touched_by-waiting (same_standing (state_of p.lines p.clock m) (state_of orphaned.lines orphaned.clock m)) (alike (awaits_transfer p.lines m) (awaits_transfer orphaned.lines m))
-      (due_time p.lines m == due_time orphaned.lines m) (receive_count p.lines m.number == receive_count orphaned.lines m.number)
-      (alike-differs (awaits_transfer p.lines m) (awaits_transfer orphaned.lines m) (status-awaits target (course_of p.lines m).status h)
-      (ap (λ (c : Course). awaits_status c.status) course ∙ status-returned target m.number (course_of p.lines m).status h))
+found-awaits : (lines : List Line) (target : ℕ) (found : Option Message) → option_map_or (λ m. waits_for lines target m) found false ≡ true → option_map_or (λ m. awaits_transfer lines m) found false ≡ true
+found-awaits lines target None h = absurd (false≢true h)
+found-awaits lines target (Some m) h = status-awaits target (course_of lines m).status h
 
-  waiting-weight : (k : ℕ) (m : Message) → message_numbered p.lines k ≡ Some m → (b : Bool) → waits_for p.lines target m ≡ b
-      → state_weight (state_of p.lines p.clock m) + 8 * one_if b ≤ state_weight (state_of orphaned.lines orphaned.clock m) + 12 * one_if (is_touched p orphaned m)
-  waiting-weight k m is true h =
-      let touched : one_if (is_touched p orphaned m) ≡ 1 = ap one_if (touched-waiting k m is h) in
-      let none : state_weight (state_of p.lines p.clock m) ≡ 0 =
-      weight-gone (is_present_status (course_of p.lines m).status) (is_expired p.lines p.clock m) (waiting_state p.lines p.clock m) (status-gone target (course_of p.lines m).status h) in
-      omega arith
-  waiting-weight k m is false h = omega (arith, weight-touched p orphaned m)
+-- ---- an event, in a queue that stands for another at a later moment
 
-  added-orphaned : queue_weight p + 8 * waiting_count p target ≤ queue_weight orphaned + 12 * (touched_count p orphaned + 1)
-  added-orphaned =
-      let total = sum_times 8 (λ m. waits_for p.lines target m) (messages p.lines) in
-      added-sums p at (Orphaned target) (8 * waiting_count p target) (λ m. 8 * one_if (waits_for p.lines target m)) (omega arith)
-      (λ k m is. waiting-weight k m is (waits_for p.lines target m) refl)
+abbrev line_of : ℕ → Event ContentText → Line
+line_of at event = record { at = at; event = event }
 
--- ---- every event
+module _ (p q : QueueHistory) (at : ℕ) (same : StandsFor q (at_moment p at)) where
+  numbers_are : message_count q.lines ≡ message_count p.lines
+  numbers_are = numbers_same q (at_moment p at) same
 
-pub added-weight : (p : QueueHistory) (at : ℕ) (event : Event ContentText) → IsCausedIn (at_moment p at) event
-    → queue_weight p + event_adds (λ target. waiting_count (at_moment p at) target) event
-    ≤ queue_weight (with_event (at_moment p at) event) + 12 * (touched_count p (with_event (at_moment p at) event) + 1)
-added-weight p at (Received timeout offered leaving target) caused = let adds = added-received p at timeout offered leaving target caused in omega arith
-added-weight p at (Orphaned target) caused = let adds = added-orphaned p at target in omega arith
-added-weight p at (Changed number timeout) caused = added-few p at (Changed number timeout) 6 (omega arith)
-added-weight p at (Sent delay content) caused = added-few p at (Sent delay content) 8 (omega arith)
-added-weight p at (Arrived origin content) caused = added-few p at (Arrived origin content) 8 (omega arith)
-added-weight p at event caused = added-few p at event 0 (omega arith)
+  module _ (event : Event ContentText) where
+    more_behind : message_count p.lines ≤ message_count (with_event q event).lines
+    more_behind = omega (arith, numbers_are, count-push q.lines (line_of q.clock event))
+
+    few-behind : (adds : ℕ) → adds ≤ 12 → queue_weight p + adds ≤ queue_weight (with_event q event) + 12 * (touched_count p (with_event q event) + 1)
+    few-behind adds few = added-few p (with_event q event) more_behind adds few
+
+  -- each message that is offered is touched
+  module _ (timeout : ℕ) (offered leaving : List ℕ) (target : ℕ) (about : IsAbout q (Received timeout offered leaving target)) where
+    abbrev received : QueueHistory
+    received = with_event q (Received timeout offered leaving target)
+
+    offered-below : (n : ℕ) → contains_number n offered ≡ true → n < message_count q.lines
+    offered-below n h = within q.lines (λ m. is_in_state Visible q.lines q.clock m) n (message_numbered q.lines n) refl (about.offered n h)
+
+    touched-offered : (n : ℕ) → contains_number n offered ≡ true → is_touched p received n ≡ true
+    touched-offered n h =
+        touched_by-received (same_standing (state_numbered p n) (state_numbered received n)) (alike (waits_numbered p n) (waits_numbered received n))
+        (same_due (due_numbered p n) (due_numbered received n)) (same_count (receive_count p.lines n) (receive_count received.lines n))
+        (count-rises (receive_count p.lines n) (receive_count received.lines n) (contains_number n offered)
+        (receives-push q.lines (line_of q.clock (Received timeout offered leaving target)) n refl
+        ∙ ap (λ (k : ℕ). min (k + cond (contains_number n offered) 1 0) greatest) (counted_same q (at_moment p at) same n (offered-below n h)))
+        h)
+
+    offered-weight : (n : ℕ) (b : Bool) → contains_number n offered ≡ b
+        → state_weight (state_numbered p n) + 6 * one_if b ≤ state_weight (state_numbered received n) + 12 * one_if (is_touched p received n)
+    offered-weight n true h =
+        let touched : one_if (is_touched p received n) ≡ 1 = ap one_if (touched-offered n h) in
+        omega (arith, weight-upto (state_numbered p n))
+    offered-weight n false h = omega (arith, weight-touched p received n)
+
+    -- each of distinct numbers of messages is one of all numbers
+    offered-count : count_by (λ n. contains_number n offered) (numbers p) ≡ length offered
+    offered-count =
+        count-and_true (λ n. contains_number n offered) (numbers p)
+        ∙ count_members (λ n. true) offered (message_count p.lines) about.offered_once
+        (λ n h. omega (arith, numbers_are, offered-below n h))
+        ∙ count-all offered
+
+    added-received : queue_weight p + 6 * length offered ≤ queue_weight received + 12 * (touched_count p received + 1)
+    added-received =
+        let total = sum_times 6 (λ n. contains_number n offered) (numbers p) in
+        added-sums p received (more_behind (Received timeout offered leaving target)) (6 * length offered) (λ n. 6 * one_if (contains_number n offered)) (omega (arith, total, offered-count))
+        (λ n. offered-weight n (contains_number n offered) refl)
+
+  -- and so is each that comes back, which weighed nothing
+  module _ (target : ℕ) where
+    abbrev orphaned : QueueHistory
+    orphaned = with_event q (Orphaned target)
+
+    abbrev waits : ℕ → Bool
+    waits n = is_numbered (λ m. waits_for q.lines target m) q.lines n
+
+    waited : (n : ℕ) → waits n ≡ true → waits_numbered p n ≡ true
+    waited n h = sym (awaits_same q (at_moment p at) same n) ∙ found-awaits q.lines target (message_numbered q.lines n) h
+
+    returned : (n : ℕ) → waits n ≡ true → waits_numbered orphaned n ≡ false
+    returned n h = by_message (message_numbered q.lines n) refl h
+      where
+        by_message : (found : Option Message) → message_numbered q.lines n ≡ found → option_map_or (λ m. waits_for q.lines target m) found false ≡ true → waits_numbered orphaned n ≡ false
+        by_message None is h = absurd (false≢true h)
+        by_message (Some m) is h =
+            let e : Line = line_of q.clock (Orphaned target) in
+            let there : message_numbered orphaned.lines n ≡ Some m =
+            ap (λ (ms : List Message). slice_get ms n) (messages-push q.lines e) ∙ slice_get-prefix (messages q.lines) (begun_by q.lines e) n m is in
+            ap (λ (found : Option Message). option_map_or (λ m. awaits_transfer orphaned.lines m) found false) there
+            ∙ ap (λ (c : Course). awaits_status c.status) (course-push q.lines e m (numbered-place q.lines n m is))
+            ∙ status-returned target m.number (course_of q.lines m).status h
+
+    waiting-weight : (n : ℕ) (b : Bool) → waits n ≡ b → state_weight (state_numbered p n) + 8 * one_if b ≤ state_weight (state_numbered orphaned n) + 12 * one_if (is_touched p orphaned n)
+    waiting-weight n true h =
+        let touched : one_if (is_touched p orphaned n) ≡ 1 =
+        ap one_if
+        (touched_by-waiting (same_standing (state_numbered p n) (state_numbered orphaned n)) (alike (waits_numbered p n) (waits_numbered orphaned n))
+        (same_due (due_numbered p n) (due_numbered orphaned n)) (same_count (receive_count p.lines n) (receive_count orphaned.lines n))
+        (alike-differs (waits_numbered p n) (waits_numbered orphaned n) (waited n h) (returned n h))) in
+        let none : state_weight (state_numbered p n) ≡ 0 = weight-waiting p (message_numbered p.lines n) (waited n h) in
+        omega arith
+    waiting-weight n false h = omega (arith, weight-touched p orphaned n)
+
+    added-orphaned : queue_weight p + 8 * waiting_count q target ≤ queue_weight orphaned + 12 * (touched_count p orphaned + 1)
+    added-orphaned =
+        let total = sum_times 8 waits (numbers p) in
+        let all : count_by waits (numbers q) ≡ count_by waits (numbers p) = ap (λ (count : ℕ). count_by waits (range_with_len 0 count)) numbers_are in
+        added-sums p orphaned (more_behind (Orphaned target)) (8 * waiting_count q target) (λ n. 8 * one_if (waits n)) (omega (arith, total, all, waiting_numbered q target))
+        (λ n. waiting-weight n (waits n) refl)
+
+  -- ---- every event
+
+  pub added-weight : (event : Event ContentText) → IsAbout q event
+      → queue_weight p + event_adds (λ target. waiting_count q target) event ≤ queue_weight (with_event q event) + 12 * (touched_count p (with_event q event) + 1)
+  added-weight (Received timeout offered leaving target) about = omega (arith, added-received timeout offered leaving target about)
+  added-weight (Orphaned target) about = omega (arith, added-orphaned target)
+  added-weight (Changed number timeout) about = few-behind (Changed number timeout) 6 (omega arith)
+  added-weight (Sent delay content) about = few-behind (Sent delay content) 8 (omega arith)
+  added-weight (Arrived origin content) about = few-behind (Arrived origin content) 8 (omega arith)
+  added-weight (Base base) about = let alone = about.alone in absurd cc
+  added-weight event about = few-behind event 0 (omega arith)

@@ -30,16 +30,19 @@ use Rattle.alarm.specs.KeptAlarm.{KeptAlarm, new_alarm, with_minute, kept_state}
 use Rattle.alarm.proofs.KeptLemmas.{is_breach, judged-more, kept-map, state-kept}
 use Rattle.queue_core.specs.declared.index.MessageIndex.{MessageIndex}
 use Rattle.queue_core.specs.declared.watch.Watch.{Watch}
-use Rattle.queue_core.specs.Messages.{opens, created_time}
+use Rattle.queue_core.specs.Messages.{created_time}
 use Rattle.queue_core.specs.States.{gauges_of}
 use Rattle.queue_core.specs.Metrics.{minute_end, entries_until, metric_row, row_of, complete_minutes, alarm_state_in}
 use Rattle.queue_core.specs.Queue.{QueueHistory}
-use Rattle.queue_core.specs.Legal.{IsOrdered, IsLegal}
+use Rattle.queue_core.specs.Legal.{IsOrdered}
 use Rattle.queue_core.specs.Indexed.{IsIndexOf}
 use Rattle.queue_core.specs.Watched.{rows_from, first_shown, rows_before, told_alarm, IsWatchAt, IsPassing}
 use Rattle.queue_core.proofs.MarkLemmas.{map_agree}
-use Rattle.queue_core.proofs.MetricLemmas.{row-parts, not_after, metric_row-later}
-use Rattle.queue_core.proofs.TallyLemmas.{created_time-push}
+use Rattle.queue_core.proofs.MetricLemmas.{row-parts, metric_row-later}
+use Rattle.queue_core.proofs.LegalLemmas.{not_after}
+use Rattle.queue_core.proofs.Scans.{StandsAlone}
+use Rattle.queue_core.proofs.RowLemmas.{metric_row-minute}
+use Rattle.queue_core.proofs.SoundLemmas.{IsSound, row-told_now, created_time-push}
 use Rattle.queue_core.proofs.WindowLemmas.{last_of_window}
 
 -- ---- lists
@@ -109,21 +112,10 @@ none-in from clock minute (e ∷ es) h late =
     let other : eqb (minute_of e.at) minute ≡ false = grind (arith, nat_tests) in
     rw other (none-in e.at clock minute es h.1 late)
 
-pub flows-none : (q : QueueHistory) (minute : ℕ) → IsLegal q → q.clock < 60000 * minute → minute_flows content_size q.lines minute ≡ no_flows
-flows-none q minute legal late =
-    ap (λ (es : List (Entry ContentText)). capped (flows_total content_size es)) (none-in 0 q.clock minute q.lines legal.ordered late)
+pub flows-none : (q : QueueHistory) (minute : ℕ) → IsSound q.lines q.clock → q.clock < 60000 * minute → minute_flows content_size q.lines minute ≡ no_flows
+flows-none q minute sound late =
+    ap (λ (es : List (Entry ContentText)). capped (flows_total content_size es)) (none-in 0 q.clock minute q.lines sound.ordered late)
     ∙ minute_flows-none content_size minute
-
-early_or : (opens : Bool) (at rest clock : ℕ) → at ≤ clock → rest ≤ clock → cond opens at rest ≤ clock
-early_or true at rest clock h k = h
-early_or false at rest clock h k = k
-
-created_early : (from clock : ℕ) (lines : List (Entry ContentText)) → IsOrdered from lines clock → created_time lines ≤ clock
-created_early from clock [] h = omega arith
-created_early from clock (e ∷ es) h = early_or (opens e.event) e.at (created_time es) clock (not_after e.at clock es h.1) (created_early e.at clock es h.1)
-
-pub early_of : (q : QueueHistory) → IsLegal q → created_time q.lines ≤ q.clock
-early_of q legal = created_early 0 q.clock q.lines legal.ordered
 
 -- the watch is that of the queue that contracts see
 pub watch_of : (p q : QueueHistory) (w : Watch) → p ≡ q → IsWatchAt p.lines (minute_of p.clock) p.rules w → IsWatchAt q.lines (minute_of q.clock) q.rules w
@@ -196,7 +188,7 @@ watch-opened at uid settings rules w window alarms allowed =
       allowed = allowed;
     }
 
-module _ (q : QueueHistory) (event : Event ContentText) (legal : IsLegal q) where
+module _ (q : QueueHistory) (event : Event ContentText) (sound : IsSound q.lines q.clock) (alone : StandsAlone event) where
   abbrev entry : Entry ContentText
   entry = record { at = q.clock; event = event }
 
@@ -207,13 +199,13 @@ module _ (q : QueueHistory) (event : Event ContentText) (legal : IsLegal q) wher
   present = minute_of q.clock
 
   first-same : first_shown more present ≡ first_shown q.lines present
-  first-same = ap (λ (created : ℕ). max (minute_of created) (present - longest_window)) (created_time-push q q.lines entry legal.caused)
+  first-same = ap (λ (created : ℕ). max (minute_of created) (present - longest_window)) (created_time-push q.lines entry sound.begun)
 
   pub rows-same : rows_before more present ≡ rows_before q.lines present
   rows-same =
       ap (λ (first : ℕ). rows_from more first (present - first)) first-same
       ∙ range-alike (λ m. metric_row content_size more m) (λ m. metric_row content_size q.lines m) (first_shown q.lines present) (present - first_shown q.lines present)
-      (λ m low high. metric_row-later content_size q.lines entry m (omega arith))
+      (λ m low high. metric_row-later content_size q.lines entry m alone (omega arith))
 
   pub watch-pushed : (rules : List Rule) (w v : Watch) → IsWatchAt q.lines present rules w
       → v.window ≡ record w.window { current = capped (added w.window.current (flows_of content_size event)) } → v.alarms ≡ w.alarms → IsWatchAt more present rules v
@@ -231,7 +223,7 @@ module _ (q : QueueHistory) (event : Event ContentText) (legal : IsLegal q) wher
 
 -- ---- minutes that end
 
-module _ (q : QueueHistory) (legal : IsLegal q) (first : ℕ) (before : List Row) where
+module _ (q : QueueHistory) (sound : IsSound q.lines q.clock) (first : ℕ) (before : List Row) where
   abbrev until : ℕ → List Row
   until minute = rows_from q.lines first (minute - first)
 
@@ -245,7 +237,8 @@ module _ (q : QueueHistory) (legal : IsLegal q) (first : ℕ) (before : List Row
       → current_row w gauges ≡ metric_row content_size q.lines w.minute
   ended-row w gauges late current counted =
       row-parts w.minute w.current (minute_flows content_size q.lines w.minute) gauges (gauges_of (entries_until q.lines w.minute) (minute_end w.minute - 1)) current
-      (counted ∙ ap (λ (es : List (Entry ContentText)). gauges_of es (minute_end w.minute - 1)) (sym (all-before 0 q.clock (minute_end w.minute) q.lines legal.ordered late)))
+      (counted ∙ ap (λ (es : List (Entry ContentText)). gauges_of es (minute_end w.minute - 1)) (sym (all-before 0 q.clock (minute_end w.minute) q.lines sound.ordered late)))
+      ∙ sym (row-told_now q.lines q.clock w.minute sound (omega (arith, late)))
 
   pub minute-ended : (x y : MessageIndex) (w v : Watch) (gauges : Gauges) → IsPassing q first before x w → IsIndexOf q.lines (minute_end w.window.minute - 1) y → w.window.minute < greatest
       → gauges ≡ gauges_of q.lines (minute_end w.window.minute - 1) → v.window ≡ with_closed w.window gauges → v.alarms.items ≡ map (λ alarm. with_minute alarm (current_row w.window gauges)) w.alarms.items
@@ -271,7 +264,7 @@ module _ (q : QueueHistory) (legal : IsLegal q) (first : ℕ) (before : List Row
             ∙ ap (λ (r : Row). keep_last longest_window (until minute ++ r ∷ [])) row
             ∙ ap (keep_last longest_window) (until-more minute is.begun)
             ∙ ap (λ (m : ℕ). keep_last longest_window (until m)) (sym next);
-        current = ap (λ k. k.current) closed ∙ sym (flows-none q v.window.minute legal (omega (arith, next, late)));
+        current = ap (λ k. k.current) closed ∙ sym (flows-none q v.window.minute sound (omega (arith, next, late)));
         alarms =
             alarms
             ∙ ap (map (λ alarm. with_minute alarm (current_row w.window gauges))) is.alarms
@@ -306,9 +299,9 @@ module _ (q : QueueHistory) (legal : IsLegal q) (first : ℕ) (before : List Row
 
 -- ---- the clock moves
 
-module _ (q : QueueHistory) (legal : IsLegal q) (x : MessageIndex) (w : Watch) (index : IsIndexOf q.lines q.clock x) (is : IsWatchAt q.lines (minute_of q.clock) q.rules w) where
+module _ (q : QueueHistory) (sound : IsSound q.lines q.clock) (x : MessageIndex) (w : Watch) (index : IsIndexOf q.lines q.clock x) (is : IsWatchAt q.lines (minute_of q.clock) q.rules w) where
   created-before : minute_of (created_time q.lines) ≤ minute_of q.clock
-  created-before = let early = early_of q legal in omega arith
+  created-before = let early = sound.early in omega arith
 
   -- minute by minute
   pub passing-from : IsPassing q (first_shown q.lines (minute_of q.clock)) [] x w
@@ -331,7 +324,7 @@ module _ (q : QueueHistory) (legal : IsLegal q) (x : MessageIndex) (w : Watch) (
       → IsWatchAt q.lines present q.rules v
   watch-passed present y v later passing here =
       let created = created-before in
-      passing-done q legal (first_shown q.lines (minute_of q.clock)) [] present y v passing here is.allowed (omega (arith, created)) (λ n few. refl)
+      passing-done q sound (first_shown q.lines (minute_of q.clock)) [] present y v passing here is.allowed (omega (arith, created)) (λ n few. refl)
 
   -- behind a jump
   pub passing-behind : (minute : ℕ) (v : Watch) → minute_of q.clock < minute → v.window ≡ opened_at minute → v.alarms ≡ w.alarms → IsPassing q minute (rows_before q.lines (minute_of q.clock)) x v
@@ -346,7 +339,7 @@ module _ (q : QueueHistory) (legal : IsLegal q) (x : MessageIndex) (w : Watch) (
         index = index;
         begun = omega (arith, here);
         rows = ap (λ k. k.rows) window ∙ kept-none longest_window ∙ ap (λ (n : ℕ). keep_last longest_window (rows_from q.lines minute n)) (sym none);
-        current = ap (λ k. k.current) window ∙ sym (flows-none q v.window.minute legal (omega (arith, here)));
+        current = ap (λ k. k.current) window ∙ sym (flows-none q v.window.minute sound (omega (arith, here)));
         alarms =
             ap (λ a. a.items) alarms ∙ is.alarms
             ∙ ap (λ (rs : List Row). map (told_alarm rs) q.rules) (sym (append-nil (rows_before q.lines (minute_of q.clock))))
@@ -359,7 +352,7 @@ module _ (q : QueueHistory) (legal : IsLegal q) (x : MessageIndex) (w : Watch) (
       let created = created-before in
       let size : length (rows_from q.lines (present - longest_window) (present - (present - longest_window))) ≡ present - (present - longest_window) =
       length-map-range_with_len (λ m. metric_row content_size q.lines m) (present - longest_window) (present - (present - longest_window)) in
-      passing-done q legal (present - longest_window) (rows_before q.lines (minute_of q.clock)) present y v passing here is.allowed (omega (arith, created))
+      passing-done q sound (present - longest_window) (rows_before q.lines (minute_of q.clock)) present y v passing here is.allowed (omega (arith, created))
       (λ n few. keep_last-behind n (rows_before q.lines (minute_of q.clock)) (rows_from q.lines (present - longest_window) (present - (present - longest_window))) (omega arith))
 
 -- ---- what is read off
@@ -389,7 +382,7 @@ module _ (lines : List (Entry ContentText)) (clock : ℕ) (rules : List Rule) (w
       let first : ℕ = first_shown lines (minute_of clock) in
       let end : first + (minute_of clock - first) ≡ minute_of clock = omega arith in
       ap (λ (rs : List Row). row_in rs minute) is.rows
-      ∙ row_in-from (λ m. metric_row content_size lines m) (λ m. refl) first (minute_of clock - first) minute
+      ∙ row_in-from (λ m. metric_row content_size lines m) (λ m. metric_row-minute content_size lines m) first (minute_of clock - first) minute
       ∙ ap (λ (n : ℕ). cond (nat_le first minute && nat_lt minute n) (Some (metric_row content_size lines minute)) None) end
 
   pub states-told : map (λ alarm. kept_state alarm) w.alarms.items ≡ map (λ rule. alarm_state_in content_size lines clock rule) rules

@@ -1,5 +1,5 @@
 -- The rows that an alarm looks at are rows of the window.
-use Rattle.std.proofs.Common.{◌≡◌, ℕ, zero, suc, ◌+◌, ◌-◌, ◌<◌, ◌≤◌, Bool, true, cond, List, [], map, drop, length, Some, None, refl, sym, ap, ◌∙◌, arith}
+use Rattle.std.proofs.Common.{◌≡◌, ℕ, zero, suc, ◌+◌, ◌-◌, ◌<◌, ◌≤◌, Bool, true, cond, List, [], map, drop, length, Some, None, refl, sym, ap, subst, ◌∙◌, arith}
 use Rattle.std.specs.List.{All, range_with_len}
 use Rattle.std.proofs.lemmas.List.{drop_all, drop-map}
 use Rattle.std.proofs.lemmas.List.Elements.{All-nil, All-cons, All-map}
@@ -12,6 +12,7 @@ use Rattle.metric_window.specs.declared.row.Row.{Row}
 use Rattle.metric_window.specs.Window.{window_start, window_end, is_in_window}
 use Rattle.queue_core.specs.Messages.{created_time}
 use Rattle.queue_core.specs.Metrics.{metric_row, row_of, window_rows, complete_minutes, last_rows}
+use Rattle.queue_core.proofs.RowLemmas.{metric_row-minute}
 
 -- ---- numbers one after another
 
@@ -78,5 +79,6 @@ module _ (lines : List (Entry ContentText)) (clock : ℕ) where
       → All (λ r. row_of content_size lines clock r.minute ≡ Some r) (last_rows content_size lines clock rule.minutes)
   last_shown rule few over =
       All-map (λ (r : Row). row_of content_size lines clock r.minute ≡ Some r) row (range_with_len (window_end clock - rule.minutes) rule.minutes)
-      (all-range (λ m. row_of content_size lines clock m ≡ Some (row m)) (window_end clock - rule.minutes) rule.minutes
-      (λ m low high. shown-if (is_in_window (created_time lines) clock m) (row m) (in_window rule.minutes m few over low high)))
+      (all-range (λ m. row_of content_size lines clock (row m).minute ≡ Some (row m)) (window_end clock - rule.minutes) rule.minutes
+      (λ m low high.
+      subst (λ (k : ℕ). row_of content_size lines clock k ≡ Some (row m)) (sym (metric_row-minute content_size lines m)) (shown-if (is_in_window (created_time lines) clock m) (row m) (in_window rule.minutes m few over low high))))

@@ -4,7 +4,7 @@ use Rattle.indexmap.specs.IndexSet.{contains_by}
 use Rattle.journal.specs.declared.entry.Entry.{Entry}
 use Rattle.queue_core.specs.Messages.{effect_of}
 use Rattle.queue_core.specs.declared.accepted.Accepted.{Accepted}
-use Rattle.queue_core.specs.declared.accepted.TransferKey.{TransferKey}
+use Rattle.journal.specs.declared.base.TransferKey.{TransferKey}
 
 -- the transfer of the message of a number from the queue of a uid is among them
 abbrev pub holds : Accepted → ℕ → ℕ → Bool

@@ -1,40 +1,45 @@
 -- What an event has to be about in an index of messages, and what it does to the index.
-use Rattle.std.specs.Prelude.{◌≡◌, ℕ, ◌+◌, ◌<◌, ◌≤◌, ◌^◌, ◌||◌, ◌==◌, nat_eq, Bool, true, false, if◌then◌else◌, List, length, slice_index, Option, Some, None, option_and_then}
+use Rattle.std.specs.Prelude.{◌≡◌, ℕ, ◌+◌, ◌<◌, ◌≤◌, ◌||◌, ◌==◌, min, nat_eq, Bool, true, false, if◌then◌else◌, List, length, slice_index, Option, Some, None, option_and_then}
 use Rattle.std.specs.List.{AllPairs}
 use Rattle.std.specs.VecDeque.{deque_capacity}
 use Rattle.message.specs.Content.{ContentText}
 use Rattle.journal.specs.declared.entry.Event.{Event}
+use Rattle.metric_window.specs.Flows.{greatest}
 use Rattle.queue_core.specs.Messages.{effect_of, contains_number, offers_number}
 use Rattle.queue_core.specs.declared.slot.Stay.{Stay}
 use Rattle.queue_core.specs.declared.slot.Stay.TheVariants.{Hidden, Shown, Left}
 use Rattle.queue_core.specs.declared.record.Record.{Record}
 use Rattle.queue_core.specs.declared.index.MessageIndex.{MessageIndex}
-use Rattle.queue_core.specs.Slots.{is_here, one_if}
+use Rattle.queue_core.specs.Slots.{is_here}
 use Rattle.queue_core.specs.Tally.{births}
 use Rattle.queue_core.specs.Records.{records_in, slots_in, with_stay, back_at, is_left_record, has_run_out, HasIndices}
 
 -- ---- an event
 
--- what an event is about is there, each once, and there is room for what it counts and for what leaves
+-- what an event is about is there, each once, it is no checkpoint, and there is room for what leaves
 pub record CanApply (event : Event ContentText) (x : MessageIndex) : Type 0 where
   pub offered : (n : ℕ) → offers_number n event ≡ true → is_here (slots_in x n) ≡ true
   pub departing : (n : ℕ) → contains_number n (effect_of event).departures ≡ true → is_here (slots_in x n) ≡ true
   pub apart : (n : ℕ) → offers_number n event ≡ true → contains_number n (effect_of event).departures ≡ false
   pub departing_once : AllPairs (λ a b. nat_eq a b ≡ false) (effect_of event).departures
   pub offered_once : AllPairs (λ a b. nat_eq a b ≡ false) (effect_of event).offered
-  pub few_receives : (n : ℕ) → slice_index x.receives.items n < 2 ^ 31
+  pub alone : (effect_of event).since ≡ None
   pub room : length x.leaving.items + length (effect_of event).departures ≤ deque_capacity x.leaving
+
+-- a count of receives after one more, where it is one of those that are counted: up to the greatest number that is shown
+abbrev pub counted_if : Bool → ℕ → ℕ
+counted_if counts count = if counts then min (count + 1) greatest else count
 
 -- each message that is offered was received once more, and one that begins never
 pub record HaveReceived (event : Event ContentText) (old new : List ℕ) : Type 0 where
   pub len : length new ≡ length old + births event
-  pub counts : (n : ℕ) → n < length old → slice_index new n ≡ slice_index old n + one_if (offers_number n event)
+  pub counts : (n : ℕ) → n < length old → slice_index new n ≡ counted_if (offers_number n event) (slice_index old n)
   pub begun : (n : ℕ) → length old ≤ n → slice_index new n ≡ 0
 
 -- each of these numbers was counted once more
 pub record HaveCounted (numbers old new : List ℕ) : Type 0 where
   pub len : length new ≡ length old
-  pub counts : (n : ℕ) → n < length old → slice_index new n ≡ slice_index old n + one_if (contains_number n numbers)
+  pub counts : (n : ℕ) → n < length old → slice_index new n ≡ counted_if (contains_number n numbers) (slice_index old n)
 
 -- ---- changes of records
 

@@ -1,22 +1,18 @@
 -- How many operations a call may cost: comparisons of two pairs of a moment and a number, and journal lines read (this project's own).
-use Rattle.std.specs.Prelude.{ℕ, ◌+◌, ◌*◌, ◌==◌, ◌&&◌, ◌||◌, not, Bool, true, false, List, [], ◌∷◌, length, count_by, Option, Some, None, Result}
+use Rattle.std.specs.Prelude.{ℕ, ◌+◌, ◌*◌, ◌==◌, ◌&&◌, ◌||◌, not, nat_lt, Bool, true, false, if◌then◌else◌, List, [], ◌∷◌, length, count_by, Option, Some, None, option_and_then, Result}
+use Rattle.std.specs.List.{range_with_len}
 use Rattle.std.specs.Int.Digits.{digits_of}
 use Rattle.message.specs.declared.fault.Fault.{Fault}
-use Rattle.journal.specs.declared.entry.Entry.{Entry}
+use Rattle.metric_window.specs.Flows.{greatest}
 use Rattle.queue_core.specs.declared.command.Step.{Step}
 use Rattle.queue_core.specs.declared.reply.Reply.{Reply}
-use Rattle.queue_core.specs.declared.facts.Message.{Message}
 use Rattle.queue_core.specs.declared.facts.MessageState.{MessageState}
-use Rattle.queue_core.specs.Messages.{messages, awaits_transfer, due_time, receive_count}
-use Rattle.queue_core.specs.States.{is_live, state_of, same_state}
+use Rattle.queue_core.specs.Messages.{message_count, awaits_transfer, due_time, receive_count}
+use Rattle.queue_core.specs.States.{kept_count, is_live, state_of, same_state, message_numbered, is_numbered}
 use Rattle.queue_core.specs.Queue.{QueueHistory, after_answer}
 
 abbrev pub binary_digits : ℕ → ℕ
 binary_digits n = length (digits_of 2 n)
-
--- the messages that are live, and those that wait for a dead-letter queue
-abbrev pub kept_count : {C : Type 0} → List (Entry C) → ℕ → ℕ
-kept_count lines clock = count_by (λ m. is_live lines clock m || awaits_transfer lines m) (messages lines)
 
 -- visible, delayed or in flight alike, or neither live
 abbrev pub same_standing : Option MessageState → Option MessageState → Bool
@@ -30,17 +26,41 @@ abbrev pub alike : Bool → Bool → Bool
 alike true b = b
 alike false b = not b
 
--- whether a message's state, the time at which it is due or the count of its receives differs between two queues; waiting for a
+-- the state of the message of a number, where it is live
+abbrev pub state_numbered : QueueHistory → ℕ → Option MessageState
+state_numbered q number = option_and_then (λ m. state_of q.lines q.clock m) (message_numbered q.lines number)
+
+-- whether it waits for a dead-letter queue
+abbrev pub waits_numbered : QueueHistory → ℕ → Bool
+waits_numbered q number = is_numbered (λ m. awaits_transfer q.lines m) q.lines number
+
+-- when it is due, where it is live or waits
+abbrev pub due_numbered : QueueHistory → ℕ → Option ℕ
+due_numbered q number =
+    option_and_then (λ m. if is_live q.lines q.clock m || awaits_transfer q.lines m then Some (due_time q.lines m) else None) (message_numbered q.lines number)
+
+-- at the same time, or neither due
+abbrev pub same_due : Option ℕ → Option ℕ → Bool
+same_due None None = true
+same_due None (Some b) = false
+same_due (Some a) None = false
+same_due (Some a) (Some b) = a == b
+
+-- the same number of receives, which the next receive would change: one that is as great as can be told is none
+abbrev pub same_count : ℕ → ℕ → Bool
+same_count a b = (a == b) && nat_lt a greatest
+
+-- whether the state of the message of a number, the time at which it is due or the count of its receives differs between two queues; waiting for a
 -- dead-letter queue is a state too, and so is being gone
-abbrev pub is_touched : QueueHistory → QueueHistory → Message → Bool
-is_touched q r m = not (same_standing (state_of q.lines q.clock m) (state_of r.lines r.clock m)
-    && alike (awaits_transfer q.lines m) (awaits_transfer r.lines m)
-    && (due_time q.lines m == due_time r.lines m)
-    && (receive_count q.lines m.number == receive_count r.lines m.number))
+abbrev pub is_touched : QueueHistory → QueueHistory → ℕ → Bool
+is_touched q r number = not (same_standing (state_numbered q number) (state_numbered r number)
+    && alike (waits_numbered q number) (waits_numbered r number)
+    && same_due (due_numbered q number) (due_numbered r number)
+    && same_count (receive_count q.lines number) (receive_count r.lines number))
 
 -- how many of the messages that a queue had are touched by what makes another queue of it; those that begin are not among them
 abbrev pub touched_count : QueueHistory → QueueHistory → ℕ
-touched_count q r = count_by (λ m. is_touched q r m) (messages q.lines)
+touched_count q r = count_by (λ number. is_touched q r number) (range_with_len 0 (message_count q.lines))
 
 -- the most that a call may cost which makes another queue of one: the one in (w + 1) pays for a message that begins, or a change that leaves its message as it was
 abbrev pub most_ticks : QueueHistory → QueueHistory → ℕ

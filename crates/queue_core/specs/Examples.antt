@@ -1,5 +1,5 @@
 -- Small journals, each named for what happened in it, and queues that have them. Times are in milliseconds; delays, timeouts and retentions in seconds.
-use Rattle.std.specs.Prelude.{ℕ, List, [], ◌∷◌, ◌++◌, false, map, replicate, Some, None, Ok, Err}
+use Rattle.std.specs.Prelude.{ℕ, List, [], ◌∷◌, ◌++◌, true, false, map, replicate, Some, None, Ok, Err}
 use Rattle.message.specs.declared.fault.Fault.TheVariants.{InvalidParameterValue, ReceiptHandleIsInvalid, MessageNotInflight, OutOfMemory}
 use Rattle.message.specs.Content.{ContentText}
 use Rattle.queue_config.specs.Limits.{QueueLimits, default_limits}
@@ -7,19 +7,25 @@ use Rattle.queue_config.specs.Settings.{QueueSettings, default_settings, Request
 use Rattle.receipt_handle.specs.declared.handle.Handle.{Handle}
 use Rattle.journal.specs.declared.entry.Entry.{Entry}
 use Rattle.journal.specs.declared.entry.Event.{Event}
-use Rattle.journal.specs.declared.entry.Event.TheVariants.{Opened, Sent, Arrived, Received, Changed, Deleted, DeletedAgain, Purged, Set, Orphaned, Refused}
+use Rattle.journal.specs.declared.entry.Event.TheVariants.{Opened, Sent, Arrived, Received, Changed, Deleted, DeletedAgain, Purged, Set, Orphaned, Refused, Base}
 use Rattle.journal.specs.declared.entry.Origin.{Origin}
+use Rattle.journal.specs.declared.base.KeptMessage.{KeptMessage}
+use Rattle.journal.specs.declared.base.KeptFlows.{KeptFlows}
+use Rattle.journal.specs.declared.base.KeptRow.{KeptRow}
+use Rattle.journal.specs.Base.{BaseOf}
 use Rattle.queue_core.specs.declared.facts.Message.{Message}
+use Rattle.queue_core.specs.declared.facts.Status.TheVariants.{Present}
 use Rattle.queue_core.specs.declared.facts.MessageState.TheVariants.{Visible, Delayed, InFlight}
 use Rattle.queue_core.specs.declared.offers.Offer.{Offer}
 use Rattle.queue_core.specs.declared.parcel.Parcel.{Parcel}
 use Rattle.queue_core.specs.declared.command.Command.{Command}
+use Rattle.queue_core.specs.declared.command.Command.TheVariants.{Send, Settle, Orphan}
 use Rattle.queue_core.specs.declared.command.Step.{Step}
 use Rattle.queue_core.specs.declared.reply.Reply.{Reply}
 use Rattle.queue_core.specs.declared.reply.Reply.TheVariants as replies
 use Rattle.queue_core.specs.declared.reply.Look as look
 use Rattle.queue_core.specs.States.{count_in_state}
-use Rattle.queue_core.specs.Queue.{QueueHistory, Outcome, at_moment, outcome_at, with_optional_event, after_answer}
+use Rattle.queue_core.specs.Queue.{QueueHistory, Outcome, adding, answering, outcome_at, after_answer}
 
 -- how many messages are visible, delayed and in flight
 pub record Counts : Type 0 where
@@ -124,7 +130,15 @@ delayed_beyond_its_retention = opened_with (with_retention 60) ++ entry 0 (Sent 
 
 -- a message that was first sent at 0 and came to this queue at 60,000, by the entry at a place
 abbrev pub sent_a_minute_before : ℕ → Message
-sent_a_minute_before place = record { number = 0; place = place; enqueue_time = 60000; first_send_time = 0; first_due_time = 60000; origin = None }
+sent_a_minute_before place = record {
+  number = 0;
+  place = place;
+  enqueue_time = 60000;
+  first_send_time = 0;
+  origin = None;
+  begun = record { status = Present; due = 60000; returned = false };
+  ran_out = false;
+}
 
 abbrev pub came_before_the_raise : List (Entry ContentText)
 came_before_the_raise = opened_with (with_retention 60) ++ entry 60000 (Sent 0 letter_a) ∷ entry 60000 (Set (with_retention 120)) ∷ []
@@ -258,14 +272,6 @@ outcome lines at command = outcome_at (queue 0 lines) at command
 abbrev pub step : ℕ → Command → Step
 step at command = record { at = at; command = command }
 
--- the queue after commands, each with its time, and its journal after them where it was opened at 0
-abbrev pub queue_after : QueueHistory → List Step → QueueHistory
-queue_after q [] = q
-queue_after q (s ∷ steps) = queue_after (with_optional_event (at_moment q s.at) (outcome_at q s.at s.command).event) steps
-
-abbrev pub lines_after : QueueSettings → List Step → List (Entry ContentText)
-lines_after settings steps = (queue_after (queue 0 (opened_with settings)) steps).lines
-
 -- the queue that a command leaves, with its answer and where memory runs out
 abbrev pub left_with_answer : QueueHistory → ℕ → Command → QueueHistory
 left_with_answer q at command = after_answer q at command (outcome_at q at command).reply
@@ -273,21 +279,30 @@ left_with_answer q at command = after_answer q at command (outcome_at q at comma
 abbrev pub left_without_memory : QueueHistory → ℕ → Command → QueueHistory
 left_without_memory q at command = after_answer {T = Reply} q at command (Err OutOfMemory)
 
+-- the queue after commands, each with its time, and its journal after them where it was opened at 0
+abbrev pub queue_after : QueueHistory → List Step → QueueHistory
+queue_after q [] = q
+queue_after q (s ∷ steps) = queue_after (left_with_answer q s.at s.command) steps
+
+abbrev pub lines_after : QueueSettings → List Step → List (Entry ContentText)
+lines_after settings steps = (queue_after (queue 0 (opened_with settings)) steps).lines
+
 -- ---- outcomes and offers
 
 -- a message was sent after a delay, and got a number
 abbrev pub sent_outcome : ℕ → ContentText → ℕ → Outcome
-sent_outcome delay content number = record {
-  event = Some (Sent delay content);
-  reply = Ok (replies.Sent (record { number = number; id = record { uid = 1; number = number } }));
-}
+sent_outcome delay content number = adding (Sent delay content) (Ok (replies.Sent (record { number = number; id = record { uid = 1; number = number } })))
 
 -- messages are offered for a timeout
 abbrev pub received_outcome : ℕ → List Offer → Outcome
-received_outcome timeout offers = record { event = Some (Received timeout (map (λ o. o.number) offers) [] 0); reply = Ok (replies.Received offers) }
+received_outcome timeout offers = adding (Received timeout (map (λ o. o.number) offers) [] 0) (Ok (replies.Received offers))
 
 abbrev pub looked_outcome : look.Look → Outcome
-looked_outcome look = record { event = None; reply = Ok (replies.Looked look) }
+looked_outcome look = answering (Ok (replies.Looked look))
+
+-- the same, where a checkpoint comes first
+abbrev pub behind_a_checkpoint : Outcome → Outcome
+behind_a_checkpoint o = record o { rebases = true }
 
 abbrev pub hello_offered : Offer
 hello_offered = record { number = 0; receipt = 1; id = record { uid = 1; number = 0 }; sent = 1000; first_receive = 2000; source = None; content = hello }
@@ -319,3 +334,138 @@ look_at_released = record {
   clock = 4500;
   closed = false;
 }
+
+-- ---- checkpoints
+
+abbrev pub no_kept_flows : KeptFlows
+no_kept_flows = record { sent = 0; sent_size = 0; received = 0; empty_receives = 0; deleted = 0; refused = 0; dead_letters_arrived = 0 }
+
+abbrev pub one_sent_received_and_deleted : KeptFlows
+one_sent_received_and_deleted = record no_kept_flows { sent = 1; sent_size = 1; received = 1; deleted = 1 }
+
+-- of a queue whose one message was received and deleted
+abbrev pub base_without_messages : BaseOf ContentText
+base_without_messages = record {
+  uid = 1;
+  settings = default_settings;
+  created = 0;
+  modified = 0;
+  receives = 1 ∷ [];
+  accepted = [];
+  messages = [];
+  rows = [];
+  flows = one_sent_received_and_deleted;
+}
+
+abbrev pub sent_behind_a_checkpoint : List (Entry ContentText)
+sent_behind_a_checkpoint = entry 4000 (Base base_without_messages) ∷ entry 4000 (Sent 0 letter_b) ∷ []
+
+-- of a queue whose second message left at 1,000 for the queue of uid 9 and had expired at 60,000, before the retention was raised at 90,000; whose first
+-- was deleted, and whose third is in flight until 95,000
+abbrev pub expired_letter_a : KeptMessage ContentText
+expired_letter_a = record {
+  number = 1;
+  came = 0;
+  sent = 0;
+  due = 1000;
+  is_expired = true;
+  is_returned = false;
+  first_receive = Some 0;
+  last_receive = 0;
+  origin = None;
+  content = letter_a;
+  target = Some 9;
+}
+
+abbrev pub received_letter_b : KeptMessage ContentText
+received_letter_b = record {
+  number = 2;
+  came = 85000;
+  sent = 50000;
+  due = 95000;
+  is_expired = false;
+  is_returned = false;
+  first_receive = Some 86000;
+  last_receive = 90500;
+  origin = Some origin_of_a;
+  content = letter_b;
+  target = None;
+}
+
+abbrev pub row_of_first_minute : KeptRow
+row_of_first_minute = record { minute = 0; flows = record no_kept_flows { sent = 2; sent_size = 2; received = 1 }; visible = 0; delayed = 0; in_flight = 0; age = 0 }
+
+abbrev pub base_of_two_kept : BaseOf ContentText
+base_of_two_kept = record {
+  uid = 1;
+  settings = record with_policy { retention_seconds = 120 };
+  created = 0;
+  modified = 90000;
+  receives = 4 ∷ 1 ∷ 2 ∷ [];
+  accepted = record { uid = 7; number = 0 } ∷ [];
+  messages = received_letter_b ∷ expired_letter_a ∷ [];
+  rows = row_of_first_minute ∷ [];
+  flows = no_kept_flows;
+}
+
+abbrev pub two_kept : List (Entry ContentText)
+two_kept = entry 91000 (Base base_of_two_kept) ∷ []
+
+abbrev pub two_kept_and_orphaned : List (Entry ContentText)
+two_kept_and_orphaned = two_kept ++ entry 91000 (Orphaned 9) ∷ []
+
+abbrev pub parcel_of_expired_a : Parcel
+parcel_of_expired_a = record parcel_of_a { origin = record origin_of_a { number = 1; id = record { uid = 1; number = 1 }; sent = 0 } }
+
+abbrev pub parcel_of_seventh : Parcel
+parcel_of_seventh = record parcel_of_a { origin = record origin_of_a { uid = 7 } }
+
+-- four entries, and nothing that is kept: the one message was received and deleted
+abbrev pub sent_received_and_deleted : List (Entry ContentText)
+sent_received_and_deleted = only_opened ++ entry 1000 (Sent 0 letter_a) ∷ entry 2000 (Received 30 (0 ∷ []) [] 0) ∷ entry 3000 (Deleted 0) ∷ []
+
+abbrev pub asked_twice_behind_a_checkpoint : List (Entry ContentText)
+asked_twice_behind_a_checkpoint = sent_behind_a_checkpoint ++ entry 4100 DeletedAgain ∷ entry 4150 (Refused ReceiptHandleIsInvalid) ∷ []
+
+abbrev pub of_four : ℕ → List (Entry ContentText) → QueueHistory
+of_four clock lines = queue_with (at_most_lines 4) clock lines
+
+abbrev pub two_sent_behind_them : QueueHistory
+two_sent_behind_them = queue_after (of_four 4150 asked_twice_behind_a_checkpoint) (step 4200 (Send hello None) ∷ step 4300 (Send hello None) ∷ [])
+
+abbrev pub look_behind_a_checkpoint : look.Look
+look_behind_a_checkpoint = record {
+  gauges = record { visible = 1; delayed = 0; in_flight = 0; age = 0 };
+  settings = default_settings;
+  created = 0;
+  modified = 0;
+  lines = 2;
+  clock = 4000;
+  closed = false;
+}
+
+-- a message left at 1,000 and had expired at 60,000, before the retention was raised at 90,000
+abbrev pub short_policy : QueueSettings
+short_policy = record with_policy { retention_seconds = 60 }
+
+abbrev pub left_and_expired : List (Entry ContentText)
+left_and_expired =
+    opened_with short_policy ++ entry 0 (Sent 0 letter_a) ∷ entry 0 (Received 1 (0 ∷ []) [] 9) ∷ entry 1000 (Received 1 [] (0 ∷ []) 9)
+    ∷ entry 90000 (Set (record short_policy { retention_seconds = 120 })) ∷ []
+
+abbrev pub orphaned_at_the_limit : QueueHistory
+orphaned_at_the_limit = left_with_answer (queue_with (at_most_lines 5) 90000 left_and_expired) 91000 (Orphan 9)
+
+-- two messages leave in the order in which they were due, which is not that of their numbers
+abbrev pub left_as_they_were_due : List (Entry ContentText)
+left_as_they_were_due =
+    opened_with with_policy ++ entry 0 (Sent 0 letter_a) ∷ entry 0 (Sent 0 letter_b) ∷ entry 0 (Received 1 (0 ∷ 1 ∷ []) [] 9) ∷ entry 500 (Changed 0 2)
+    ∷ entry 5000 (Received 1 [] (1 ∷ 0 ∷ []) 9) ∷ []
+
+abbrev pub asked_for_another : QueueHistory
+asked_for_another = left_with_answer (queue_with (at_most_lines 6) 5000 left_as_they_were_due) 6000 (Settle 7)
+
+-- received at 1,000, and refused a timeout that would end more than twelve hours later
+abbrev pub received_and_refused_once : List (Entry ContentText)
+received_and_refused_once =
+    only_opened ++ entry 0 (Sent 0 letter_a) ∷ entry 1000 (Received 30 (0 ∷ []) [] 0) ∷ entry 1001 (Refused InvalidParameterValue) ∷ []

@@ -1,15 +1,16 @@
 -- Which journals a queue can have.
-use Rattle.std.specs.Prelude.{◌≡◌, ℕ, ◌<◌, ◌≤◌, ◌^◌, List, [], ◌∷◌, ◌++◌, Some, IsTrue}
+use Rattle.std.specs.Prelude.{◌≡◌, ◌⊎◌, ℕ, false, ◌<◌, ◌≤◌, ◌^◌, List, [], ◌∷◌, ◌++◌, Some, IsTrue}
 use Rattle.std.specs.Option.{ForSome}
 use Rattle.message.specs.Content.{ContentText, is_content}
 use Rattle.message.specs.Name.{is_queue_name}
 use Rattle.queue_config.specs.Settings.{QueueSettings, AreSettings, settings_with}
 use Rattle.journal.specs.declared.entry.Entry.{Entry}
 use Rattle.journal.specs.declared.entry.Event.{Event}
-use Rattle.journal.specs.declared.entry.Event.TheVariants.{Opened}
+use Rattle.journal.specs.declared.entry.Event.TheVariants.{Opened, Base}
 use Rattle.queue_core.specs.declared.command.Command.{Command}
 use Rattle.queue_core.specs.declared.command.Command.TheVariants.{Send, Receive, Change, Delete, Purge, Set, Close, Arrive, Settle, Orphan, Look, FirstParcel}
-use Rattle.queue_core.specs.Messages.{settings_of}
+use Rattle.queue_core.specs.Messages.{settings_of, is_closed}
+use Rattle.queue_core.specs.Rebase.{base_of}
 use Rattle.queue_core.specs.Ranges.{IsDelay, IsTimeout, IsMaximum}
 use Rattle.queue_core.specs.Queue.{QueueHistory, outcome_of}
 
@@ -33,11 +34,12 @@ IsAllowedIn q Close = Unit {0}
 IsAllowedIn q Look = Unit {0}
 IsAllowedIn q FirstParcel = Unit {0}
 
--- an event that some such command adds to a queue
+-- an event that some such command adds to a queue, where no checkpoint comes before it
 pub record IsCausedIn (q : QueueHistory) (event : Event ContentText) : Type 0 where
   pub command : Command
   pub allowed : IsAllowedIn q command
   pub added : (outcome_of q command).event ≡ Some event
+  pub in_place : (outcome_of q command).rebases ≡ false
 
 -- each entry is what some command added to the entries before it, at the entry's own moment
 abbrev pub AreCaused : QueueHistory → List (Entry ContentText) → List (Entry ContentText) → Type 0
@@ -55,6 +57,27 @@ abbrev pub BeginsAndFollows : QueueHistory → List (Entry ContentText) → Type
 BeginsAndFollows q [] = ⊥
 BeginsAndFollows q (e ∷ es) = IsOpening q.uid e.event × AreCaused q (e ∷ []) es
 
-pub record IsLegal (q : QueueHistory) : Type 0 where
+-- a journal that is whole, from the queue's opening on
+pub record IsWhole (q : QueueHistory) : Type 0 where
   pub ordered : IsOrdered 0 q.lines q.clock
   pub caused : BeginsAndFollows q q.lines
+
+-- an entry is the checkpoint of an open queue with a whole journal, of the same uid, name and in-flight limit, which had come to the entry's moment
+pub record IsCheckpoint (uid : ℕ) (name : List ℕ) (in_flight : ℕ) (e : Entry ContentText) : Type 0 where
+  pub whole : QueueHistory
+  pub is_whole : IsWhole whole
+  pub unclosed : is_closed whole.lines ≡ false
+  pub same_uid : whole.uid ≡ uid
+  pub same_name : whole.name ≡ name
+  pub same_in_flight : whole.limits.in_flight ≡ in_flight
+  pub clock : whole.clock ≡ e.at
+  pub made : e.event ≡ Base (base_of whole.uid whole.lines whole.clock)
+
+-- or it begins with one, and each later entry comes of a command
+abbrev pub GoesOn : QueueHistory → List (Entry ContentText) → Type 0
+GoesOn q [] = ⊥
+GoesOn q (e ∷ es) = IsCheckpoint q.uid q.name q.limits.in_flight e × AreCaused q (e ∷ []) es
+
+pub record IsLegal (q : QueueHistory) : Type 0 where
+  pub ordered : IsOrdered 0 q.lines q.clock
+  pub caused : BeginsAndFollows q q.lines ⊎ GoesOn q q.lines

@@ -14,10 +14,14 @@ pub mod Applying
 pub mod Accepted
 pub mod Metrics
 pub mod Summary
+pub mod Rebase
 pub mod Standing
+pub mod Whole
 pub mod Indexed
 pub mod Heaps
+pub mod Keeping
 pub mod Kept
+pub mod Replaced
 pub mod Run
 pub mod Watched
 pub mod Turns

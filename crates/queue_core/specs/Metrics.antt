@@ -1,17 +1,18 @@
 -- The metric rows of a queue (Amazon SQS metrics for CloudWatch): what flowed in a minute, and what stood there at its last millisecond.
 -- Nothing here depends on what stands for a content: a function tells its size in bytes.
-use Rattle.std.specs.Prelude.{ℕ, ◌+◌, ◌-◌, ◌*◌, min, nat_lt, List, filter, map, Option, Some, None, if◌then◌else◌}
+use Rattle.std.specs.Prelude.{ℕ, ◌+◌, ◌-◌, ◌*◌, min, nat_lt, List, filter, map, Option, Some, None, unwrap_or, if◌then◌else◌}
 use Rattle.std.specs.List.{range_with_len}
 use Rattle.journal.specs.declared.entry.Entry.{Entry}
 use Rattle.metric_window.specs.declared.flows.Flows.{Flows}
 use Rattle.metric_window.specs.declared.gauges.Gauges.{Gauges}
 use Rattle.metric_window.specs.declared.row.Row.{Row}
 use Rattle.metric_window.specs.Flows.{minute_of, greatest, minute_flows}
+use Rattle.metric_window.specs.KeptRows.{row_in}
 use Rattle.metric_window.specs.Window.{window_start, window_end, is_in_window}
 use Rattle.queue_config.specs.AlarmRules.{Rule}
 use Rattle.alarm.specs.declared.state.AlarmState.{AlarmState}
 use Rattle.alarm.specs.AlarmState.{alarm_state_of}
-use Rattle.queue_core.specs.Messages.{created_time}
+use Rattle.queue_core.specs.Messages.{created_time, rows_known}
 use Rattle.queue_core.specs.States.{gauges_of}
 
 -- the time at which the next minute begins, in milliseconds
@@ -26,8 +27,13 @@ entries_until lines minute = filter (λ e. nat_lt e.at (minute_end minute)) line
 abbrev pub minute_gauges : {C : Type 0} → List (Entry C) → ℕ → Gauges
 minute_gauges lines minute = gauges_of (entries_until lines minute) (minute_end minute - 1)
 
+-- the row of a minute as the entries tell it one by one
+abbrev pub told_row : {C : Type 0} → (C → ℕ) → List (Entry C) → ℕ → Row
+told_row size lines minute = record { minute = minute; flows = minute_flows size lines minute; gauges = minute_gauges lines minute }
+
+-- the row of a minute: the one that a checkpoint knows, and else as the entries tell it
 abbrev pub metric_row : {C : Type 0} → (C → ℕ) → List (Entry C) → ℕ → Row
-metric_row size lines minute = record { minute = minute; flows = minute_flows size lines minute; gauges = minute_gauges lines minute }
+metric_row size lines minute = unwrap_or (row_in (rows_known lines) minute) (told_row size lines minute)
 
 -- what has happened so far in the clock's minute
 abbrev pub current_flows : {C : Type 0} → (C → ℕ) → List (Entry C) → ℕ → Flows

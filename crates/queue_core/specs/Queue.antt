@@ -1,5 +1,5 @@
 -- The queue of one thread: what each command adds to the journal, and what answers it.
-use Rattle.std.specs.Prelude.{◌≡◌, ℕ, ◌+◌, ◌-◌, ◌*◌, ◌==◌, ◌&&◌, ◌||◌, not, min, map, filter, count_by, slice_get, option_map, option_and_then, nat_lt, nat_le, max, Bool, true, false, if◌then◌else◌, List, [], ◌∷◌, ◌++◌, length, Option, Some, None, is_some, unwrap_or, Result, Ok, Err}
+use Rattle.std.specs.Prelude.{◌≡◌, ℕ, ◌+◌, ◌-◌, ◌*◌, ◌==◌, ◌&&◌, ◌||◌, not, min, map, filter, count_by, slice_get, option_map, option_and_then, nat_lt, nat_le, max, Bool, true, false, if◌then◌else◌, List, [], ◌∷◌, ◌++◌, Option, Some, None, is_some, unwrap_or, Result, Ok, Err}
 use Rattle.std.specs.List.{filter_map}
 use Rattle.std.specs.Option.{option_map_or}
 use Rattle.message.specs.declared.fault.Fault.{Fault}
@@ -12,8 +12,11 @@ use Rattle.queue_config.specs.Settings.{settings_with}
 use Rattle.receipt_handle.specs.declared.handle.Handle.{Handle}
 use Rattle.journal.specs.declared.entry.Entry.{Entry}
 use Rattle.journal.specs.declared.entry.Event.{Event}
-use Rattle.journal.specs.declared.entry.Event.TheVariants.{Opened, Sent, Arrived, Received, Changed, Deleted, DeletedAgain, Purged, Set, Settled, Orphaned, Refused, Closed}
+use Rattle.journal.specs.declared.entry.Event.TheVariants.{Opened, Sent, Arrived, Received, Changed, Deleted, DeletedAgain, Purged, Set, Settled, Orphaned, Refused, Closed, Base}
 use Rattle.journal.specs.declared.entry.Origin.{Origin}
+use Rattle.journal.specs.Journal.{based}
+use Rattle.journal.specs.Weight.{weight_of}
+use Rattle.metric_window.specs.Flows.{greatest}
 use Rattle.queue_core.specs.declared.command.Command.{Command}
 use Rattle.queue_core.specs.declared.command.Command.TheVariants as commands
 use Rattle.queue_core.specs.declared.reply.Reply.{Reply}
@@ -27,7 +30,8 @@ use Rattle.queue_core.specs.declared.facts.Transfer.{Transfer}
 use Rattle.queue_core.specs.declared.facts.MessageState.TheVariants.{InFlight}
 use Rattle.queue_core.specs.declared.reply.Look as look
 use Rattle.queue_core.specs.Messages.{is_closed, messages, message_count, own_id, message_id, content_of, settings_of, created_time, modified_time, receive_count, first_receive_time, last_receive_time, waits_for, awaits_transfer, pending_transfers, has_accepted}
-use Rattle.queue_core.specs.States.{is_live, is_in_state, count_in_state, receive_order, message_numbered, is_numbered, gauges_of}
+use Rattle.queue_core.specs.Rebase.{base_of}
+use Rattle.queue_core.specs.States.{kept_count, is_live, is_in_state, count_in_state, receive_order, message_numbered, is_numbered, gauges_of}
 
 -- a queue: its uid, its name, its limits, its clock in milliseconds, and its journal's lines
 pub record QueueHistory : Type 0 where
@@ -43,10 +47,18 @@ pub record QueueHistory : Type 0 where
 abbrev pub at_moment : QueueHistory → ℕ → QueueHistory
 at_moment q at = record q { clock = max q.clock at }
 
--- what a command adds to the journal, and what answers it
+-- what a command adds to the journal, what answers it, and whether a checkpoint takes the place of all entries before that
 pub record Outcome : Type 0 where
   pub event : Option (Event ContentText)
   pub reply : Result Reply Fault
+  pub rebases : Bool
+
+-- an outcome in the journal as it stands
+abbrev pub adding : Event ContentText → Result Reply Fault → Outcome
+adding event reply = record { event = Some event; reply = reply; rebases = false }
+
+abbrev pub answering : Result Reply Fault → Outcome
+answering reply = record { event = None; reply = reply; rebases = false }
 
 abbrev pub adds_entry : Outcome → Bool
 adds_entry outcome = is_some outcome.event
@@ -57,7 +69,7 @@ hands_over (Ok (replies.Parcel (Some parcel))) = true
 hands_over _ = false
 
 abbrev pub takes_memory : Outcome → Bool
-takes_memory outcome = adds_entry outcome || hands_over outcome.reply
+takes_memory outcome = outcome.rebases || adds_entry outcome || hands_over outcome.reply
 
 -- room for one entry more
 abbrev pub has_room : QueueHistory → Bool
@@ -78,18 +90,19 @@ wants_place_alone (Settled number) = true
 wants_place_alone (Orphaned target) = true
 wants_place_alone (Refused fault) = true
 wants_place_alone Closed = true
+wants_place_alone (Base base) = false
 
--- what adds no entry and hands over no parcel wants no memory: its answer is the outcome's reply, and never want of memory in its place
+-- what adds no entry, hands over no parcel and makes no checkpoint wants no memory: its answer is the outcome's reply, and never want of memory in its place
 abbrev pub IsExact : Outcome → Result Reply Fault → Type 0
 IsExact outcome answer = takes_memory outcome ≡ false → answer ≡ outcome.reply
 
--- the reply of what adds no entry and hands over no parcel, and none where memory is wanted
+-- the reply of what wants no memory, and none where memory is wanted
 abbrev pub reply_without_memory : Outcome → Option (Result Reply Fault)
 reply_without_memory outcome = if takes_memory outcome then None else Some outcome.reply
 
 -- what wants memory for no more than the place of its entry
 abbrev pub wants_room_alone : Outcome → Bool
-wants_room_alone outcome = option_map_or wants_place_alone outcome.event true && not (hands_over outcome.reply)
+wants_room_alone outcome = not outcome.rebases && option_map_or wants_place_alone outcome.event true && not (hands_over outcome.reply)
 
 -- where there is room for one entry more, such a command never answers want of memory: its answer is the outcome's reply
 abbrev pub IsExactWithRoom : QueueHistory → Outcome → Result Reply Fault → Type 0
@@ -97,14 +110,23 @@ IsExactWithRoom q outcome answer = has_room q ≡ true → wants_room_alone outc
 
 -- refused, without an entry
 abbrev pub uncounted_refusal : Fault → Outcome
-uncounted_refusal fault = record { event = None; reply = Err fault }
+uncounted_refusal fault = answering (Err fault)
 
 -- refused by the queue itself, which is an entry
 abbrev pub refusal : Fault → Outcome
-refusal fault = record { event = Some (Refused fault); reply = Err fault }
+refusal fault = adding (Refused fault) (Err fault)
 
+-- the journal weighs as much as it may
+abbrev pub is_at_limit : QueueHistory → Bool
+is_at_limit q = nat_le q.limits.max_lines (weight_of q.lines)
+
+-- and a checkpoint, which weighs 1 and 1 more for each message that is live or waits for a dead-letter queue, would make no room
 abbrev pub is_full : QueueHistory → Bool
-is_full q = nat_le q.limits.max_lines (length q.lines)
+is_full q = is_at_limit q && nat_le q.limits.max_lines (1 + kept_count q.lines q.clock)
+
+-- the queue with a checkpoint in the place of all entries, and room for one more
+abbrev pub rebased : QueueHistory → QueueHistory
+rebased q = record q { lines = based q.clock (base_of q.uid q.lines q.clock); spare = max q.spare 1 }
 
 -- what refuses a command before anything of it is asked: a closed queue, and else a full journal
 abbrev pub first_refusal : QueueHistory → Option Fault
@@ -121,15 +143,13 @@ with_room q outcome = unless_refused (first_refusal q) outcome
 abbrev pub close_outcome : QueueHistory → Outcome
 close_outcome q =
     if is_closed q.lines then uncounted_refusal QueueDoesNotExist
-    else record { event = Some Closed; reply = Ok replies.Done }
+    else adding Closed (Ok replies.Done)
 
 abbrev pub send_outcome : QueueHistory → ContentText → Option ℕ → Outcome
 send_outcome q content delay =
     if nat_lt (settings_of q.lines).maximum_message_size (content_size content) then refusal InvalidParameterValue
-    else record {
-      event = Some (Sent (unwrap_or delay (settings_of q.lines).delay_seconds) content);
-      reply = Ok (replies.Sent (record { number = message_count q.lines; id = own_id q.uid (message_count q.lines) }));
-    }
+    else adding (Sent (unwrap_or delay (settings_of q.lines).delay_seconds) content)
+    (Ok (replies.Sent (record { number = message_count q.lines; id = own_id q.uid (message_count q.lines) })))
 
 -- ---- receives
 
@@ -172,7 +192,7 @@ policy_target q = option_map_or (λ p. p.target) (settings_of q.lines).redrive_p
 abbrev pub offer_of : QueueHistory → Candidate → ContentText → Offer
 offer_of q c content = record {
   number = c.message.number;
-  receipt = receive_count q.lines c.message.number + 1;
+  receipt = min (receive_count q.lines c.message.number + 1) greatest;
   id = message_id q.uid c.message;
   sent = c.message.first_send_time;
   first_receive = unwrap_or (first_receive_time q.lines c.message.number) q.clock;
@@ -197,10 +217,7 @@ received_event q maximum timeout = Received
 abbrev pub receive_outcome : QueueHistory → ℕ → Option ℕ → Outcome
 receive_outcome q maximum timeout =
     if nat_le q.limits.in_flight (in_flight_count q) then refusal OverLimit
-    else record {
-      event = Some (received_event q maximum timeout);
-      reply = Ok (replies.Received (offers_of q (offered_candidates q maximum)));
-    }
+    else adding (received_event q maximum timeout) (Ok (replies.Received (offers_of q (offered_candidates q maximum))))
 
 -- ---- handles
 
@@ -224,7 +241,7 @@ abbrev pub passes_twelve_hours : QueueHistory → ℕ → ℕ → Bool
 passes_twelve_hours q number timeout = nat_lt (last_receive_time q.lines number + 43200000) (q.clock + 1000 * timeout)
 
 abbrev pub done : Event ContentText → Outcome
-done event = record { event = Some event; reply = Ok replies.Done }
+done event = adding event (Ok replies.Done)
 
 -- the first thing that is wrong with a change
 abbrev pub change_refusal : QueueHistory → Handle → ℕ → Option Fault
@@ -253,8 +270,8 @@ delete_outcome q h =
 -- a queue accepts a transfer once: one that it has accepted is answered as such, for good
 abbrev pub arrive_outcome : QueueHistory → Parcel → Outcome
 arrive_outcome q p =
-    if has_accepted q.lines p.origin.uid p.origin.number then record { event = None; reply = Ok (replies.Arrived arrivals.Again) }
-    else record { event = Some (Arrived p.origin p.content); reply = Ok (replies.Arrived arrivals.New) }
+    if has_accepted q.lines p.origin.uid p.origin.number then answering (Ok (replies.Arrived arrivals.Again))
+    else adding (Arrived p.origin p.content) (Ok (replies.Arrived arrivals.New))
 
 -- whether the message of a number has left, and its transfer is not confirmed
 abbrev pub is_pending : QueueHistory → ℕ → Bool
@@ -262,15 +279,15 @@ is_pending q number = is_numbered (λ m. awaits_transfer q.lines m) q.lines numb
 
 abbrev pub settle_outcome : QueueHistory → ℕ → Outcome
 settle_outcome q number =
-    if is_pending q number then record { event = Some (Settled number); reply = Ok (replies.Settled true) }
-    else record { event = None; reply = Ok (replies.Settled false) }
+    if is_pending q number then adding (Settled number) (Ok (replies.Settled true))
+    else answering (Ok (replies.Settled false))
 
 -- how many messages wait for the dead-letter queue of a uid
 abbrev pub waiting_count : QueueHistory → ℕ → ℕ
 waiting_count q target = count_by (λ m. waits_for q.lines target m) (messages q.lines)
 
 abbrev pub orphan_outcome : QueueHistory → ℕ → Outcome
-orphan_outcome q target = record { event = Some (Orphaned target); reply = Ok (replies.Orphaned (waiting_count q target)) }
+orphan_outcome q target = adding (Orphaned target) (Ok (replies.Orphaned (waiting_count q target)))
 
 -- where a message of this queue comes from, for the queue that it is handed to
 abbrev pub origin_of : QueueHistory → Message → Origin
@@ -299,24 +316,46 @@ look_of q = record {
   settings = settings_of q.lines;
   created = created_time q.lines;
   modified = modified_time q.lines;
-  lines = length q.lines;
+  lines = weight_of q.lines;
   clock = q.clock;
   closed = is_closed q.lines;
 }
 
+-- in the journal as it stands
+abbrev pub outcome_in : QueueHistory → Command → Outcome
+outcome_in q (commands.Send content delay) = with_room q (send_outcome q content delay)
+outcome_in q (commands.Receive maximum timeout) = with_room q (receive_outcome q maximum timeout)
+outcome_in q (commands.Change handle timeout) = with_room q (change_outcome q handle timeout)
+outcome_in q (commands.Delete handle) = with_room q (delete_outcome q handle)
+outcome_in q commands.Purge = with_room q (done Purged)
+outcome_in q (commands.Set wish target) = with_room q (done (Set (settings_with (settings_of q.lines) wish target)))
+outcome_in q (commands.Arrive parcel) = with_room q (arrive_outcome q parcel)
+outcome_in q (commands.Settle number) = with_room q (settle_outcome q number)
+outcome_in q (commands.Orphan target) = with_room q (orphan_outcome q target)
+outcome_in q commands.Close = close_outcome q
+outcome_in q commands.Look = answering (Ok (replies.Looked (look_of q)))
+outcome_in q commands.FirstParcel = answering (Ok (replies.Parcel (first_parcel_of q)))
+
+-- whether a command is one that a closed queue or a full journal refuses
+abbrev pub wants_open : Command → Bool
+wants_open commands.Close = false
+wants_open commands.Look = false
+wants_open commands.FirstParcel = false
+wants_open _ = true
+
+abbrev pub unless_some : Option Fault → Bool → Bool
+unless_some None b = b
+unless_some (Some fault) b = false
+
+-- whether a checkpoint comes first: where the journal is at its limit, and nothing refuses the command
+abbrev pub rebases : QueueHistory → Command → Bool
+rebases q command = unless_some (first_refusal q) (wants_open command && is_at_limit q)
+
+abbrev pub rebased_where : Bool → QueueHistory → QueueHistory
+rebased_where rebases q = if rebases then rebased q else q
+
 abbrev pub outcome_of : QueueHistory → Command → Outcome
-outcome_of q (commands.Send content delay) = with_room q (send_outcome q content delay)
-outcome_of q (commands.Receive maximum timeout) = with_room q (receive_outcome q maximum timeout)
-outcome_of q (commands.Change handle timeout) = with_room q (change_outcome q handle timeout)
-outcome_of q (commands.Delete handle) = with_room q (delete_outcome q handle)
-outcome_of q commands.Purge = with_room q (done Purged)
-outcome_of q (commands.Set wish target) = with_room q (done (Set (settings_with (settings_of q.lines) wish target)))
-outcome_of q (commands.Arrive parcel) = with_room q (arrive_outcome q parcel)
-outcome_of q (commands.Settle number) = with_room q (settle_outcome q number)
-outcome_of q (commands.Orphan target) = with_room q (orphan_outcome q target)
-outcome_of q commands.Close = close_outcome q
-outcome_of q commands.Look = record { event = None; reply = Ok (replies.Looked (look_of q)) }
-outcome_of q commands.FirstParcel = record { event = None; reply = Ok (replies.Parcel (first_parcel_of q)) }
+outcome_of q command = record (outcome_in (rebased_where (rebases q command) q) command) { rebases = rebases q command }
 
 -- whether a command leaves the clock as it is
 abbrev pub leaves_clock : Command → Bool
@@ -339,9 +378,9 @@ abbrev pub with_optional_event : QueueHistory → Option (Event ContentText) →
 with_optional_event q None = q
 with_optional_event q (Some event) = with_event q event
 
--- what an outcome makes of the queue that a command has come to: where memory ran out, no entry more
+-- what an outcome makes of the queue that a command has come to: where memory ran out, it is as it was
 abbrev pub after_outcome : {T : Type 0} → QueueHistory → Outcome → Result T Fault → QueueHistory
-after_outcome q outcome answer = if is_out_of_memory answer then q else with_optional_event q outcome.event
+after_outcome q outcome answer = if is_out_of_memory answer then q else with_optional_event (rebased_where outcome.rebases q) outcome.event
 
 -- what a command leaves
 abbrev pub after_answer : {T : Type 0} → QueueHistory → ℕ → Command → Result T Fault → QueueHistory

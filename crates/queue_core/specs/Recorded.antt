@@ -24,9 +24,9 @@ closed_periods_from place s (e ∷ es) =
     then record { retention = s.retention_seconds; end = e.at; closing = place } ∷ closed_periods_from (suc place) (settings_after s e.event) es
     else closed_periods_from (suc place) (settings_after s e.event) es
 
--- the message's retention ended in a period that is over
+-- the message's retention ended in a period that is over, or had ended before its entry
 abbrev pub ran_out_before : {C : Type 0} → List (Entry C) → Message → Bool
-ran_out_before lines m = list_any (λ p. runs_out_in m p) (closed_periods_from 0 default_settings lines)
+ran_out_before lines m = m.ran_out || list_any (λ p. runs_out_in m p) (closed_periods_from 0 default_settings lines)
 
 -- its retention has ended at a time, by the settings in force
 abbrev pub runs_out_by : QueueSettings → ℕ → Message → Bool

@@ -140,9 +140,9 @@ pub record IsSettled (retention clock : ℕ) (records : Records) : Type 0 where
 
 -- ---- a message that begins at a time
 
-abbrev pub born_record : ℕ → Birth ContentText → Record
-born_record at birth = record {
-  content = birth.content;
+abbrev pub born_record : ℕ → Birth ContentText → ContentText → Record
+born_record at birth content = record {
+  content = content;
   enqueue_time = at;
   first_send_time = option_map_or (λ origin. origin.sent) birth.origin at;
   origin = birth.origin;
@@ -151,9 +151,13 @@ born_record at birth = record {
   slot = record { stay = Hidden; due = at + 1000 * birth.delay; sent = option_map_or (λ origin. origin.sent) birth.origin at; is_fresh = true; is_returned = false; tries = 0 };
 }
 
--- the record of a number behind an event, where so many messages were there before
+-- the record of a new message, which has a content
+abbrev pub record_of_birth : ℕ → Birth ContentText → Option Record
+record_of_birth at birth = option_map (born_record at birth) birth.content
+
+-- the record of a number behind an event that is no checkpoint, where so many messages were there before
 abbrev pub record_begun : ℕ → Event ContentText → ℕ → ℕ → Option Record
-record_begun at event count n = option_map (born_record at) (slice_get (effect_of event).births (n - count))
+record_begun at event count n = option_and_then (record_of_birth at) (slice_get (effect_of event).births (n - count))
 
 -- the records after an event, where so many messages were there before
 abbrev pub records_after : QueueSettings → ℕ → Event ContentText → ℕ → Records → Records

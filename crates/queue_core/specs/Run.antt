@@ -1,5 +1,5 @@
 -- A queue over a list of commands.
-use Rattle.std.specs.Prelude.{List, [], ◌∷◌, Result}
+use Rattle.std.specs.Prelude.{◌≡◌, false, List, [], ◌∷◌, Result}
 use Rattle.message.specs.declared.fault.Fault.{Fault}
 use Rattle.message.specs.Fault.{Meets}
 use Rattle.queue_core.specs.declared.command.Step.{Step}
@@ -18,11 +18,11 @@ EachAnswered R q (step ∷ steps) (answer ∷ answers) =
 abbrev pub AreAnswers : QueueHistory → List Step → List (Result Reply Fault) → Type 0
 AreAnswers q steps answers = EachAnswered (λ q outcome answer. Meets answer outcome.reply) q steps answers
 
--- and it is that where no entry is added and no parcel handed over
+-- and it is that where no entry is added, no checkpoint made and no parcel handed over
 abbrev pub AreExact : QueueHistory → List Step → List (Result Reply Fault) → Type 0
 AreExact q steps answers = EachAnswered (λ q outcome answer. IsExact outcome answer) q steps answers
 
--- and also where an entry is added that wants no more than its place, and there is room for it
+-- and also where an entry is added that wants no more than its place, there is room for it, and no checkpoint comes first
 abbrev pub AreExactWithRoom : QueueHistory → List Step → List (Result Reply Fault) → Type 0
 AreExactWithRoom q steps answers = EachAnswered (λ q outcome answer. IsExactWithRoom q outcome answer) q steps answers
 
@@ -31,3 +31,10 @@ abbrev pub after_all : QueueHistory → List Step → List (Result Reply Fault) 
 after_all q [] answers = q
 after_all q (step ∷ steps) [] = q
 after_all q (step ∷ steps) (answer ∷ answers) = after_all (after_answer q step.at step.command answer) steps answers
+
+-- no step comes to a journal that a checkpoint replaces
+abbrev pub NeverRebases : QueueHistory → List Step → List (Result Reply Fault) → Type 0
+NeverRebases q [] answers = Unit {0}
+NeverRebases q (step ∷ steps) [] = Unit {0}
+NeverRebases q (step ∷ steps) (answer ∷ answers) =
+    ((outcome_at q step.at step.command).rebases ≡ false) × NeverRebases (after_answer q step.at step.command answer) steps answers

@@ -11,12 +11,12 @@ use Rattle.queue_core.specs.declared.slot.Slot.{Slot}
 use Rattle.queue_core.specs.declared.indices.Indices.{Indices}
 use Rattle.queue_core.specs.declared.index.MessageIndex.{MessageIndex}
 use Rattle.queue_core.specs.Messages.{Effect, effect_of, messages}
-use Rattle.queue_core.specs.States.{state_of}
+use Rattle.queue_core.specs.States.{kept_count, state_of}
 use Rattle.queue_core.specs.Queue.{QueueHistory, at_moment, waiting_count}
 use Rattle.queue_core.specs.Tally.{births}
 use Rattle.queue_core.specs.Slots.{is_hidden, is_shown, is_here, is_left_for, sent_in}
 use Rattle.queue_core.specs.Records.{slots_in}
-use Rattle.queue_core.specs.Cost.{kept_count}
+use Rattle.queue_core.specs.Standing.{StandsFor}
 
 -- ---- the indices
 
@@ -86,10 +86,10 @@ queue_weight q = sum_by (λ m. state_weight (state_of q.lines q.clock m)) (messa
 abbrev pub queue_kept : QueueHistory → ℕ
 queue_kept q = kept_count q.lines q.clock
 
--- a queue has come to a moment, by the operations before and after that
+-- a queue has come to a moment, where a checkpoint may have taken the place of its entries, by the operations before and after that
 pub record HasCome (ticks : ℕ) (q : QueueHistory) (ticks' : ℕ) (r : QueueHistory) : Type 0 where
   pub at : ℕ
-  pub later : r ≡ at_moment q at
+  pub later : StandsFor r (at_moment q at)
   pub kept : queue_kept r ≤ queue_kept q
   pub spent : (c : ℕ) → queue_kept q < 2 ^ c → ticks' + 2 * (c + 1) * queue_weight r ≤ ticks + 2 * (c + 1) * queue_weight q
 

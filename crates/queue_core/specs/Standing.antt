@@ -1,5 +1,5 @@
 -- What two queues have in common that answer alike, whatever their journals are.
-use Rattle.std.specs.Prelude.{◌≡◌, ℕ, List, Result, Ok}
+use Rattle.std.specs.Prelude.{◌≡◌, ℕ, Result, Ok}
 use Rattle.message.specs.declared.fault.Fault.{Fault}
 use Rattle.queue_core.specs.declared.command.Command.{Command}
 use Rattle.queue_core.specs.declared.reply.Reply.{Reply}
@@ -15,12 +15,12 @@ pub record StandsFor (q w : QueueHistory) : Type 0 where
   pub clock : q.clock ≡ w.clock
   pub summary : summary_of q.lines q.clock ≡ summary_of w.lines w.clock
 
--- a reply without the number of entries that a look tells
+-- a reply without the weight that a look tells
 abbrev pub without_lines : Result Reply Fault → Result Reply Fault
 without_lines (Ok (replies.Looked look)) = Ok (replies.Looked (record look { lines = 0 }))
 without_lines reply = reply
 
--- a command adds the same entry to both, and has the same reply, but for the number of entries
+-- a command adds the same entry to both, and has the same reply, but for the weight
 pub record AnswersAs (q w : QueueHistory) (command : Command) : Type 0 where
   pub event : (outcome_of q command).event ≡ (outcome_of w command).event
   pub reply : without_lines (outcome_of q command).reply ≡ without_lines (outcome_of w command).reply

@@ -9,7 +9,7 @@ use Rattle.queue_core.specs.declared.facts.Candidate.{Candidate}
 use Rattle.queue_core.specs.declared.facts.MessageState.{MessageState}
 use Rattle.queue_core.specs.declared.facts.MessageState.TheVariants.{Visible, Delayed, InFlight}
 use Rattle.metric_window.specs.declared.gauges.Gauges.{Gauges}
-use Rattle.queue_core.specs.Messages.{messages, is_present, is_returned, is_expired, receive_count, due_time}
+use Rattle.queue_core.specs.Messages.{messages, is_present, awaits_transfer, is_returned, is_expired, receive_count, due_time}
 
 -- a message that was neither removed nor has left nor has expired
 abbrev pub is_live : {C : Type 0} → List (Entry C) → ℕ → Message → Bool
@@ -42,6 +42,10 @@ is_in_state state lines clock m = option_map_or (λ s. same_state state s) (stat
 -- how many messages are in a state
 abbrev pub count_in_state : {C : Type 0} → MessageState → List (Entry C) → ℕ → ℕ
 count_in_state state lines clock = count_by (λ m. is_in_state state lines clock m) (messages lines)
+
+-- how many messages are live, and those that wait for a dead-letter queue
+abbrev pub kept_count : {C : Type 0} → List (Entry C) → ℕ → ℕ
+kept_count lines clock = count_by (λ m. is_live lines clock m || awaits_transfer lines m) (messages lines)
 
 -- how often a message was received that keeps failing, at the least (Amazon SQS, of ApproximateAgeOfOldestMessage)
 abbrev pub failing_receives : ℕ

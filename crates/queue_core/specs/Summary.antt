@@ -10,7 +10,7 @@ use Rattle.metric_window.specs.declared.row.Row.{Row}
 use Rattle.queue_core.specs.declared.facts.Message.{Message}
 use Rattle.queue_core.specs.declared.facts.Status.{Status}
 use Rattle.queue_core.specs.declared.facts.Status.TheVariants.{Present, Removed, Waiting, Transferred}
-use Rattle.queue_core.specs.declared.accepted.TransferKey.{TransferKey}
+use Rattle.journal.specs.declared.base.TransferKey.{TransferKey}
 use Rattle.queue_core.specs.Messages.{message_count, content_of, settings_of, created_time, modified_time, is_closed, is_expired, receive_count, first_receive_time, last_receive_time, course_of, is_returned, due_time, pending_transfers}
 use Rattle.queue_core.specs.States.{is_live, message_numbered}
 use Rattle.queue_core.specs.Metrics.{current_flows, window_rows}

@@ -1,6 +1,6 @@
 //! The transfers that a queue has accepted, kept for good.
 
-ghost use Rattle.std.specs.Prelude.{◌≡◌, ◌≤◌, ◌++◌, false, [], ◌∷◌, length, Ok, OnOk, IfErr, option_map, option_to_list};
+ghost use Rattle.std.specs.Prelude.{◌≡◌, ◌≤◌, ◌++◌, false, None, [], ◌∷◌, length, Ok, OnOk, IfErr, option_map, option_to_list};
 ghost use Rattle.std.specs.List.{All};
 ghost use Rattle.indexmap.specs.IndexSet.{spare};
 ghost use Rattle.message.specs.declared.fault.Fault.TheVariants.{OutOfMemory};
@@ -9,16 +9,9 @@ ghost use Rattle.queue_core.specs.Accepted.{holds};
 
 use crate::effect::effect_of;
 use indexmap::IndexSet;
-use journal::{Event, Origin};
+use journal::{Event, Origin, TransferKey};
 use message::{Content, Fault};
 use std::alloc::Global;
-
-/// A transfer: the uid of the queue that the message left, and its number there.
-#[derive(Clone, Copy, Debug, PartialEq, Eq, Hash)]
-pub(crate) struct TransferKey {
-    pub uid: u64,
-    pub number: u64,
-}
 
 /// The transfers that a queue has accepted, in the order in which it accepted them.
 #[derive(Debug, Drop)]
@@ -43,9 +36,11 @@ impl Accepted {
         self.keys.contains(&TransferKey { uid, number })
     }
 
-    /// Makes room for the transfer by which an event begins a message, where it does; no other event wants memory.
+    /// Makes room for the transfer by which an event, which is no checkpoint, begins a message, where it does; no other event wants
+    /// memory.
     /// `OutOfMemory` is the only refusal.
     pub(crate) fn make_place(&mut self, event: &Event<Content>) -> Result<(), Fault>
+        requires alone { (effect_of event.now).since ≡ None }
         ensures same { self.new.keys.keys ≡ self.old.keys.keys }
         ensures calm { (effect_of event.now).accepted ≡ [] → result ≡ Ok tt }
         ensures ok { OnOk result (length (effect_of event.now).accepted ≤ spare self.new.keys) }
@@ -57,9 +52,10 @@ impl Accepted {
         Ok(())
     }
 
-    /// Adds the transfer by which an event begins a message, where it does, behind those before it. It is not among them yet, and
-    /// there is room for it.
+    /// Adds the transfer by which an event, which is no checkpoint, begins a message, where it does, behind those before it. It is not
+    /// among them yet, and there is room for it.
     pub(crate) fn note(&mut self, event: &Event<Content>)
+        requires alone { (effect_of event.now).since ≡ None }
         requires room { length (effect_of event.now).accepted ≤ spare self.old.keys }
         requires first { All (λ key. holds self.old key.uid key.number ≡ false) (effect_of event.now).accepted }
         ensures { self.new.keys.keys ≡ self.old.keys.keys ++ (effect_of event.now).accepted }
@@ -79,8 +75,9 @@ impl Accepted {
     }
 }
 
-/// Where the message that an event begins came from, where it begins one that was not sent here.
+/// Where the message that an event, which is no checkpoint, begins came from, where it begins one that was not sent here.
 fn origin_of(event: &Event<Content>) -> Option<Origin>
+    requires alone { (effect_of event.now).since ≡ None }
     ensures { option_to_list (option_map key_of result) ≡ (effect_of event.now).accepted }
 {
     effect_of(event).birth?.origin

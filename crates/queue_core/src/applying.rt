@@ -1,14 +1,15 @@
 //! What an event does to the messages of a queue.
 
-ghost use Rattle.std.specs.Prelude.{◌≡◌, ℕ, ◌+◌, ◌<◌, ◌≤◌, ◌^◌, ◌*◌, ◌==◌, ◌||◌, not, nat_eq, true, false, None, Some, [], ◌∷◌, ◌++◌, if◌then◌else◌, filter, map, option_map, option_to_list, position, length, slice_index, slice_set, IsSome};
-ghost use Rattle.std.specs.List.{AllPairs};
+ghost use Rattle.std.specs.Prelude.{◌≡◌, ℕ, ◌+◌, ◌≤◌, ◌*◌, ◌==◌, ◌||◌, min, not, nat_eq, true, false, None, Some, [], ◌∷◌, ◌++◌, if◌then◌else◌, filter, option_map, option_to_list, position, length, slice_index, slice_set, IsSome};
+ghost use Rattle.std.specs.List.{AllPairs, filter_map};
 ghost use Rattle.std.specs.Option.{OnSome};
 ghost use Rattle.std.specs.VecDeque.{deque_capacity};
 ghost use Rattle.indexmap.specs.IndexMap.{get};
+ghost use Rattle.metric_window.specs.Flows.{greatest};
 ghost use Rattle.queue_core.specs.Messages.{effect_of, contains_number};
 ghost use Rattle.queue_core.specs.declared.slot.Stay.TheVariants.{Hidden, Left};
 ghost use Rattle.queue_core.specs.Slots.{is_here, is_left, is_left_for, one_if};
-ghost use Rattle.queue_core.specs.Records.{records_in, slots_in, born_in, born_record, records_after, hidden_until, received_at, with_stay, HasIndices, IsIndexed, IsReady};
+ghost use Rattle.queue_core.specs.Records.{records_in, slots_in, born_in, record_of_birth, records_after, hidden_until, received_at, with_stay, HasIndices, IsIndexed, IsReady};
 ghost use Rattle.queue_core.specs.Tally.{births};
 ghost use Rattle.queue_core.specs.Spending.{added, event_adds, left_count, Costs};
 ghost use Rattle.queue_core.specs.Applying.{CanApply, HaveReceived, HaveCounted, HasChanged, among, where_here, where_left, ended_by, returned_from};
@@ -25,7 +26,7 @@ use std::collections::VecDeque;
 
 impl MessageIndex {
     /// Makes every change that an event makes of the messages, without memory, by the settings in force until
-    /// then and at its time. A message that it begins is given.
+    /// then and at its time. A message that it begins is given. It is no checkpoint.
     pub(crate) fn apply(
         &mut self,
         settings: Settings,
@@ -35,8 +36,7 @@ impl MessageIndex {
         ticks: &mut Ticks,
     )
         requires indexed { IsIndexed self.old }
-        requires few { born_in self.old < 2 ^ 62 }
-        requires born { option_to_list born ≡ map (born_record at) (effect_of event.now).births }
+        requires born { option_to_list born ≡ filter_map (record_of_birth at) (effect_of event.now).births }
         requires ready { OnSome born (IsReady self.old) }
         requires about { CanApply event.now self.old }
         ensures indexed { IsIndexed self.new }
@@ -71,6 +71,7 @@ impl MessageIndex {
             Change::Confirm(number) => self.confirm(number, ticks),
             Change::BringBack(target) => self.bring_back(target, at, ticks),
             Change::Close => self.close(ticks),
+            Change::Base(_) => {}
         }
     }
 
@@ -79,7 +80,6 @@ impl MessageIndex {
         requires indices { HasIndices self.old }
         requires kept { IsSome (records_in self.old number) }
         requires sent { (r : Record) → records_in self.old number ≡ Some r → slot.sent ≡ r.slot.sent }
-        requires few { born_in self.old < 2 ^ 62 }
         ensures change { HasChanged (among (number ∷ []) (λ r. Some (record r { slot = slot }))) self.old self.new }
         ensures receives { self.new.receives.items ≡ self.old.receives.items }
         ensures leaving { self.new.leaving.items ≡ self.old.leaving.items }
@@ -90,15 +90,14 @@ impl MessageIndex {
         self.rewrite(number, first_receive, last_receive, slot, ticks);
     }
 
-    /// Offers the message of a number, which is there, at a time, and hides it until another.
+    /// Offers the message of a number, which is there, at a time, and hides it until another. A count of receives stays at
+    /// the greatest number, once it is there.
     fn offer(&mut self, number: u64, at: Moment, due: u64, ticks: &mut Ticks)
         requires indices { HasIndices self.old }
         requires here { is_here (slots_in self.old number) ≡ true }
-        requires few { born_in self.old < 2 ^ 62 }
-        requires few_receives { slice_index self.old.receives.items number < 2 ^ 31 }
         ensures change { HasChanged (among (number ∷ []) (λ r. Some (hidden_until due (received_at at r)))) self.old self.new }
         ensures receives { self.new.receives.items
-            ≡ slice_set self.old.receives.items number (slice_index self.old.receives.items number + 1) }
+            ≡ slice_set self.old.receives.items number (min (slice_index self.old.receives.items number + 1) greatest) }
         ensures leaving { self.new.leaving.items ≡ self.old.leaving.items }
         ensures cost { Costs 0 6 ticks.old self.old ticks.new self.new }
     {
@@ -112,7 +111,8 @@ impl MessageIndex {
             ..kept.slot
         };
         self.rewrite(number, Some(first_receive), at, slot, ticks);
-        self.receives[number as usize] += 1;
+        let count = &mut self.receives[number as usize];
+        *count = count.saturating_add(1);
     }
 
     /// Offers the messages of these numbers.
@@ -120,8 +120,6 @@ impl MessageIndex {
         requires indices { HasIndices self.old }
         requires here { (n : ℕ) → contains_number n offered.now ≡ true → is_here (slots_in self.old n) ≡ true }
         requires once { AllPairs (λ a b. nat_eq a b ≡ false) offered.now }
-        requires few { born_in self.old < 2 ^ 62 }
-        requires few_receives { (n : ℕ) → slice_index self.old.receives.items n < 2 ^ 31 }
         ensures change { HasChanged (among offered.now (λ r. Some (hidden_until due (received_at at r)))) self.old self.new }
         ensures receives { HaveCounted offered.now self.old.receives.items self.new.receives.items }
         ensures leaving { self.new.leaving.items ≡ self.old.leaving.items }
@@ -136,7 +134,6 @@ impl MessageIndex {
     fn depart(&mut self, number: u64, target: u64, ticks: &mut Ticks)
         requires indices { HasIndices self.old }
         requires here { is_here (slots_in self.old number) ≡ true }
-        requires few { born_in self.old < 2 ^ 62 }
         ensures change { HasChanged (among (number ∷ []) (λ r. Some (with_stay (Left target false) r))) self.old self.new }
         ensures receives { self.new.receives.items ≡ self.old.receives.items }
         ensures leaving { self.new.leaving.items ≡ self.old.leaving.items }
@@ -157,7 +154,6 @@ impl MessageIndex {
         requires indices { HasIndices self.old }
         requires here { (n : ℕ) → contains_number n numbers.now ≡ true → is_here (slots_in self.old n) ≡ true }
         requires once { AllPairs (λ a b. nat_eq a b ≡ false) numbers.now }
-        requires few { born_in self.old < 2 ^ 62 }
         requires room { length self.old.leaving.items + length numbers.now ≤ deque_capacity self.old.leaving }
         ensures change { HasChanged (among numbers.now (λ r. Some (with_stay (Left target false) r))) self.old self.new }
         ensures receives { self.new.receives.items ≡ self.old.receives.items }
@@ -173,7 +169,6 @@ impl MessageIndex {
     /// Hides the message of a number until a time, where it is there.
     fn reschedule(&mut self, number: u64, due: u64, ticks: &mut Ticks)
         requires indices { HasIndices self.old }
-        requires few { born_in self.old < 2 ^ 62 }
         ensures change { HasChanged (among (number ∷ []) (where_here (λ r. Some (hidden_until due r)))) self.old self.new }
         ensures receives { self.new.receives.items ≡ self.old.receives.items }
         ensures leaving { self.new.leaving.items ≡ self.old.leaving.items }
@@ -199,7 +194,6 @@ impl MessageIndex {
     #[tactic(auto, using(crate::proofs::SpendingLemmas::free_then, crate::proofs::SpendingLemmas::costs_none))]
     fn delete(&mut self, number: u64, ticks: &mut Ticks)
         requires indices { HasIndices self.old }
-        requires few { born_in self.old < 2 ^ 62 }
         ensures change { HasChanged (among (number ∷ []) (where_here (λ r. None))) self.old self.new }
         ensures receives { self.new.receives.items ≡ self.old.receives.items }
         ensures leaving { self.new.leaving.items ≡ self.old.leaving.items }
@@ -218,7 +212,6 @@ impl MessageIndex {
     #[tactic(auto, using(crate::proofs::SpendingLemmas::free_then, crate::proofs::SpendingLemmas::costs_none))]
     fn purge(&mut self, ticks: &mut Ticks)
         requires indices { HasIndices self.old }
-        requires few { born_in self.old < 2 ^ 62 }
         ensures change { HasChanged (λ n. where_here (λ r. None)) self.old self.new }
         ensures receives { self.new.receives.items ≡ self.old.receives.items }
         ensures leaving { self.new.leaving.items ≡ self.old.leaving.items }
@@ -232,7 +225,6 @@ impl MessageIndex {
     /// Notes of the message of a number, where it has left, whether its retention in seconds has ended at a time.
     fn note_end(&mut self, number: u64, retention: u32, at: Moment, ticks: &mut Ticks)
         requires indices { HasIndices self.old }
-        requires few { born_in self.old < 2 ^ 62 }
         ensures change { HasChanged (among (number ∷ []) (where_left (ended_by retention at))) self.old self.new }
         ensures receives { self.new.receives.items ≡ self.old.receives.items }
         ensures leaving { self.new.leaving.items ≡ self.old.leaving.items }
@@ -257,7 +249,6 @@ impl MessageIndex {
     #[tactic(auto, using(crate::proofs::SpendingLemmas::free_then, crate::proofs::SpendingLemmas::costs_none))]
     fn end_period(&mut self, retention: u32, at: Moment, ticks: &mut Ticks)
         requires indexed { IsIndexed self.old }
-        requires few { born_in self.old < 2 ^ 62 }
         ensures change { HasChanged (λ n. where_left (ended_by retention at)) self.old self.new }
         ensures receives { self.new.receives.items ≡ self.old.receives.items }
         ensures leaving { self.new.leaving.items ≡ self.old.leaving.items }
@@ -273,7 +264,6 @@ impl MessageIndex {
     #[tactic(auto, using(crate::proofs::SpendingLemmas::free_then, crate::proofs::SpendingLemmas::costs_none))]
     fn confirm(&mut self, number: u64, ticks: &mut Ticks)
         requires indexed { IsIndexed self.old }
-        requires few { born_in self.old < 2 ^ 62 }
         ensures change { HasChanged (among (number ∷ []) (where_left (λ target ran_out r. None))) self.old self.new }
         ensures receives { self.new.receives.items ≡ self.old.receives.items }
         ensures leaving { self.new.leaving.items ≡ filter (λ n. not (n == number)) self.old.leaving.items }
@@ -288,7 +278,6 @@ impl MessageIndex {
     /// or lets it go there, where it has run out.
     fn return_one(&mut self, number: u64, lost: u64, at: Moment, ticks: &mut Ticks)
         requires indices { HasIndices self.old }
-        requires few { born_in self.old < 2 ^ 62 }
         ensures change { HasChanged (among (number ∷ []) (where_left (returned_from lost at))) self.old self.new }
         ensures receives { self.new.receives.items ≡ self.old.receives.items }
         ensures leaving { self.new.leaving.items ≡ self.old.leaving.items }
@@ -319,7 +308,6 @@ impl MessageIndex {
     /// Brings back at a time what has left for the dead-letter queue of a uid, and lets go what of it has run out.
     fn bring_back(&mut self, lost: u64, at: Moment, ticks: &mut Ticks)
         requires indexed { IsIndexed self.old }
-        requires few { born_in self.old < 2 ^ 62 }
         ensures change { HasChanged (λ n. where_left (returned_from lost at)) self.old self.new }
         ensures receives { self.new.receives.items ≡ self.old.receives.items }
         ensures leaving { self.new.leaving.items ≡ filter (λ n. is_left (slots_in self.new n)) self.old.leaving.items }
@@ -347,7 +335,6 @@ impl MessageIndex {
     #[tactic(auto, using(crate::proofs::SpendingLemmas::free_then, crate::proofs::SpendingLemmas::costs_none))]
     fn close(&mut self, ticks: &mut Ticks)
         requires indexed { IsIndexed self.old }
-        requires few { born_in self.old < 2 ^ 62 }
         ensures change { HasChanged (λ n r. None) self.old self.new }
         ensures receives { self.new.receives.items ≡ self.old.receives.items }
         ensures leaving { self.new.leaving.items ≡ [] }
@@ -361,7 +348,7 @@ impl MessageIndex {
 }
 
 /// The time so many seconds after another, in milliseconds.
-fn after_seconds(at: Moment, seconds: u32) -> u64
+pub(crate) fn after_seconds(at: Moment, seconds: u32) -> u64
     ensures { result ≡ at + 1000 * seconds }
 {
     at.milliseconds() + 1000 * u64::from(seconds)

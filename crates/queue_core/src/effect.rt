@@ -4,12 +4,12 @@ ghost use Rattle.std.specs.Prelude.{◌≡◌, None, option_to_list};
 ghost use Rattle.queue_core.specs.Messages.{effect_of, opens};
 ghost use Rattle.queue_core.specs.Effects.{changed_by, accepted_with};
 
-use journal::{Event, Origin};
+use journal::{Base, Event, Origin};
 use message::Content;
 use queue_config::Settings;
 use std::marker::Model;
 
-/// The beginning of a message. Contracts see it as the definition of that name in `specs/`.
+/// The beginning of a message that was not there before. Contracts see it as the definition of that name in `specs/`.
 #[derive(Debug, Drop)]
 pub(crate) struct Birth<'a> {
     pub content: &'a Content,
@@ -20,12 +20,13 @@ pub(crate) struct Birth<'a> {
 }
 
 impl<'a> Model for Birth<'a> {
+    ghost use Rattle.std.specs.Prelude.{Some, None};
     ghost use Rattle.message.specs.Content.{ContentText};
     ghost use Rattle.queue_core.specs.Messages as messages;
 
     ghost Value = { messages.Birth ContentText };
 
-    ghost view = { λ b. record { content = b.content.now; delay = b.delay; origin = b.origin } };
+    ghost view = { λ b. record { content = Some b.content.now; delay = b.delay; origin = b.origin; past = None } };
 }
 
 /// What an event does to the messages that are there or have left.
@@ -54,6 +55,8 @@ pub(crate) enum Change<'a> {
     BringBack(u64),
     /// Each message goes.
     Close,
+    /// All that the queue ever had begins again: it is a checkpoint.
+    Base(&'a Base<Content>),
 }
 
 /// What an event does to a queue.
@@ -79,10 +82,11 @@ impl<'a> Effect<'a> {
     }
 }
 
-/// What an event does. No event is left out, and no other function of these asks which one it was.
+/// What an event does. No event is left out, and no other function of these asks which one it was. What begins with a
+/// checkpoint stands in that alone.
 pub(crate) fn effect_of(event: &Event<Content>) -> Effect<'_>
-    ensures births { option_to_list result.birth ≡ (effect_of event.now).births }
-    ensures accepted { accepted_with result.birth ≡ (effect_of event.now).accepted }
+    ensures births { (effect_of event.now).since ≡ None → option_to_list result.birth ≡ (effect_of event.now).births }
+    ensures accepted { (effect_of event.now).since ≡ None → accepted_with result.birth ≡ (effect_of event.now).accepted }
     ensures settings { result.settings ≡ (effect_of event.now).settings }
     ensures change { effect_of event.now ≡ record (changed_by result.change result.birth) { settings = result.settings; opens = opens event.now } }
 {
@@ -129,5 +133,9 @@ pub(crate) fn effect_of(event: &Event<Content>) -> Effect<'_>
         Event::Settled { number } => Effect::of(Change::Confirm(*number)),
         Event::Orphaned { target } => Effect::of(Change::BringBack(*target)),
         Event::Closed => Effect::of(Change::Close),
+        Event::Base(base) => Effect {
+            settings: Some(base.settings()),
+            ..Effect::of(Change::Base(base))
+        },
     }
 }

@@ -1,17 +1,23 @@
 //! The definitions in `specs/`, computed on small journals. Nothing runs here: each function is
 //! empty, and the checker computes what its contract says.
 
-ghost use Rattle.std.specs.Prelude.{◌≡◌, ◌∷◌, [], true, false, Some, None, Ok};
+ghost use Rattle.std.specs.Prelude.{◌≡◌, ℕ, ◌+◌, ◌∷◌, [], true, false, length, option_map, Some, None, Ok};
 ghost use Rattle.message.specs.declared.fault.Fault.TheVariants.{InvalidParameterValue, ReceiptHandleIsInvalid, MessageNotInflight, OverLimit, JournalFull};
 ghost use Rattle.queue_config.specs.Limits.{default_limits};
 ghost use Rattle.queue_config.specs.Settings.{default_settings, no_requested_attributes};
 ghost use Rattle.journal.specs.declared.entry.Event.TheVariants as events;
-ghost use Rattle.queue_core.specs.declared.command.Command.TheVariants.{Send, Receive, Change, Delete, Purge, Set, Arrive, Settle, Orphan, Look};
+ghost use Rattle.queue_core.specs.declared.command.Command.TheVariants.{Send, Receive, Change, Delete, Purge, Set, Arrive, Settle, Orphan, Close, Look};
 ghost use Rattle.queue_core.specs.declared.reply.Reply.TheVariants as replies;
 ghost use Rattle.queue_core.specs.declared.parcel.Arrival.TheVariants as arrivals;
-ghost use Rattle.queue_core.specs.Messages.{settings_of, is_expired, created_time, modified_time};
+ghost use Rattle.message.specs.Content.{ContentText, content_size};
+ghost use Rattle.journal.specs.Base.{BaseOf};
+ghost use Rattle.journal.specs.Journal.{based};
+ghost use Rattle.journal.specs.Weight.{weight_of};
+ghost use Rattle.metric_window.specs.Flows.{row_kept};
+ghost use Rattle.queue_core.specs.Messages.{settings_of, is_expired, created_time, modified_time, is_closed, receive_count, last_receive_time, base_receives};
+ghost use Rattle.queue_core.specs.Metrics.{current_flows, row_of};
 ghost use Rattle.queue_core.specs.States.{oldest_age, receive_order};
-ghost use Rattle.queue_core.specs.Queue.{at_moment, numbers_of, outcome_at, first_parcel_of, done, refusal, uncounted_refusal};
+ghost use Rattle.queue_core.specs.Queue.{at_moment, numbers_of, outcome_at, first_parcel_of, done, adding, answering, refusal, uncounted_refusal};
 ghost use Rattle.queue_core.specs.Queue.{QueueHistory};
 ghost use Rattle.queue_core.specs.Legal.{IsAllowedIn};
 ghost use Rattle.queue_core.specs.Examples as example;
@@ -249,11 +255,11 @@ pub fn dead_letters_leave_and_come_back()
     ensures not_purged { first_parcel_of (example.queue 5001 example.first_of_two_left_and_purged)
         ≡ Some example.parcel_of_a }
     ensures confirmed { example.outcome example.first_of_two_left 5001 (Settle 0)
-        ≡ record { event = Some (events.Settled 0); reply = Ok (replies.Settled true) } }
+        ≡ adding (events.Settled 0) (Ok (replies.Settled true)) }
     ensures not_waiting { example.outcome example.first_of_two_left 5001 (Settle 1)
-        ≡ record { event = None; reply = Ok (replies.Settled false) } }
+        ≡ answering (Ok (replies.Settled false)) }
     ensures lost { example.outcome example.first_of_two_left 5002 (Orphan 9)
-        ≡ record { event = Some (events.Orphaned 9); reply = Ok (replies.Orphaned 1) } }
+        ≡ adding (events.Orphaned 9) (Ok (replies.Orphaned 1)) }
     ensures back { example.counts_at 5002 example.first_of_two_back ≡ example.counts 1 0 1 }
     ensures nothing_waits { first_parcel_of (example.queue 5002 example.first_of_two_back) ≡ None }
     ensures without_its_policy { settings_of example.first_of_two_back ≡ example.with_timeout 1 }
@@ -278,7 +284,7 @@ pub fn dead_letters_arrive()
         (Arrive example.parcel_of_a)).event
         ≡ Some (events.Arrived example.origin_of_a example.letter_a) }
     ensures again { example.outcome example.arrived_at_five_seconds 6000 (Arrive example.parcel_of_a)
-        ≡ record { event = None; reply = Ok (replies.Arrived arrivals.Again) } }
+        ≡ answering (Ok (replies.Arrived arrivals.Again)) }
     ensures aged_from_its_arrival { oldest_age example.arrived_at_five_seconds 59999 ≡ 54 }
     ensures kept_from_its_first_send { example.counts_at 60999 example.arrived_at_five_seconds
         ≡ example.counts 1 0 0 }
@@ -369,4 +375,108 @@ pub fn nothing_out_of_range_is_legal()
     ensures no_messages { (q : QueueHistory) → IsAllowedIn q (Receive 0 None) → ⊥ }
     ensures eleven_messages { (q : QueueHistory) → IsAllowedIn q (Receive 11 None) → ⊥ }
     ensures timeout { (q : QueueHistory) → IsAllowedIn q (Change (example.handle 1) 43201) → ⊥ }
+{}
+
+/// A journal goes on from a checkpoint as from the entries that it stands for: what is gone counts no
+/// more, and its number and its receipts stay known.
+pub fn journals_go_on_from_a_checkpoint()
+    ensures counts { example.counts_at 4000 example.sent_behind_a_checkpoint ≡ example.counts 1 0 0 }
+    ensures next_number { example.outcome (based 4000 example.base_without_messages) 4000 (Send example.letter_b None)
+        ≡ example.sent_outcome 0 example.letter_b 1 }
+    ensures deleted_again { example.outcome example.sent_behind_a_checkpoint 4100 (Delete (example.handle 1))
+        ≡ done events.DeletedAgain }
+    ensures never_given { example.outcome example.sent_behind_a_checkpoint 4150 (Delete (example.handle 2))
+        ≡ refusal ReceiptHandleIsInvalid }
+    ensures flows { current_flows content_size example.sent_behind_a_checkpoint 4000
+        ≡ record { sent = 2; sent_size = 2; received = 1; empty_receives = 0; deleted = 1; refused = 0; dead_letters_arrived = 0 } }
+{}
+
+/// A checkpoint keeps what is live and what waits for a dead-letter queue, with its times, its receives
+/// and whether it had expired; the transfers that were accepted, and the rows that are shown.
+pub fn checkpoints_keep_what_goes_on()
+    ensures in_flight { example.counts_at 94999 example.two_kept ≡ example.counts 0 0 1 }
+    ensures visible_when_due { example.counts_at 95000 example.two_kept ≡ example.counts 1 0 0 }
+    ensures kept_until_its_end { example.counts_at 169999 example.two_kept ≡ example.counts 1 0 0 }
+    ensures expires_by_its_first_send { example.counts_at 170000 example.two_kept ≡ example.counts 0 0 0 }
+    ensures received_so_often { (example.outcome example.two_kept 95000 (Receive 1 None)).event
+        ≡ Some (events.Received 1 [] (2 ∷ []) 9) }
+    ensures waits { first_parcel_of (example.queue 91000 example.two_kept) ≡ Some example.parcel_of_expired_a }
+    ensures lost { (example.outcome example.two_kept 91000 (Orphan 9)).reply ≡ Ok (replies.Orphaned 1) }
+    ensures expired_before { example.counts_at 91000 example.two_kept_and_orphaned ≡ example.counts 0 0 1 }
+    ensures accepted { (example.outcome example.two_kept 91000 (Arrive example.parcel_of_seventh)).reply
+        ≡ Ok (replies.Arrived arrivals.Again) }
+    ensures shown { row_of content_size example.two_kept 91000 0 ≡ Some (row_kept example.row_of_first_minute) }
+    ensures gone { receive_count example.two_kept 0 ≡ 4 }
+{}
+
+/// A journal at its limit begins anew with a checkpoint, where that makes room: what is gone counts no
+/// more, and what is known of it stays. What waits for a dead-letter queue is kept, with the order in
+/// which it left and whether it had expired; so are the twelve hours since the last receive. Neither a
+/// look nor a close makes a checkpoint, and none is made where memory runs out.
+pub fn a_full_journal_begins_anew()
+    ensures filled { (example.queue_after (example.of_four 0 example.only_opened)
+        (example.step 1000 (Send example.letter_a None) ∷ example.step 2000 (Receive 1 None)
+        ∷ example.step 3000 (Delete (example.handle 1)) ∷ [])).lines
+        ≡ example.sent_received_and_deleted }
+    ensures looked_at { (outcome_at (example.of_four 3000 example.sent_received_and_deleted) 4000 Look).rebases ≡ false }
+    ensures closed { outcome_at (example.of_four 3000 example.sent_received_and_deleted) 4000 Close
+        ≡ done events.Closed }
+    ensures no_memory { example.left_without_memory (example.of_four 3000 example.sent_received_and_deleted)
+        4000 (Send example.letter_b None)
+        ≡ example.of_four 4000 example.sent_received_and_deleted }
+    ensures next_number { outcome_at (example.of_four 3000 example.sent_received_and_deleted) 4000 (Send example.letter_b None)
+        ≡ example.behind_a_checkpoint (example.sent_outcome 0 example.letter_b 1) }
+    ensures one_for_four { (example.left_with_answer (example.of_four 3000 example.sent_received_and_deleted)
+        4000 (Send example.letter_b None)).lines
+        ≡ example.sent_behind_a_checkpoint }
+    ensures look { outcome_at (example.of_four 4000 example.sent_behind_a_checkpoint) 4000 Look
+        ≡ example.looked_outcome example.look_behind_a_checkpoint }
+    ensures deleted_again { outcome_at (example.of_four 4000 example.sent_behind_a_checkpoint) 4100 (Delete (example.handle 1))
+        ≡ done events.DeletedAgain }
+    ensures never_given { outcome_at (example.of_four 4100 example.sent_behind_a_checkpoint) 4150 (Delete (example.handle 2))
+        ≡ refusal ReceiptHandleIsInvalid }
+    ensures full_again { weight_of example.asked_twice_behind_a_checkpoint ≡ 4 }
+    ensures two_kept { weight_of (example.left_with_answer (example.of_four 4150 example.asked_twice_behind_a_checkpoint)
+        4200 (Send example.hello None)).lines
+        ≡ 3 }
+    ensures three_kept { weight_of example.two_sent_behind_them.lines ≡ 4 }
+    ensures no_room { outcome_at example.two_sent_behind_them 4400 (Send example.hello None) ≡ uncounted_refusal JournalFull }
+    ensures counts { example.counts_at 4400 example.two_sent_behind_them.lines ≡ example.counts 3 0 0 }
+    ensures expired { example.lines_after example.short_policy
+        (example.step 0 (Send example.letter_a None) ∷ example.step 0 (Receive 1 None)
+        ∷ example.step 1000 (Receive 1 None) ∷ example.step 90000 (Set (example.requested_retention 120) 0) ∷ [])
+        ≡ example.left_and_expired }
+    ensures orphaned { outcome_at (example.queue_with (example.at_most_lines 5) 90000 example.left_and_expired) 91000 (Orphan 9)
+        ≡ example.behind_a_checkpoint (adding (events.Orphaned 9) (Ok (replies.Orphaned 1))) }
+    ensures kept_and_orphaned { weight_of example.orphaned_at_the_limit.lines ≡ 3 }
+    ensures expired_for_good { example.counts_at 91000 example.orphaned_at_the_limit.lines ≡ example.counts 0 0 0 }
+    ensures left { example.lines_after example.with_policy
+        (example.step 0 (Send example.letter_a None) ∷ example.step 0 (Send example.letter_b None)
+        ∷ example.step 0 (Receive 2 None) ∷ example.step 500 (Change (example.handle 1) 2)
+        ∷ example.step 5000 (Receive 2 None) ∷ [])
+        ≡ example.left_as_they_were_due }
+    ensures first_left { option_map (λ p. p.origin.number) (first_parcel_of (example.queue 5000 example.left_as_they_were_due)) ≡ Some 1 }
+    ensures none_waits_so { outcome_at (example.queue_with (example.at_most_lines 6) 5000 example.left_as_they_were_due) 6000 (Settle 7)
+        ≡ example.behind_a_checkpoint (answering (Ok (replies.Settled false))) }
+    ensures both_kept { weight_of example.asked_for_another.lines ≡ 3 }
+    ensures still_first { option_map (λ p. p.origin.number) (first_parcel_of example.asked_for_another) ≡ Some 1 }
+    ensures refused_once { example.lines_after default_settings
+        (example.step 0 (Send example.letter_a None) ∷ example.step 1000 (Receive 1 None)
+        ∷ example.step 1001 (Change (example.handle 1) 43200) ∷ [])
+        ≡ example.received_and_refused_once }
+    ensures changed { outcome_at (example.of_four 1001 example.received_and_refused_once) 1002 (Change (example.handle 1) 43199)
+        ≡ example.behind_a_checkpoint (done (events.Changed 0 43199)) }
+    ensures kept_and_changed { weight_of (example.left_with_answer (example.of_four 1001 example.received_and_refused_once)
+        1002 (Change (example.handle 1) 43199)).lines
+        ≡ 3 }
+{}
+
+/// What a checkpoint says is what its journal says.
+pub fn a_checkpoint_says_itself()
+    ensures settings { (at : ℕ) (b : BaseOf ContentText) → settings_of (based at b) ≡ b.settings }
+    ensures created { (at : ℕ) (b : BaseOf ContentText) → created_time (based at b) ≡ b.created }
+    ensures modified { (at : ℕ) (b : BaseOf ContentText) → modified_time (based at b) ≡ b.modified }
+    ensures open { (at : ℕ) (b : BaseOf ContentText) → is_closed (based at b) ≡ false }
+    ensures last { (at number : ℕ) (b : BaseOf ContentText) → last_receive_time (based at b) number ≡ (base_receives b number).last }
+    ensures weight { (at : ℕ) (b : BaseOf ContentText) → weight_of (based at b) ≡ 1 + length b.messages }
 {}

@@ -13,10 +13,12 @@ pub struct Message {
     pub enqueue_time: Moment,
     /// When it was first sent, to this queue or the one that it came from.
     pub first_send_time: Moment,
-    /// When it is to be offered first, in milliseconds. It may pass the greatest moment.
-    pub first_due_time: u64,
     /// Where it came from, where it is a dead letter of another queue.
     pub origin: Option<Origin>,
+    /// Where it stood when its entry was made. A checkpoint begins messages that were there before.
+    pub begun: Course,
+    /// Whether its retention had ended then.
+    pub ran_out: bool,
 }
 
 /// Where a message stands.
@@ -32,7 +34,7 @@ pub enum Status {
     Transferred,
 }
 
-/// What has become of a message since its entry.
+/// Where a message stands, and what has become of it.
 #[derive(Clone, Copy, Debug, PartialEq, Eq)]
 pub struct Course {
     pub status: Status,

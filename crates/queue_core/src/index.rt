@@ -24,11 +24,12 @@ use std::alloc::Global;
 use std::collections::VecDeque;
 
 /// The messages that a queue has and those that wait for a dead-letter queue, how often each message that
-/// it ever had was received, the numbers of those that wait, in the order in which they left, and the indices.
+/// it ever had was received (as far as a `u64` counts), the numbers of those that wait, in the order in which they
+/// left, and the indices.
 #[derive(Debug, Drop)]
 pub(crate) struct MessageIndex {
     pub records: IndexMap<u64, Record>,
-    pub receives: Vec<u32>,
+    pub receives: Vec<u64>,
     pub leaving: VecDeque<u64>,
     pub indices: Indices,
 }
@@ -88,6 +89,7 @@ impl MessageIndex {
     /// How many messages are kept. That none of them is kept twice bounds what going through them costs.
     pub(crate) fn len(&self) -> usize
         ensures count { result ≡ index_map_len self.now.records }
+        ensures small { result < 2 ^ 63 }
         ensures unique { IsUnique nat_eq self.now.records }
     {
         self.records.len()
@@ -121,10 +123,9 @@ impl MessageIndex {
 
     /// How many of the messages that are kept the list of ages lacks: those that have left, and those that keep failing.
     fn without_age(&self) -> usize
-        requires indexed { IsIndexed self.now }
-        requires few { born_in self.now < 2 ^ 30 }
+        requires { IsIndexed self.now }
         ensures count { result ≡ length self.now.leaving.items + self.now.indices.failing }
-        ensures few { result < 2 ^ 31 }
+        ensures few { result < 2 ^ 63 }
     {
         self.leaving.len() + self.indices.failing as usize
     }
@@ -133,7 +134,7 @@ impl MessageIndex {
     /// where a receive makes room. `OutOfMemory` is the only refusal.
     pub(crate) fn reserve_one(&mut self, alloc: Global) -> Result<(), Fault>
         requires indexed { IsIndexed self.old }
-        requires few { born_in self.old < 2 ^ 30 }
+        requires few { index_map_len self.old.records < 2 ^ 31 }
         ensures same { HasSame self.old self.new }
         ensures indices { HasIndices self.new }
         ensures ok { OnOk result (IsReady self.new) }
@@ -155,7 +156,6 @@ impl MessageIndex {
         requires indices { HasIndices self.old }
         requires ready { IsReady self.old }
         requires sent { kept.slot.sent ≡ kept.first_send_time }
-        requires few { born_in self.old < 2 ^ 62 }
         ensures indices { HasIndices self.new }
         ensures records { (n : ℕ) → records_in self.new n
             ≡ (if nat_eq n (born_in self.old) then Some kept else records_in self.old n) }
@@ -181,7 +181,6 @@ impl MessageIndex {
         requires indices { HasIndices self.old }
         requires kept { IsSome (records_in self.old number) }
         requires sent { (r : Record) → records_in self.old number ≡ Some r → slot.sent ≡ r.slot.sent }
-        requires few { born_in self.old < 2 ^ 62 }
         ensures indices { HasIndices self.new }
         ensures records { (n : ℕ) → records_in self.new n
             ≡ (if nat_eq n number then option_map (with_parts first_receive last_receive slot) (records_in self.old n) else records_in self.old n) }
@@ -199,7 +198,6 @@ impl MessageIndex {
     /// Lets the message of a number go, where it is kept.
     pub(crate) fn take_out(&mut self, number: u64, ticks: &mut Ticks)
         requires indices { HasIndices self.old }
-        requires few { born_in self.old < 2 ^ 62 }
         ensures indices { HasIndices self.new }
         ensures records { (n : ℕ) → records_in self.new n
             ≡ (if nat_eq n number then None else records_in self.old n) }
@@ -217,7 +215,6 @@ impl MessageIndex {
     /// Shows what is due at a time, and lets go what is there and has run out by a retention in seconds.
     pub(crate) fn settle(&mut self, retention: u32, at: Moment, ticks: &mut Ticks)
         requires indices { HasIndices self.old }
-        requires few { born_in self.old < 2 ^ 62 }
         ensures indices { HasIndices self.new }
         ensures records { (n : ℕ) → records_in self.new n
             ≡ records_settled retention at (records_in self.old) n }
@@ -236,7 +233,6 @@ impl MessageIndex {
     #[tactic(auto, using(crate::proofs::SpendingLemmas::free_then, crate::proofs::SpendingLemmas::costs_none))]
     fn show_due(&mut self, at: u64, ticks: &mut Ticks)
         requires indices { HasIndices self.old }
-        requires few { born_in self.old < 2 ^ 62 }
         ensures indices { HasIndices self.new }
         ensures records { (n : ℕ) → records_in self.new n ≡ option_map (shown_at at) (records_in self.old n) }
         ensures receives { self.new.receives.items ≡ self.old.receives.items }
@@ -252,7 +248,6 @@ impl MessageIndex {
     #[tactic(auto, using(crate::proofs::SpendingLemmas::free_then, crate::proofs::SpendingLemmas::costs_none))]
     fn let_go(&mut self, moment: u64, ticks: &mut Ticks)
         requires indices { HasIndices self.old }
-        requires few { born_in self.old < 2 ^ 62 }
         ensures indices { HasIndices self.new }
         ensures records { (n : ℕ) → records_in self.new n ≡ option_and_then (kept_since moment) (records_in self.old n) }
         ensures receives { self.new.receives.items ≡ self.old.receives.items }
@@ -289,7 +284,6 @@ impl MessageIndex {
     fn show(&mut self, number: u64, ticks: &mut Ticks)
         requires indices { HasIndices self.old }
         requires hidden { is_hidden (slots_in self.old number) ≡ true }
-        requires few { born_in self.old < 2 ^ 62 }
         ensures indices { HasIndices self.new }
         ensures records { (n : ℕ) → records_in self.new n
             ≡ (if nat_eq n number then option_map (with_stay Shown) (records_in self.old n) else records_in self.old n) }
@@ -313,7 +307,8 @@ impl MessageIndex {
     /// No other event wants memory. `OutOfMemory` is the only refusal.
     pub(crate) fn make_room(&mut self, alloc: Global, event: &Event<Content>) -> Result<(), Fault>
         requires indexed { IsIndexed self.old }
-        requires few { born_in self.old < 2 ^ 30 }
+        requires few { index_map_len self.old.records < 2 ^ 31 }
+        requires alone { (effect_of event.now).since ≡ None }
         ensures same { HasSame self.old self.new }
         ensures indexed { IsIndexed self.new }
         ensures calm { (effect_of event.now).births ≡ [] → (effect_of event.now).departures ≡ [] → result ≡ Ok tt }

@@ -17,12 +17,14 @@ ghost use Rattle.queue_core.specs.declared.reply.Posted.{Posted};
 ghost use Rattle.queue_core.specs.declared.facts.Message.{Message};
 ghost use Rattle.queue_core.specs.declared.facts.Candidate.{Candidate};
 ghost use Rattle.queue_core.specs.declared.facts.MessageState.TheVariants.{Visible, Delayed, InFlight};
-ghost use Rattle.queue_core.specs.Messages.{messages, settings_of, receive_count, is_removed, is_expired, due_time};
+ghost use Rattle.queue_core.specs.Messages.{messages, settings_of, receive_count, is_expired, due_time};
 ghost use Rattle.queue_core.specs.States.{is_live, is_in_state, count_in_state, gauges_of, candidate_of, receive_order};
-ghost use Rattle.queue_core.specs.Queue.{QueueHistory, at_moment, reached, outcome_at, with_event, after_answer, look_of, in_flight_count, scanned_candidates, offered_candidates, leaving_candidates, received_event, offers_of, numbers_of};
-ghost use Rattle.queue_core.specs.Lasting.{StandsAs, content_numbered};
+ghost use Rattle.queue_core.specs.Queue.{QueueHistory, at_moment, rebased_where, reached, outcome_at, with_event, after_answer, look_of, in_flight_count, scanned_candidates, offered_candidates, leaving_candidates, received_event, offers_of, numbers_of};
+ghost use Rattle.queue_core.specs.Lasting.{StandsAs, content_numbered, is_removed_number, is_gone_number, NamesOrLetGo, left_by_refusal};
 ghost use Rattle.queue_core.specs.Refusals.{is_own_refusal, LastsAs};
-ghost use Rattle.queue_core.specs.Run.{AreExact, after_all};
+ghost use Rattle.queue_core.specs.Run.{AreExact, NeverRebases, after_all};
+ghost use Rattle.queue_core.specs.Legal.{IsLegal};
+ghost use Rattle.queue_core.specs.Standing.{StandsFor};
 ghost use Rattle.journal.specs.Mark.{mark_of};
 ghost use Rattle.queue_core.specs.Turns.{ComesBefore, remaining_candidates, IsVisibleCandidate};
 
@@ -113,36 +115,55 @@ pub fn each_live_message_is_in_one_state()
 /// A call that is refused, or finds no memory, leaves the messages, the counts, the age, the order, where
 /// each message stands and when it is due, how often it was received and when first and last, the settings,
 /// the times, the transfers that wait, those that were accepted, and what each handle may do as they are at
-/// its moment without it.
+/// its moment without it. Where the journal is at its limit, that is so of the queue whose journal begins
+/// anew with a checkpoint, and this one stands for the queue as it was: it knows no more of what is gone
+/// than how often that was received, and what is live or waits is as it was, with its time, its receives
+/// and its content, and so are the settings, the times, the transfers, the rows and the flows. Want of
+/// memory makes no checkpoint.
 pub fn refused_calls_change_nothing()
     ensures stands { (q : QueueHistory) (at : ℕ) (command : Command) (fault : Fault)
         → Meets {T = Reply} (Err fault) (outcome_at q at command).reply
+        → StandsAs (after_answer {T = Reply} q at command (Err fault)) (left_by_refusal q at command fault) }
+    ensures in_place { (q : QueueHistory) (at : ℕ) (command : Command) (fault : Fault)
+        → Meets {T = Reply} (Err fault) (outcome_at q at command).reply → (outcome_at q at command).rebases ≡ false
         → StandsAs (after_answer {T = Reply} q at command (Err fault)) (reached q at command) }
+    ensures checkpoint { (q : QueueHistory) (at : ℕ) (command : Command) (fault : Fault)
+        → IsLegal q → StandsFor (left_by_refusal q at command fault) (reached q at command) }
 {}
 
 /// A queue's own refusals are `InvalidParameterValue`, `ReceiptHandleIsInvalid`, `MessageNotInflight` and
-/// `OverLimit`: each adds the one entry that records it, and no other refusal adds an entry. That entry
-/// changes nothing but the count of refused calls, and the place in the journal that it takes: at every
-/// later moment the queue stands as the queue that never got the call, with the same messages due at the
-/// same times and expired.
+/// `OverLimit`: each adds the one entry that records it, and no other refusal adds an entry. Where the
+/// journal is at its limit, a checkpoint comes before that entry, and none comes before another refusal:
+/// that leaves the queue as it is at its moment. The entry changes nothing but the count of refused calls,
+/// and the place in the journal that it takes: at every later moment the queue stands as the queue without
+/// it, with the same messages due at the same times and expired.
 pub fn own_refusals_change_nothing_later()
     ensures entry { (q : QueueHistory) (at : ℕ) (command : Command) (fault : Fault)
         → (outcome_at q at command).reply ≡ Err fault → is_own_refusal fault ≡ true
-        → after_answer {T = Reply} q at command (Err fault) ≡ with_event (reached q at command) (Refused fault) }
+        → after_answer {T = Reply} q at command (Err fault)
+        ≡ with_event (rebased_where (outcome_at q at command).rebases (reached q at command)) (Refused fault) }
     ensures no_other { (q : QueueHistory) (at : ℕ) (command : Command) (fault : Fault)
         → (outcome_at q at command).reply ≡ Err fault → is_own_refusal fault ≡ false
-        → after_answer {T = Reply} q at command (Err fault) ≡ reached q at command }
+        → after_answer {T = Reply} q at command (Err fault)
+        ≡ rebased_where (outcome_at q at command).rebases (reached q at command) }
+    ensures in_place { (q : QueueHistory) (at : ℕ) (command : Command) (fault : Fault)
+        → IsLegal q → (outcome_at q at command).reply ≡ Err fault → is_own_refusal fault ≡ false
+        → (outcome_at q at command).rebases ≡ false }
     ensures lasts { (q : QueueHistory) (fault : Fault) → LastsAs (with_event q (Refused fault)) q }
 {}
 
-/// A message that is gone stays so, whatever commands follow, at whatever moments and with whatever
-/// answers: what was deleted, purged or closed away is never there again, and what has expired has
-/// expired for good.
+/// The message of a number that is gone stays so, whatever commands follow, at whatever moments and with
+/// whatever answers, through checkpoints too: what was deleted, purged or closed away is never there
+/// again, and what has expired has expired for good. Behind a checkpoint a message that had expired is
+/// told as removed, unless it waits for a dead-letter queue; as long as none comes, it stays expired.
 pub fn what_is_gone_stays_gone()
-    ensures removed { (q : QueueHistory) (steps : List Step) (answers : List (Result Reply Fault)) (m : Message)
-        → is_removed q.lines m ≡ true → is_removed (after_all q steps answers).lines m ≡ true }
+    ensures removed { (q : QueueHistory) (steps : List Step) (answers : List (Result Reply Fault)) (number : ℕ)
+        → is_removed_number q.lines number ≡ true → is_removed_number (after_all q steps answers).lines number ≡ true }
+    ensures gone { (q : QueueHistory) (steps : List Step) (answers : List (Result Reply Fault)) (number : ℕ)
+        → is_gone_number q.lines q.clock number ≡ true
+        → is_gone_number (after_all q steps answers).lines (after_all q steps answers).clock number ≡ true }
     ensures expired { (q : QueueHistory) (steps : List Step) (answers : List (Result Reply Fault)) (m : Message)
-        → is_expired q.lines q.clock m ≡ true
+        → NeverRebases q steps answers → is_expired q.lines q.clock m ≡ true
         → is_expired (after_all q steps answers).lines (after_all q steps answers).clock m ≡ true }
 {}
 
@@ -155,13 +176,16 @@ pub fn looks_tell_what_the_journal_says()
 {}
 
 /// The number that answers a send is that of the content which was sent, and stays so whatever
-/// commands follow.
+/// commands follow, until the message was removed or has expired and a checkpoint lets its content go.
+/// No number ever names another content.
 pub fn numbers_name_contents()
     ensures sent { (q : QueueHistory) (at : ℕ) (content : ContentText) (delay : Option ℕ) (posted : Posted)
         → (outcome_at q at (Send content delay)).reply ≡ Ok (Sent posted)
         → content_numbered (after_answer {T = Reply} q at (Send content delay) (Ok (Sent posted))).lines posted.number ≡ Some content }
     ensures lasting { (q : QueueHistory) (steps : List Step) (answers : List (Result Reply Fault)) (number : ℕ) (content : ContentText)
-        → content_numbered q.lines number ≡ Some content
+        → content_numbered q.lines number ≡ Some content → NamesOrLetGo (after_all q steps answers).lines number content }
+    ensures lasting_in_place { (q : QueueHistory) (steps : List Step) (answers : List (Result Reply Fault)) (number : ℕ) (content : ContentText)
+        → NeverRebases q steps answers → content_numbered q.lines number ≡ Some content
         → content_numbered (after_all q steps answers).lines number ≡ Some content }
 {}
 

@@ -13,7 +13,7 @@ use std::marker::Model;
 pub struct Offer {
     /// Its number in the queue.
     pub number: u64,
-    /// How often it was received, this time counted.
+    /// How often it was received, this time counted, as far as a `u64` counts.
     pub receipt: u64,
     pub id: MessageId,
     /// When it was first sent.

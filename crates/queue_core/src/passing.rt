@@ -7,7 +7,7 @@ ghost use Rattle.queue_core.specs.Messages.{settings_of};
 ghost use Rattle.queue_core.specs.Metrics.{minute_end};
 ghost use Rattle.queue_core.specs.Queue.{QueueHistory};
 ghost use Rattle.queue_core.specs.Legal.{IsLegal};
-ghost use Rattle.queue_core.specs.Records.{born_in, HasIndices};
+ghost use Rattle.queue_core.specs.Records.{HasIndices};
 ghost use Rattle.queue_core.specs.Indexed.{IsIndexOf};
 ghost use Rattle.queue_core.specs.Watched.{IsWatchAt, IsPassing};
 ghost use Rattle.queue_core.specs.Spending.{Costs};
@@ -27,7 +27,6 @@ pub(crate) fn catch_up(
     ticks: &mut Ticks,
 )
     requires indices { HasIndices index.old }
-    requires few { born_in index.old < 2 ^ 62 }
     requires past { watch.old.window.minute ≤ minute_of clock }
     ensures passed { (q : QueueHistory) → IsLegal q → q.clock ≤ clock → retention ≡ (settings_of q.lines).retention_seconds
         → IsIndexOf q.lines q.clock index.old → IsWatchAt q.lines (minute_of q.clock) q.rules watch.old
@@ -48,11 +47,9 @@ pub(crate) fn catch_up(
 #[tactic(auto, using(crate::proofs::SpendingLemmas::costs_none))]
 fn go_on(index: &mut MessageIndex, watch: &mut Watch, retention: u32, end: u64, ticks: &mut Ticks)
     requires indices { HasIndices index.old }
-    requires few { born_in index.old < 2 ^ 62 }
     requires past { watch.old.window.minute ≤ end }
     requires small { 60000 * end < 2 ^ 62 }
     ensures indices { HasIndices index.new }
-    ensures born { born_in index.new ≡ born_in index.old }
     ensures minute { watch.new.window.minute ≡ end }
     ensures passing { (q : QueueHistory) (first : ℕ) (before : List Row) → IsLegal q → retention ≡ (settings_of q.lines).retention_seconds
         → IsPassing q first before index.old watch.old → IsPassing q first before index.new watch.new }
@@ -66,10 +63,8 @@ fn go_on(index: &mut MessageIndex, watch: &mut Watch, retention: u32, end: u64, 
 /// Closes the minute that is not over, at its last millisecond.
 fn end_minute(index: &mut MessageIndex, watch: &mut Watch, retention: u32, ticks: &mut Ticks)
     requires indices { HasIndices index.old }
-    requires few { born_in index.old < 2 ^ 62 }
     requires small { minute_end watch.old.window.minute < 2 ^ 62 }
     ensures indices { HasIndices index.new }
-    ensures born { born_in index.new ≡ born_in index.old }
     ensures minute { watch.new.window.minute ≡ watch.old.window.minute + 1 }
     ensures passing { (q : QueueHistory) (first : ℕ) (before : List Row) → IsLegal q → retention ≡ (settings_of q.lines).retention_seconds
         → IsPassing q first before index.old watch.old → IsPassing q first before index.new watch.new }

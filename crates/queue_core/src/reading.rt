@@ -1,8 +1,8 @@
 //! What a single event says of a queue's settings, its messages and its end. Each function has the name of the
 //! definition of `specs/` that it computes.
 
-ghost use Rattle.std.specs.Prelude.{◌≡◌};
-ghost use Rattle.queue_core.specs.Messages.{settings_after, gives_settings, closes};
+ghost use Rattle.std.specs.Prelude.{◌≡◌, None};
+ghost use Rattle.queue_core.specs.Messages.{effect_of, settings_after, gives_settings, closes};
 ghost use Rattle.queue_core.specs.Slots.{one_if};
 ghost use Rattle.queue_core.specs.Tally.{births};
 
@@ -23,8 +23,9 @@ pub fn settings_after(settings: Settings, event: &Event<Content>) -> Settings
     }
 }
 
-/// Whether an event begins a message. None begins more than one.
+/// Whether an event, which is no checkpoint, begins a message. None of these begins more than one.
 pub(crate) fn begins(event: &Event<Content>) -> bool
+    requires alone { (effect_of event.now).since ≡ None }
     ensures { births event.now ≡ one_if result }
 {
     effect_of(event).birth.is_some()

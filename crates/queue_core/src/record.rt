@@ -1,10 +1,11 @@
 //! What is kept of one message.
 
-ghost use Rattle.std.specs.Prelude.{◌≡◌, true, false, None, [], Ok, IfOk, IfErr, map, option_to_list};
+ghost use Rattle.std.specs.Prelude.{◌≡◌, true, false, None, [], Ok, IfOk, IfErr, option_to_list};
+ghost use Rattle.std.specs.List.{filter_map};
 ghost use Rattle.message.specs.declared.fault.Fault.TheVariants.{OutOfMemory};
 ghost use Rattle.queue_core.specs.declared.slot.Stay.TheVariants.{Hidden};
 ghost use Rattle.queue_core.specs.Messages.{effect_of};
-ghost use Rattle.queue_core.specs.Records.{born_record};
+ghost use Rattle.queue_core.specs.Records.{record_of_birth};
 
 use crate::effect::effect_of;
 use crate::slot::{Slot, Stay};
@@ -28,11 +29,12 @@ pub(crate) struct Record {
     pub slot: Slot,
 }
 
-/// The record of the message that an event begins at a time, with a share of its content. Where it begins none, no
-/// memory is wanted.
+/// The record of the message that an event, which is no checkpoint, begins at a time, with a share of its content. Where it
+/// begins none, no memory is wanted.
 pub(crate) fn record_born(at: Moment, event: &Event<Content>) -> Result<Option<Record>, Fault>
+    requires alone { (effect_of event.now).since ≡ None }
     ensures calm { (effect_of event.now).births ≡ [] → result ≡ Ok None }
-    ensures ok { IfOk result (λ born. option_to_list born ≡ map (born_record at) (effect_of event.now).births) }
+    ensures ok { IfOk result (λ born. option_to_list born ≡ filter_map (record_of_birth at) (effect_of event.now).births) }
     ensures errors { IfErr result (λ fault. fault ≡ OutOfMemory) }
 {
     match effect_of(event).birth {

@@ -23,7 +23,7 @@ pub struct Look {
     pub created: Moment,
     /// When the queue last got settings.
     pub modified: Moment,
-    /// How many entries its journal has.
+    /// How much its journal weighs: 1 for each entry, and for a checkpoint 1 more for each message that it keeps.
     pub lines: u64,
     /// The moment that all this speaks of.
     pub clock: Moment,

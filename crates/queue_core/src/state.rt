@@ -5,14 +5,16 @@ ghost use Rattle.std.specs.Option.{ForSome, option_map_or};
 ghost use Rattle.message.specs.declared.fault.Fault.TheVariants.{OutOfMemory};
 ghost use Rattle.message.specs.Fault.{Meets, is_out_of_memory};
 ghost use Rattle.message.specs.Content.{content_size, is_content};
+ghost use Rattle.journal.specs.Weight.{weight_of};
 ghost use Rattle.queue_config.specs.Limits.{max_lines_row};
 ghost use Rattle.queue_config.specs.Settings.{AreSettings, settings_with};
 
 use crate::accepted::Accepted;
-use crate::command::{Command, Maximum, Step, Timeout};
+use crate::command::{Command, Delay, Maximum, Step, Timeout};
 use crate::index::MessageIndex;
 use crate::indices::{is_here, is_in_flight};
 use crate::offers::{Offer, Offers};
+use crate::parcel::Arrival;
 use crate::passing::catch_up;
 use crate::record::{Record, record_born};
 use crate::reply::{Look, Posted, Reply};
@@ -29,6 +31,7 @@ use std::marker::Model;
 mod alarms;
 mod dead_letters;
 mod metrics;
+mod rebase;
 
 /// How many messages may leave by one receive. This project's own choice.
 const MOST_DEPARTURES: u64 = 100;
@@ -44,8 +47,8 @@ struct Scan {
 /// journal's lines, and its spare: for how many entries more there is room for sure. [`QueueState::reserve`]
 /// makes such room, and each entry takes one place of it, where there is one. A queue that is opened has none.
 ///
-/// Where there is room for one entry more, a command wants memory only where it begins a message, is a receive
-/// or hands over a parcel: every other one, and every refusal, is never answered `OutOfMemory`.
+/// Where there is room for one entry more and no checkpoint comes first, a command wants memory only where it begins a
+/// message, is a receive or hands over a parcel: every other one, and every refusal, is never answered `OutOfMemory`.
 ///
 /// Each command but `FirstParcel` acts at the later of the moment that it is handed and the queue's
 /// clock, which it leaves there; `FirstParcel` leaves the clock as it is. A closed queue answers each
@@ -114,7 +117,7 @@ impl QueueState {
     ghost use Rattle.queue_core.specs.declared.facts.Candidate.{Candidate};
     ghost use Rattle.queue_core.specs.declared.facts.Message.{Message};
     ghost use Rattle.queue_core.specs.Recorded.{IsRecordOf};
-    ghost use Rattle.queue_core.specs.Queue.{QueueHistory, has_room, wants_place_alone, at_moment, is_full, first_refusal, in_flight_count, offer_limit, offered_candidates, leaving_candidates, numbers_of, policy_target, offer_of, offers_of, is_valid_handle, is_latest_handle, holds_in_flight, holds_live, passes_twelve_hours, change_refusal, look_of, outcome_of, outcome_at, IsExact, IsExactWithRoom, with_event, after_outcome, after_answer, as_reply};
+    ghost use Rattle.queue_core.specs.Queue.{QueueHistory, has_room, wants_place_alone, at_moment, is_at_limit, first_refusal, in_flight_count, offer_limit, offered_candidates, leaving_candidates, numbers_of, policy_target, offer_of, offers_of, is_valid_handle, is_latest_handle, holds_in_flight, holds_live, passes_twelve_hours, change_refusal, look_of, outcome_in, outcome_at, IsExact, IsExactWithRoom, with_event, after_outcome, after_answer, as_reply};
     ghost use Rattle.queue_core.specs.Ranges.{IsDelay, IsTimeout, IsMaximum};
     ghost use Rattle.queue_core.specs.Legal.{IsLegal, IsCausedIn};
     ghost use Rattle.queue_core.specs.Kept.{opened_queue};
@@ -159,20 +162,11 @@ impl QueueState {
         ensures state { self.new ≡ at_moment self.old at }
         ensures come { HasCome ticks.old self.old ticks.new self.new }
     {
-        // The journal has at most one entry more than this, a number of 25 bits.
-        let _most = self.limits.max_lines;
         let _kept = self.index.len();
         let clock = self.clock.later(at);
         let retention = self.tally.settings.retention_seconds;
         catch_up(&mut self.index, &mut self.watch, retention, clock, ticks);
         self.clock = clock;
-    }
-
-    /// Whether the journal has as many entries as it may have.
-    fn is_full(&self) -> bool
-        ensures { result ≡ is_full self.now }
-    {
-        self.limits.max_lines as usize <= self.journal.len()
     }
 
     /// Whether the queue was closed.
@@ -238,8 +232,8 @@ impl QueueState {
         &self.journal
     }
 
-    /// Makes room for so many entries in all. Each entry takes one place, that of a send or a receive too. As
-    /// long as a place is left, a change, a delete, a purge, new settings, a confirmation, an orphaning, a
+    /// Makes room for so many entries in all. Each entry takes one place, that of a send or a receive too. As long as a
+    /// place is left and the journal is not at its limit, a change, a delete, a purge, new settings, a confirmation, an orphaning, a
     /// close and every refusal answer what they answer where memory is ample. `OutOfMemory` is the only refusal, which cannot be where that
     /// much room is there; the queue is then as it was. The clock stays where it is.
     pub fn reserve(&mut self, alloc: Global, additional: usize) -> Result<(), Fault>
@@ -299,10 +293,10 @@ impl QueueState {
     fn messages_so_far(&self) -> u64
         ensures count { result ≡ message_count self.now.lines }
         ensures small { result < 2 ^ 63 }
-        ensures lines { length self.now.lines < 2 ^ 30 }
+        ensures weight { weight_of self.now.lines < 2 ^ 30 }
     {
         let count = self.message_count();
-        // The journal has at most one entry more than this, a number of 25 bits.
+        // The journal weighs at most one more than this, a number of 25 bits.
         let _most = self.limits.max_lines;
         count
     }
@@ -400,7 +394,7 @@ impl QueueState {
     {
         Offer {
             number,
-            receipt: self.receive_count(number) + 1,
+            receipt: self.receive_count(number).saturating_add(1),
             id: self.message_id(number, kept.origin),
             sent: kept.first_send_time,
             first_receive: kept.first_receive.unwrap_or(self.clock),
@@ -411,11 +405,10 @@ impl QueueState {
 
     /// How often the message of a number was received.
     fn receive_count(&self, number: u64) -> u64
-        ensures count { result ≡ receive_count self.now.lines number }
-        ensures small { result < 2 ^ 63 }
+        ensures { result ≡ receive_count self.now.lines number }
     {
         match self.index.receives.get(number as usize) {
-            Some(count) => u64::from(*count),
+            Some(count) => *count,
             None => 0,
         }
     }
@@ -538,6 +531,8 @@ impl QueueState {
         let settings = self.tally.settings;
         let tally = self.tally.after(self.messages_so_far(), at, &event);
         let born = record_born(at, &event)?;
+        // None is kept twice, so that no more are kept than the journal weighs.
+        let _kept = self.index.len();
         self.index.make_room(alloc, &event)?;
         self.accepted.make_place(&event)?;
         self.journal.reserve(alloc, 1)?;
@@ -585,10 +580,12 @@ impl QueueState {
         ensures cost { ticks.new ≤ ticks.old + most_ticks self.old self.new }
     {
         self.begin(at, ticks)?;
-        self.send_now(alloc, content, delay, ticks)
+        let replaced = self.make_way(alloc)?;
+        let answer = self.send_now(alloc, content, delay, ticks);
+        self.put_back(replaced, answer)
     }
 
-    /// The same at the queue's clock, where nothing refuses it before anything of it is asked.
+    /// The same at the queue's clock, in the journal as it stands, where nothing refuses it before anything of it is asked.
     fn send_now(
         &mut self,
         alloc: Global,
@@ -597,11 +594,12 @@ impl QueueState {
         ticks: &mut Ticks,
     ) -> Result<Posted, Fault>
         requires open { first_refusal self.old ≡ None }
+        requires place { is_at_limit self.old ≡ false }
         requires delay { ForSome delay (λ seconds. IsDelay seconds) }
-        ensures answer { Meets (as_reply Reply.Sent result) (outcome_of self.old (Command.Send content delay)).reply }
-        ensures exact { IsExact (outcome_of self.old (Command.Send content delay)) (as_reply Reply.Sent result) }
-        ensures room { IsExactWithRoom self.old (outcome_of self.old (Command.Send content delay)) (as_reply Reply.Sent result) }
-        ensures state { self.new ≡ after_outcome self.old (outcome_of self.old (Command.Send content delay)) result }
+        ensures answer { Meets (as_reply Reply.Sent result) (outcome_in self.old (Command.Send content delay)).reply }
+        ensures exact { IsExact (outcome_in self.old (Command.Send content delay)) (as_reply Reply.Sent result) }
+        ensures room { IsExactWithRoom self.old (outcome_in self.old (Command.Send content delay)) (as_reply Reply.Sent result) }
+        ensures state { self.new ≡ after_outcome self.old (outcome_in self.old (Command.Send content delay)) result }
         ensures cost { (p : QueueHistory) (before : ℕ) → HasCome before p ticks.old self.old → ticks.new ≤ before + most_ticks p self.new }
     {
         if self.is_too_large(&content) {
@@ -631,6 +629,28 @@ impl QueueState {
         ensures cost { ticks.new ≤ ticks.old + most_ticks self.old self.new }
     {
         self.begin(at, ticks)?;
+        let replaced = self.make_way(alloc)?;
+        let answer = self.send_shared_now(alloc, content, delay, ticks);
+        self.put_back(replaced, answer)
+    }
+
+    /// The same at the queue's clock, in the journal as it stands, where nothing refuses it before anything of it is asked.
+    fn send_shared_now(
+        &mut self,
+        alloc: Global,
+        content: &Content,
+        delay: Option<u16>,
+        ticks: &mut Ticks,
+    ) -> Result<Posted, Fault>
+        requires open { first_refusal self.old ≡ None }
+        requires place { is_at_limit self.old ≡ false }
+        requires range { ForSome delay (λ seconds. IsDelay seconds) }
+        ensures answer { Meets (as_reply Reply.Sent result) (outcome_in self.old (Command.Send content.now delay)).reply }
+        ensures exact { IsExact (outcome_in self.old (Command.Send content.now delay)) (as_reply Reply.Sent result) }
+        ensures room { IsExactWithRoom self.old (outcome_in self.old (Command.Send content.now delay)) (as_reply Reply.Sent result) }
+        ensures state { self.new ≡ after_outcome self.old (outcome_in self.old (Command.Send content.now delay)) result }
+        ensures cost { (p : QueueHistory) (before : ℕ) → HasCome before p ticks.old self.old → ticks.new ≤ before + most_ticks p self.new }
+    {
         if self.is_too_large(content) {
             let fault = Fault::InvalidParameterValue;
             return self.refuse(alloc, fault, ticks);
@@ -663,6 +683,29 @@ impl QueueState {
         ensures cost { ticks.new ≤ ticks.old + most_ticks self.old self.new }
     {
         self.begin(at, ticks)?;
+        let replaced = self.make_way(alloc)?;
+        let answer = self.receive_now(alloc, maximum, timeout, ticks);
+        self.put_back(replaced, answer)
+    }
+
+    /// The same at the queue's clock, in the journal as it stands, where nothing refuses it before anything of it is asked.
+    fn receive_now(
+        &mut self,
+        alloc: Global,
+        maximum: u8,
+        timeout: Option<u32>,
+        ticks: &mut Ticks,
+    ) -> Result<Offers, Fault>
+        requires open { first_refusal self.old ≡ None }
+        requires place { is_at_limit self.old ≡ false }
+        requires maximum { IsMaximum maximum }
+        requires timeout { ForSome timeout (λ seconds. IsTimeout seconds) }
+        ensures answer { Meets (as_reply Reply.Received result) (outcome_in self.old (Command.Receive maximum timeout)).reply }
+        ensures exact { IsExact (outcome_in self.old (Command.Receive maximum timeout)) (as_reply Reply.Received result) }
+        ensures room { IsExactWithRoom self.old (outcome_in self.old (Command.Receive maximum timeout)) (as_reply Reply.Received result) }
+        ensures state { self.new ≡ after_outcome self.old (outcome_in self.old (Command.Receive maximum timeout)) result }
+        ensures cost { (p : QueueHistory) (before : ℕ) → HasCome before p ticks.old self.old → ticks.new ≤ before + most_ticks p self.new }
+    {
         if self.is_at_in_flight_limit() {
             return self.refuse(alloc, Fault::OverLimit, ticks);
         }
@@ -719,6 +762,28 @@ impl QueueState {
         ensures cost { ticks.new ≤ ticks.old + most_ticks self.old self.new }
     {
         self.begin(at, ticks)?;
+        let replaced = self.make_way(alloc)?;
+        let answer = self.change_now(alloc, handle, timeout, ticks);
+        self.put_back(replaced, answer)
+    }
+
+    /// The same at the queue's clock, in the journal as it stands, where nothing refuses it before anything of it is asked.
+    fn change_now(
+        &mut self,
+        alloc: Global,
+        handle: Handle,
+        timeout: u32,
+        ticks: &mut Ticks,
+    ) -> Result<(), Fault>
+        requires open { first_refusal self.old ≡ None }
+        requires place { is_at_limit self.old ≡ false }
+        requires range { IsTimeout timeout }
+        ensures answer { Meets (as_reply (λ _. Reply.Done) result) (outcome_in self.old (Command.Change handle timeout)).reply }
+        ensures exact { IsExact (outcome_in self.old (Command.Change handle timeout)) (as_reply (λ _. Reply.Done) result) }
+        ensures room { IsExactWithRoom self.old (outcome_in self.old (Command.Change handle timeout)) (as_reply (λ _. Reply.Done) result) }
+        ensures state { self.new ≡ after_outcome self.old (outcome_in self.old (Command.Change handle timeout)) result }
+        ensures cost { (p : QueueHistory) (before : ℕ) → HasCome before p ticks.old self.old → ticks.new ≤ before + most_ticks p self.new }
+    {
         match self.change_refusal(&handle, timeout) {
             Some(fault) => self.refuse(alloc, fault, ticks),
             None => {
@@ -764,6 +829,21 @@ impl QueueState {
         ensures cost { ticks.new ≤ ticks.old + most_ticks self.old self.new }
     {
         self.begin(at, ticks)?;
+        let replaced = self.make_way(alloc)?;
+        let answer = self.delete_now(alloc, handle, ticks);
+        self.put_back(replaced, answer)
+    }
+
+    /// The same at the queue's clock, in the journal as it stands, where nothing refuses it before anything of it is asked.
+    fn delete_now(&mut self, alloc: Global, handle: Handle, ticks: &mut Ticks) -> Result<(), Fault>
+        requires open { first_refusal self.old ≡ None }
+        requires place { is_at_limit self.old ≡ false }
+        ensures answer { Meets (as_reply (λ _. Reply.Done) result) (outcome_in self.old (Command.Delete handle)).reply }
+        ensures exact { IsExact (outcome_in self.old (Command.Delete handle)) (as_reply (λ _. Reply.Done) result) }
+        ensures room { IsExactWithRoom self.old (outcome_in self.old (Command.Delete handle)) (as_reply (λ _. Reply.Done) result) }
+        ensures state { self.new ≡ after_outcome self.old (outcome_in self.old (Command.Delete handle)) result }
+        ensures cost { (p : QueueHistory) (before : ℕ) → HasCome before p ticks.old self.old → ticks.new ≤ before + most_ticks p self.new }
+    {
         if !self.is_valid_handle(&handle) {
             return self.refuse(alloc, Fault::ReceiptHandleIsInvalid, ticks);
         }
@@ -794,6 +874,21 @@ impl QueueState {
         ensures cost { ticks.new ≤ ticks.old + most_ticks self.old self.new }
     {
         self.begin(at, ticks)?;
+        let replaced = self.make_way(alloc)?;
+        let answer = self.purge_now(alloc, ticks);
+        self.put_back(replaced, answer)
+    }
+
+    /// The same at the queue's clock, in the journal as it stands, where nothing refuses it before anything of it is asked.
+    fn purge_now(&mut self, alloc: Global, ticks: &mut Ticks) -> Result<(), Fault>
+        requires open { first_refusal self.old ≡ None }
+        requires place { is_at_limit self.old ≡ false }
+        ensures answer { Meets (as_reply (λ _. Reply.Done) result) (outcome_in self.old Command.Purge).reply }
+        ensures exact { IsExact (outcome_in self.old Command.Purge) (as_reply (λ _. Reply.Done) result) }
+        ensures room { IsExactWithRoom self.old (outcome_in self.old Command.Purge) (as_reply (λ _. Reply.Done) result) }
+        ensures state { self.new ≡ after_outcome self.old (outcome_in self.old Command.Purge) result }
+        ensures cost { (p : QueueHistory) (before : ℕ) → HasCome before p ticks.old self.old → ticks.new ≤ before + most_ticks p self.new }
+    {
         self.add(alloc, Event::Purged, ticks)
     }
 
@@ -815,6 +910,27 @@ impl QueueState {
         ensures cost { ticks.new ≤ ticks.old + most_ticks self.old self.new }
     {
         self.begin(at, ticks)?;
+        let replaced = self.make_way(alloc)?;
+        let answer = self.set_now(alloc, wish, target, ticks);
+        self.put_back(replaced, answer)
+    }
+
+    /// The same at the queue's clock, in the journal as it stands, where nothing refuses it before anything of it is asked.
+    fn set_now(
+        &mut self,
+        alloc: Global,
+        wish: &Wish,
+        target: u64,
+        ticks: &mut Ticks,
+    ) -> Result<(), Fault>
+        requires open { first_refusal self.old ≡ None }
+        requires place { is_at_limit self.old ≡ false }
+        ensures answer { Meets (as_reply (λ _. Reply.Done) result) (outcome_in self.old (Command.Set wish.now target)).reply }
+        ensures exact { IsExact (outcome_in self.old (Command.Set wish.now target)) (as_reply (λ _. Reply.Done) result) }
+        ensures room { IsExactWithRoom self.old (outcome_in self.old (Command.Set wish.now target)) (as_reply (λ _. Reply.Done) result) }
+        ensures state { self.new ≡ after_outcome self.old (outcome_in self.old (Command.Set wish.now target)) result }
+        ensures cost { (p : QueueHistory) (before : ℕ) → HasCome before p ticks.old self.old → ticks.new ≤ before + most_ticks p self.new }
+    {
         let settings = self.settings_with(wish, target);
         self.add(alloc, Event::Set { settings }, ticks)
     }
@@ -855,7 +971,7 @@ impl QueueState {
         self.move_to(at, ticks);
     }
 
-    /// The queue at a moment: counts, age, settings, times, length and clock. The clock moves there,
+    /// The queue at a moment: counts, age, settings, times, weight of the journal and clock. The clock moves there,
     /// where that is later. Nothing refuses it.
     pub fn look(&mut self, at: Moment, ticks: &mut Ticks) -> Look
         ensures answer { result ≡ look_of (at_moment self.old at) }
@@ -875,7 +991,7 @@ impl QueueState {
             settings: self.settings(),
             created: self.created(),
             modified: self.modified(),
-            lines: self.journal.len() as u64,
+            lines: self.weight(),
             clock: self.clock,
             closed: self.is_closed(),
         }
@@ -889,9 +1005,76 @@ impl QueueState {
         self.index.gauges(self.clock)
     }
 
+    /// Sends a message after a delay that was judged before.
+    fn send_checked(
+        &mut self,
+        alloc: Global,
+        at: Moment,
+        content: &Content,
+        delay: Option<Delay>,
+        ticks: &mut Ticks,
+    ) -> Result<Reply, Fault>
+        ensures answer { Meets result (outcome_at self.old at (Command.Send content.now delay)).reply }
+        ensures exact { IsExact (outcome_at self.old at (Command.Send content.now delay)) result }
+        ensures room { IsExactWithRoom self.old (outcome_at self.old at (Command.Send content.now delay)) result }
+        ensures state { self.new ≡ after_answer self.old at (Command.Send content.now delay) result }
+        ensures cost { ticks.new ≤ ticks.old + most_ticks self.old self.new }
+    {
+        let delay = delay.map(|delay| delay.seconds());
+        Ok(Reply::Sent(self.send_shared(alloc, at, content, delay, ticks)?))
+    }
+
+    /// Changes a timeout to one that was judged before.
+    fn change_checked(
+        &mut self,
+        alloc: Global,
+        at: Moment,
+        handle: Handle,
+        timeout: Timeout,
+        ticks: &mut Ticks,
+    ) -> Result<Reply, Fault>
+        ensures answer { Meets result (outcome_at self.old at (Command.Change handle timeout)).reply }
+        ensures exact { IsExact (outcome_at self.old at (Command.Change handle timeout)) result }
+        ensures room { IsExactWithRoom self.old (outcome_at self.old at (Command.Change handle timeout)) result }
+        ensures state { self.new ≡ after_answer self.old at (Command.Change handle timeout) result }
+        ensures cost { ticks.new ≤ ticks.old + most_ticks self.old self.new }
+    {
+        self.change(alloc, at, handle, timeout.seconds(), ticks)?;
+        Ok(Reply::Done)
+    }
+
+    /// What a call answered, as the reply to its command.
+    fn as_done(answer: Result<(), Fault>) -> Result<Reply, Fault>
+        ensures { result ≡ as_reply (λ _. Reply.Done) answer }
+    {
+        answer?;
+        Ok(Reply::Done)
+    }
+
+    /// The same for an arrival.
+    fn as_arrived(answer: Result<Arrival, Fault>) -> Result<Reply, Fault>
+        ensures { result ≡ as_reply Reply.Arrived answer }
+    {
+        Ok(Reply::Arrived(answer?))
+    }
+
+    /// The same for a confirmation.
+    fn as_settled(answer: Result<bool, Fault>) -> Result<Reply, Fault>
+        ensures { result ≡ as_reply Reply.Settled answer }
+    {
+        Ok(Reply::Settled(answer?))
+    }
+
+    /// The same for an orphaning.
+    fn as_orphaned(answer: Result<u64, Fault>) -> Result<Reply, Fault>
+        ensures { result ≡ as_reply Reply.Orphaned answer }
+    {
+        Ok(Reply::Orphaned(answer?))
+    }
+
     /// Does what the call that the command names does. A send and an arrival share the content, and a share
     /// that is refused is `OutOfMemory`; what the queue refuses, and an arrival that was accepted before,
-    /// shares nothing.
+    /// shares nothing; a checkpoint that comes before it shares what is kept.
     pub fn perform(
         &mut self,
         alloc: Global,
@@ -907,41 +1090,25 @@ impl QueueState {
     {
         match command {
             Command::Send { content, delay } => {
-                let delay = delay.map(|delay| delay.seconds());
-                Ok(Reply::Sent(self.send_shared(alloc, at, content, delay, ticks)?))
+                self.send_checked(alloc, at, content, *delay, ticks)
             }
             Command::Receive { maximum, timeout } => {
                 self.receive_checked(alloc, at, *maximum, *timeout, ticks)
             }
             Command::Change { handle, timeout } => {
-                self.change(alloc, at, *handle, timeout.seconds(), ticks)?;
-                Ok(Reply::Done)
+                self.change_checked(alloc, at, *handle, *timeout, ticks)
             }
-            Command::Delete { handle } => {
-                self.delete(alloc, at, *handle, ticks)?;
-                Ok(Reply::Done)
-            }
-            Command::Purge => {
-                self.purge(alloc, at, ticks)?;
-                Ok(Reply::Done)
-            }
-            Command::Set { wish, target } => {
-                self.set(alloc, at, wish, *target, ticks)?;
-                Ok(Reply::Done)
-            }
-            Command::Arrive { parcel } => {
-                Ok(Reply::Arrived(self.arrive_shared(alloc, at, parcel, ticks)?))
-            }
-            Command::Settle { number } => {
-                Ok(Reply::Settled(self.settle(alloc, at, *number, ticks)?))
-            }
-            Command::Orphan { target } => {
-                Ok(Reply::Orphaned(self.orphan(alloc, at, *target, ticks)?))
-            }
-            Command::Close => {
-                self.close(alloc, at, ticks)?;
-                Ok(Reply::Done)
-            }
+            Command::Delete { handle } => Self::as_done(self.delete(alloc, at, *handle, ticks)),
+            Command::Purge => Self::as_done(self.purge(alloc, at, ticks)),
+            Command::Set { wish, target } => Self::as_done(self.set(
+                alloc, at, wish, *target, ticks,
+            )),
+            Command::Arrive { parcel } => Self::as_arrived(self.arrive_shared(
+                alloc, at, parcel, ticks,
+            )),
+            Command::Settle { number } => Self::as_settled(self.settle(alloc, at, *number, ticks)),
+            Command::Orphan { target } => Self::as_orphaned(self.orphan(alloc, at, *target, ticks)),
+            Command::Close => Self::as_done(self.close(alloc, at, ticks)),
             Command::Look => Ok(Reply::Looked(self.look(at, ticks))),
             Command::FirstParcel => Ok(Reply::Parcel(self.first_parcel(alloc)?)),
         }

@@ -1,7 +1,7 @@
 //! What the entries of a journal come to, kept beside it: what is asked of it at every command.
 
-ghost use Rattle.std.specs.Prelude.{◌≡◌, ◌+◌, ◌<◌, ◌^◌, ◌||◌, false, if◌then◌else◌};
-ghost use Rattle.queue_core.specs.Messages.{settings_after, gives_settings, closes};
+ghost use Rattle.std.specs.Prelude.{◌≡◌, ◌+◌, ◌<◌, ◌^◌, ◌||◌, false, None, if◌then◌else◌};
+ghost use Rattle.queue_core.specs.Messages.{effect_of, settings_after, gives_settings, closes};
 ghost use Rattle.queue_core.specs.Tally.{births};
 
 use crate::reading::{begins, closes, gives_settings, settings_after};
@@ -34,9 +34,10 @@ impl Tally {
         }
     }
 
-    /// The same behind one entry more, which does not open the queue, where there were so many messages.
+    /// The same behind one entry more, which does not open the queue and is no checkpoint, where there were so many messages.
     pub(crate) fn after(self, messages: u64, at: Moment, event: &Event<Content>) -> Tally
-        requires { messages < 2 ^ 63 }
+        requires few { messages < 2 ^ 63 }
+        requires alone { (effect_of event.now).since ≡ None }
         ensures settings { result.settings ≡ settings_after self.settings event.now }
         ensures created { result.created ≡ self.created }
         ensures modified { result.modified ≡ (if gives_settings event.now then at else self.modified) }

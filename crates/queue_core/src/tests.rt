@@ -2,6 +2,7 @@
 //! leaves. What a client can ask and see stands in the stored runs of `sqs_replay`.
 
 mod answers;
+mod full;
 mod many;
 mod talk;
 
@@ -15,17 +16,23 @@ use std::fmt::Debug;
 use std::test::Fail;
 use talk::Talk;
 
-/// A queue of eight entries, and the calls whose entry is the ninth, for which the journal grows.
+/// Two queues with a dead-letter queue, one of which may have eight entries.
+const OPENED: [&str; 2] = [
+    r#"open 99 0 RedrivePolicy {"deadLetterTargetArn":"arn:aws:sqs:elasticmq:000000000000:dead","maxReceiveCount":1}"#,
+    r#"open 8 0 RedrivePolicy {"deadLetterTargetArn":"arn:aws:sqs:elasticmq:000000000000:dead","maxReceiveCount":1}"#,
+];
+
+/// What makes such a queue one of eight entries, and the calls whose entry is the ninth, for which the journal grows or, where it is
+/// at its limit, is made anew.
 const FIRST: &str =
-    r#"open 99 0 RedrivePolicy {"deadLetterTargetArn":"arn:aws:sqs:elasticmq:000000000000:dead","maxReceiveCount":1}
-1000 send 1 a => Sent(Posted { number: 0, id: MessageId { uid: 2, number: 0 } })
+    "1000 send 1 a => Sent(Posted { number: 0, id: MessageId { uid: 2, number: 0 } })
 1000 send 1 b => Sent(Posted { number: 1, id: MessageId { uid: 2, number: 1 } })
 1000 send 1 c => Sent(Posted { number: 2, id: MessageId { uid: 2, number: 2 } })
 1000 receive 1 0 => offered 0.1 a
 1001 receive 1 30 => offered 1.1 b
 1001 set MaximumMessageSize 1024 => Done
 1001 set DelaySeconds 0 => Done
-"#;
+";
 
 const NINTH: &str =
     "1002 send 1 d => Sent(Posted { number: 3, id: MessageId { uid: 2, number: 3 } })
@@ -40,6 +47,7 @@ const NINTH: &str =
 1002 arrive 0 => Arrived(New)
 1001 parcel => ((2, 0, \"jobs\", MessageId { uid: 2, number: 0 }, Moment { milliseconds: 1000 }), 1, \"a\")
 1002 settle 0 => Settled(true)
+1002 settle 1 => Settled(false)
 1002 orphan 1 => Orphaned(1)
 1002 close => Done
 ";
@@ -88,20 +96,33 @@ const LOOKED: &str =
 /// A list of two commands.
 const STEPS: [&str; 2] = ["5 purge", "7 look"];
 
+impl Talk {
+    /// Has a conversation with a queue of eight entries for each call whose entry is the ninth.
+    fn ninth(&mut self, rt: &HostRuntime, opened: &str) -> Result<(), Fail> {
+        for last in NINTH.lines() {
+            self.hold_or_again(rt, [opened, FIRST, last])?;
+        }
+        Ok(())
+    }
+}
+
 /// Calls whose allocation is refused answer `OutOfMemory`, move the clock and nothing else of all that the queue
-/// tells, and give their answers when asked again, which is forgiven once. All is asked twice from the start: with ample
-/// memory, as the gate runs this, a call that gave up would do so twice. `rt try --test --fail-alloc N -- refused_memory`
+/// tells, and give their answers when asked again, which is forgiven once. The conversation is held once more then: with
+/// ample memory, as the gate runs this, a call that gave up would do so twice. `rt try --test --fail-alloc N -- refused_memory`
 /// refuses the Nth allocation.
 #[test]
 fn refused_memory(rt: HostRuntime) -> Result<(), Fail> {
     let mut talk = Talk::new(&rt)?;
-    for _ in 0..2 {
-        for last in NINTH.lines() {
-            talk.hold(&rt, FIRST)?;
-            talk.hold(&rt, last)?;
-        }
-        talk.hold(&rt, READINGS)?;
-    }
+    talk.ninth(&rt, OPENED[0])?;
+    talk.hold_or_again(&rt, [READINGS, "", ""])?;
+    talk.end()
+}
+
+/// The same where the journal is at its limit. So it is of `full_journals`, which is run with each allocation refused too.
+#[test]
+fn refused_memory_at_the_limit(rt: HostRuntime) -> Result<(), Fail> {
+    let mut talk = Talk::new(&rt)?;
+    talk.ninth(&rt, OPENED[1])?;
     talk.end()
 }
 
@@ -123,6 +144,7 @@ fn refused_memory_for_answers(rt: HostRuntime) -> Result<(), Fail> {
 fn refused_memory_with_room(rt: HostRuntime) -> Result<(), Fail> {
     let mut talk = Talk::new(&rt)?;
     for _ in 0..2 {
+        talk.hold(&rt, OPENED[0])?;
         talk.hold(&rt, FIRST)?;
         talk.hold(&rt, RESERVE)?;
         talk.hold_with_room(&rt, WITH_ROOM)?;

@@ -9,7 +9,7 @@ use Rattle.journal.specs.declared.entry.Event.{Event}
 use Rattle.queue_core.specs.declared.command.Command.{Command}
 use Rattle.queue_core.specs.declared.command.Command.TheVariants as commands
 use Rattle.queue_core.specs.Messages.{closes, is_closed}
-use Rattle.queue_core.specs.Queue.{QueueHistory, at_moment, leaves_clock, reached, outcome_at, with_optional_event, after_answer}
+use Rattle.queue_core.specs.Queue.{QueueHistory, at_moment, leaves_clock, reached, outcome_at, rebased_where, with_optional_event, after_answer}
 use Rattle.queue_core.proofs.CauseLemmas.{IsSoOfAdded, added}
 use Rattle.queue_core.proofs.PushLemmas.{closed-push}
 use Rattle.redrive.specs.ByPlace.{closes_queue}
@@ -24,11 +24,20 @@ unclosed-each q commands.FirstParcel h = tt
 unclosed-each q commands.Look h = tt
 unclosed-each q command h = refl
 
-unclosed-left : (b : Bool) (q : QueueHistory) (event : Option (Event ContentText)) → IfSome event (λ e. closes e ≡ false) → is_closed q.lines ≡ false
-    → is_closed (cond b q (with_optional_event q event)).lines ≡ false
-unclosed-left true q event h k = k
-unclosed-left false q None h k = k
-unclosed-left false q (Some event) h k = closed-push q.lines (record { at = q.clock; event = event }) ∙ or_from (is_closed q.lines) (closes event) k h
+-- a checkpoint does not close a queue
+unclosed-based : (rebases : Bool) (q : QueueHistory) → is_closed q.lines ≡ false → is_closed (rebased_where rebases q).lines ≡ false
+unclosed-based true q h = refl
+unclosed-based false q h = h
+
+unclosed-optional : (q : QueueHistory) (event : Option (Event ContentText)) → IfSome event (λ e. closes e ≡ false) → is_closed q.lines ≡ false
+    → is_closed (with_optional_event q event).lines ≡ false
+unclosed-optional q None h k = k
+unclosed-optional q (Some event) h k = closed-push q.lines (record { at = q.clock; event = event }) ∙ or_from (is_closed q.lines) (closes event) k h
+
+unclosed-left : (b rebases : Bool) (q : QueueHistory) (event : Option (Event ContentText)) → IfSome event (λ e. closes e ≡ false) → is_closed q.lines ≡ false
+    → is_closed (cond b q (with_optional_event (rebased_where rebases q) event)).lines ≡ false
+unclosed-left true rebases q event h k = k
+unclosed-left false rebases q event h k = unclosed-optional (rebased_where rebases q) event h (unclosed-based rebases q k)
 
 unclosed-reached : (b : Bool) (q : QueueHistory) (at : ℕ) → is_closed q.lines ≡ false → is_closed (cond b q (at_moment q at)).lines ≡ false
 unclosed-reached true q at h = h
@@ -37,5 +46,7 @@ unclosed-reached false q at h = h
 pub unclosed-after_answer : {T : Type 0} (at : ℕ) (command : Command) (answer : Result T Fault) (q : QueueHistory) → closes_queue command ≡ false → is_closed q.lines ≡ false
     → is_closed (after_answer q at command answer).lines ≡ false
 unclosed-after_answer at command answer q h k =
-    unclosed-left (is_out_of_memory answer) (reached q at command) (outcome_at q at command).event (added (λ e. closes e ≡ false) (reached q at command) (λ fault. refl) command (unclosed-each (reached q at command) command h))
+    let r : QueueHistory = reached q at command in
+    let acts : QueueHistory = rebased_where (outcome_at q at command).rebases r in
+    unclosed-left (is_out_of_memory answer) (outcome_at q at command).rebases r (outcome_at q at command).event (added (λ e. closes e ≡ false) acts (λ fault. refl) command (unclosed-each acts command h))
     (unclosed-reached (leaves_clock command) q at k)

@@ -56,7 +56,7 @@ module _ {X K : Type 0} (e : K → K → Bool) (key : X → K) where
   IsDistinct-filter p [] h = tt
   IsDistinct-filter p (x ∷ xs) h = distinct-if (p x) x (filter p xs) (differ-filter (key x) p xs h.0) (IsDistinct-filter p xs h.1)
 
-  differ-found : (k : K) (p : X → Bool) (xs : List X) (y : X) → AllByRecursion (λ l. e k l ≡ false) (map key xs) → find p xs ≡ Some y → e k (key y) ≡ false
+  pub differ-found : (k : K) (p : X → Bool) (xs : List X) (y : X) → AllByRecursion (λ l. e k l ≡ false) (map key xs) → find p xs ≡ Some y → e k (key y) ≡ false
   differ-found k p [] y h is = absurd (none-some y is)
   differ-found k p (x ∷ xs) y h is = differ-cond k (p x) x y (find p xs) h.0 (λ e. differ-found k p xs y h.1 e) is
     where

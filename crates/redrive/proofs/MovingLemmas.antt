@@ -1,5 +1,5 @@
 -- A parcel that was handed over and accepted still waits first at its source, so that it can be confirmed.
-use Rattle.std.proofs.Common.{◌≡◌, ℕ, ◌+◌, ◌≤◌, Bool, true, false, cond, List, [], ◌∷◌, ◌++◌, Option, Some, None, Result, Ok, Err, refl, sym, ap, subst, inl, inr, ◌∙◌, arith}
+use Rattle.std.proofs.Common.{◌≡◌, ℕ, ◌+◌, ◌≤◌, Bool, true, false, cond, List, [], ◌∷◌, ◌++◌, Option, Some, None, Result, Ok, Err, refl, sym, ap, subst, ◌∙◌, arith}
 use Rattle.std.specs.Prelude.{nat_eq, filter, is_some, option_map, option_and_then}
 use Rattle.std.specs.Option.{option_map_or}
 use Rattle.std.proofs.lemmas.Bool.{eq-eqb, or_right, false≢true}
@@ -10,6 +10,7 @@ use Rattle.message.specs.declared.fault.Fault.TheVariants.{QueueDoesNotExist}
 use Rattle.message.specs.Fault.{Meets}
 use Rattle.message.specs.Content.{ContentText}
 use Rattle.journal.specs.declared.entry.Event.TheVariants.{Arrived}
+use Rattle.queue_core.specs.declared.command.Command.{Command}
 use Rattle.queue_core.specs.declared.command.Command.TheVariants.{Arrive, Orphan}
 use Rattle.queue_core.specs.declared.facts.Message.{Message}
 use Rattle.queue_core.specs.declared.facts.Transfer.{Transfer}
@@ -19,7 +20,9 @@ use Rattle.queue_core.specs.declared.reply.Reply.{Reply}
 use Rattle.queue_core.specs.declared.reply.Reply.TheVariants as replies
 use Rattle.queue_core.specs.Messages.{content_of, pending_transfers, accepts, has_accepted}
 use Rattle.queue_core.specs.States.{message_numbered}
-use Rattle.queue_core.specs.Queue.{QueueHistory, Outcome, at_moment, first_refusal, unless_refused, orphan_outcome, outcome_at, with_optional_event, after_answer, parcel_of, transferred_parcel, first_transfer, first_parcel_of}
+use Rattle.queue_core.specs.Queue.{QueueHistory, Outcome, adding, answering, at_moment, first_refusal, unless_refused, rebased_where, orphan_outcome, outcome_at, with_optional_event, after_answer, parcel_of, transferred_parcel, first_transfer, first_parcel_of}
+use Rattle.queue_core.proofs.SoundLemmas.{IsSound}
+use Rattle.queue_core.proofs.WholeLemmas.{acting_alike, parcel_alike}
 use Rattle.redrive.specs.declared.moved.Moved.{Moved}
 use Rattle.redrive.specs.declared.moved.Moved.TheVariants as moved
 use Rattle.redrive.specs.World.{World, queue_of_uid, has_queue, first_parcel_in, Delivery, delivery_of, as_moved, delivered_answer, arrive_answer, world_after_command, world_after_hand_over, needs_confirmation, is_accepted, accepted_number, confirm_answer, confirm_takes_memory, world_after_confirm, answer_of_halves, IsHandedOver, IsMoved}
@@ -59,10 +62,10 @@ module _ (at : ℕ) (arrived : Parcel) where
   first-arrival q p h = option_and_then_some _ (first_transfer q) p h (λ t first is. rw (pending-arrival q.lines, first) (transferred-arrival q t p is))
 
 abbrev pub again : QueueHistory → Outcome
-again q = record { event = None; reply = Ok (replies.Arrived arrivals.Again) }
+again q = answering (Ok (replies.Arrived arrivals.Again))
 
 abbrev pub new : QueueHistory → Parcel → Outcome
-new q p = record { event = Some (Arrived p.origin p.content); reply = Ok (replies.Arrived arrivals.New) }
+new q p = adding (Arrived p.origin p.content) (Ok (replies.Arrived arrivals.New))
 
 -- an arrival that is not refused leaves the parcel accepted
 arrival-accepted : (q : QueueHistory) (p : Parcel) (m : Moved) (refused : Option Fault) (accepted : Bool) → has_accepted q.lines p.origin.uid p.origin.number ≡ accepted
@@ -95,7 +98,19 @@ present (Some q) h = (q, refl)
 abbrev pub delivery : World → ℕ → Parcel → Bool → Delivery
 delivery w source p there = cond there (record { uid = p.target; command = Arrive p }) (record { uid = source; command = Orphan p.target })
 
-module _ (w : World) (source at : ℕ) (m : Moved) (confirmed : needs_confirmation (Ok m) ≡ true) where
+-- a parcel is there, and its queue was answered so
+pub answered-parcel : (w : World) (source at : ℕ) (m : Moved) (there : Bool) (o : Option Parcel) → (m ≡ moved.None → ⊥)
+    → Ok m ≡ cond there (option_map_or (λ p. delivered_answer w at (delivery_of w source p)) o (Ok moved.None)) (Err QueueDoesNotExist)
+    → (p : Parcel) × (o ≡ Some p) × (Ok m ≡ delivered_answer w at (delivery_of w source p))
+answered-parcel w source at m false o some k = absurd cc
+answered-parcel w source at m true None some k = absurd (some cc)
+answered-parcel w source at m true (Some p) some k = (p, refl, k)
+
+-- the queue that a command comes to, with a checkpoint where one came first
+abbrev pub acting_at : QueueHistory → ℕ → Command → QueueHistory
+acting_at q at command = rebased_where (outcome_at q at command).rebases (at_moment q at)
+
+module _ (w : World) (source at : ℕ) (m : Moved) (confirmed : needs_confirmation (Ok m) ≡ true) (sound : (s : QueueHistory) → queue_of_uid w source ≡ Some s → IsSound s.lines s.clock) where
   module _ (p : Parcel) (t s : QueueHistory) (there : queue_of_uid w p.target ≡ Some t) (here : queue_of_uid w source ≡ Some s) (first : first_parcel_of s ≡ Some p)
       (answered : Ok m ≡ as_moved (outcome_at t at (Arrive p)).reply) where
     abbrev arrived : QueueHistory → QueueHistory
@@ -108,7 +123,8 @@ module _ (w : World) (source at : ℕ) (m : Moved) (confirmed : needs_confirmati
     first-between true e =
         ap (λ (o : Option QueueHistory). option_and_then (λ q. first_parcel_of q) o)
         (changed-queue w p.target source arrived true (λ q. after_answer-uid at (Arrive p) (Ok m) q) e ∙ ap (λ (o : Option QueueHistory). option_map arrived o) here)
-        ∙ arrival-first (at_moment s at) p p (first_refusal (at_moment s at)) (has_accepted s.lines p.origin.uid p.origin.number) first
+        ∙ arrival-first (acting_at s at (Arrive p)) p p (first_refusal (acting_at s at (Arrive p))) (has_accepted (acting_at s at (Arrive p)).lines p.origin.uid p.origin.number)
+        (parcel_alike (acting_at s at (Arrive p)) (at_moment s at) (acting_alike s at (Arrive p) (sound s here)) ∙ first)
     first-between false e =
         ap (λ (o : Option QueueHistory). option_and_then (λ q. first_parcel_of q) o)
         (changed-queue w p.target source arrived false (λ q. after_answer-uid at (Arrive p) (Ok m) q) e ∙ here)
@@ -118,7 +134,7 @@ module _ (w : World) (source at : ℕ) (m : Moved) (confirmed : needs_confirmati
     accepted-between =
         ap (λ (o : Option QueueHistory). option_map_or (λ q. has_accepted q.lines p.origin.uid p.origin.number) o false)
         (changed-queue w p.target p.target arrived true (λ q. after_answer-uid at (Arrive p) (Ok m) q) (eq-eqb p.target p.target refl) ∙ ap (λ (o : Option QueueHistory). option_map arrived o) there)
-        ∙ arrival-accepted (at_moment t at) p m (first_refusal (at_moment t at)) (has_accepted t.lines p.origin.uid p.origin.number) refl answered
+        ∙ arrival-accepted (acting_at t at (Arrive p)) p m (first_refusal (acting_at t at (Arrive p))) (has_accepted (acting_at t at (Arrive p)).lines p.origin.uid p.origin.number) refl answered
 
     number-between : accepted_number received source ≡ Some p.origin.number
     number-between = rw (first-between (nat_eq p.target source) refl, accepted-between) refl
@@ -128,15 +144,7 @@ module _ (w : World) (source at : ℕ) (m : Moved) (confirmed : needs_confirmati
       → accepted_number (world_after_command w (delivery w source p there).uid at (delivery w source p there).command (Ok m)) source ≡ Some p.origin.number
   delivered-number p s true None is there here first h = absurd cc
   delivered-number p s true (Some t) is there here first h = number-between p t s is here first (rw is at h)
-  delivered-number p s false o is there here first h = absurd (orphaned-moved (at_moment s at) p.target (first_refusal (at_moment s at)) m (rw here at h) confirmed)
-
-  handed-parcel : (there : Bool) (o : Option Parcel) → Ok m ≡ cond there (option_map_or (λ p. delivered_answer w at (delivery_of w source p)) o (Ok moved.None)) (Err QueueDoesNotExist)
-      → (p : Parcel) × ((o ≡ Some p) × (Ok m ≡ delivered_answer w at (delivery_of w source p)))
-  handed-parcel false o h = absurd cc
-  handed-parcel true None h =
-      let same : m ≡ moved.None = cc in
-      absurd (false≢true (subst (λ (m : Moved). needs_confirmation (Ok m) ≡ true) same confirmed))
-  handed-parcel true (Some p) h = (p, (refl, h))
+  delivered-number p s false o is there here first h = absurd (orphaned-moved (acting_at s at (Orphan p.target)) p.target (first_refusal (acting_at s at (Orphan p.target))) m (rw here at h) confirmed)
 
   at-source : (p : Parcel) → first_parcel_in w source ≡ Some p → (s : QueueHistory) × ((queue_of_uid w source ≡ Some s) × (first_parcel_of s ≡ Some p))
   at-source p h = option_and_then_some _ (queue_of_uid w source) p h (λ s here first. (s, (here, first)))
@@ -144,11 +152,11 @@ module _ (w : World) (source at : ℕ) (m : Moved) (confirmed : needs_confirmati
   pub moved-number : Ok m ≡ arrive_answer w source at
       → (p : Parcel) × ((first_parcel_in w source ≡ Some p) × (accepted_number (world_after_hand_over {T = Moved} w source at (Ok m)) source ≡ Some p.origin.number))
   moved-number h =
-      let handed = handed-parcel (has_queue w source) (first_parcel_in w source) h in
+      let handed = answered-parcel w source at m (has_queue w source) (first_parcel_in w source) (λ none. false≢true (subst (λ (m : Moved). needs_confirmation (Ok m) ≡ true) none confirmed)) h in
       let p = handed.0 in
-      let found = at-source p handed.1.0 in
+      let found = at-source p handed.1 in
       let left : Option Parcel → World = λ o. option_map_or (λ p. world_after_command {T = Moved} w (delivery_of w source p).uid at (delivery_of w source p).command (Ok m)) o w in
-      (p, (handed.1.0, ap (λ (o : Option Parcel). accepted_number (left o) source) handed.1.0 ∙ (delivered-number p found.0 (has_queue w p.target) (queue_of_uid w p.target) refl refl found.1.0 found.1.1 handed.1.1)))
+      (p, (handed.1, ap (λ (o : Option Parcel). accepted_number (left o) source) handed.1 ∙ (delivered-number p found.0 (has_queue w p.target) (queue_of_uid w p.target) refl refl found.1.0 found.1.1 handed.2)))
 
 -- ---- the whole move
 
@@ -157,10 +165,9 @@ needs-Ok (Ok m) h = (m, refl)
 needs-Ok (Err fault) h = absurd cc
 
 pub handed-Ok : (old between : World) (source at : ℕ) (m : Moved) → IsHandedOver old source at (Ok m) between → between ≡ world_after_hand_over {T = Moved} old source at (Ok m)
-handed-Ok old between source at m (inl h) = h.left
-handed-Ok old between source at m (inr h) = absurd (false≢true h.no_memory)
+handed-Ok old between source at m h = h.left
 
-module _ (old between new : World) (source at : ℕ) (half : Result Moved Fault) (meets : Meets half (arrive_answer old source at)) (first_half : IsHandedOver old source at half between) where
+module _ (old between new : World) (source at : ℕ) (sound : (s : QueueHistory) → queue_of_uid old source ≡ Some s → IsSound s.lines s.clock) (half : Result Moved Fault) (meets : Meets half (arrive_answer old source at)) (first_half : IsHandedOver old source at half between) where
   -- with a confirmation
   abbrev pub IsMoved-confirmed : (m : Moved) (answer : Result Moved Fault) (confirmed : Result Reply Fault) → half ≡ Ok m → needs_confirmation (Ok m) ≡ true
       → Meets confirmed (confirm_answer between source at) → (confirm_takes_memory between source at ≡ false → confirmed ≡ confirm_answer between source at)
@@ -168,7 +175,7 @@ module _ (old between new : World) (source at : ℕ) (half : Result Moved Fault)
       → IsMoved old source at answer new
   IsMoved-confirmed m answer confirmed is needs second exact answered left =
       let same : between ≡ world_after_hand_over {T = Moved} old source at (Ok m) = handed-Ok old between source at m (subst (λ (r : Result Moved Fault). IsHandedOver old source at r between) is first_half) in
-      let number = moved-number old source at m needs (subst (λ (r : Result Moved Fault). Meets r (arrive_answer old source at)) is meets) in
+      let number = moved-number old source at m needs sound (subst (λ (r : Result Moved Fault). Meets r (arrive_answer old source at)) is meets) in
       record {
         handed_over = half;
         between = between;

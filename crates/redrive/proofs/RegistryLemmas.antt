@@ -20,7 +20,8 @@ use Rattle.queue_config.specs.Settings.{QueueSettings, default_settings}
 use Rattle.journal.specs.declared.entry.Event.{Event}
 use Rattle.queue_core.specs.declared.command.Command.{Command}
 use Rattle.queue_core.specs.Messages.{is_closed}
-use Rattle.queue_core.specs.Queue.{QueueHistory, at_moment, leaves_clock, reached, outcome_at, with_event, with_optional_event, after_answer}
+use Rattle.queue_core.specs.Queue.{QueueHistory, at_moment, leaves_clock, reached, outcome_at, with_event, with_optional_event, after_answer, rebased, rebased_where}
+use Rattle.queue_core.specs.Whole.{without_limit, is_journal_full, whole_after}
 use Rattle.redrive.specs.World.{World, has_no_place, empty_world, queue_named, queue_of_uid, found_uid, with_queue, next_queue, without_queue, queue_answer, with_queue_changed, world_at_moment, IsRegistry}
 use Rattle.redrive.specs.ByPlace.{closes_queue}
 use Rattle.redrive.proofs.KeyedLemmas.{find-map, find-passes, places_left, IsDistinct-push, IsDistinct-filter, map-key, find-unused, filter-absent, find-position, find-no_position, map-absent}
@@ -74,11 +75,15 @@ module _ (f : QueueHistory → QueueHistory) where
 
 -- a command keeps its queue's uid, name and limits
 module _ {K : Type 0} (key : QueueHistory → K) (clock : (q : QueueHistory) (at : ℕ) → key (at_moment q at) ≡ key q)
-    (entry : (q : QueueHistory) (event : Event ContentText) → key (with_event q event) ≡ key q) where
-  left-keeps : (b : Bool) (q : QueueHistory) (event : Option (Event ContentText)) → key (cond b q (with_optional_event q event)) ≡ key q
-  left-keeps true q event = refl
-  left-keeps false q None = refl
-  left-keeps false q (Some event) = entry q event
+    (entry : (q : QueueHistory) (event : Event ContentText) → key (with_event q event) ≡ key q) (based : (q : QueueHistory) → key (rebased q) ≡ key q) where
+  based-keeps : (rebases : Bool) (q : QueueHistory) → key (rebased_where rebases q) ≡ key q
+  based-keeps true q = based q
+  based-keeps false q = refl
+
+  left-keeps : (b rebases : Bool) (q : QueueHistory) (event : Option (Event ContentText)) → key (cond b q (with_optional_event (rebased_where rebases q) event)) ≡ key q
+  left-keeps true rebases q event = refl
+  left-keeps false rebases q None = based-keeps rebases q
+  left-keeps false rebases q (Some event) = entry (rebased_where rebases q) event ∙ based-keeps rebases q
 
   reached-keeps : (b : Bool) (q : QueueHistory) (at : ℕ) → key (cond b q (at_moment q at)) ≡ key q
   reached-keeps true q at = refl
@@ -86,32 +91,40 @@ module _ {K : Type 0} (key : QueueHistory → K) (clock : (q : QueueHistory) (at
 
   after_answer-keeps : {T : Type 0} (at : ℕ) (command : Command) (answer : Result T Fault) (q : QueueHistory) → key (after_answer q at command answer) ≡ key q
   after_answer-keeps at command answer q =
-      left-keeps (is_out_of_memory answer) (reached q at command) (outcome_at q at command).event ∙ reached-keeps (leaves_clock command) q at
+      left-keeps (is_out_of_memory answer) (outcome_at q at command).rebases (reached q at command) (outcome_at q at command).event ∙ reached-keeps (leaves_clock command) q at
 
 pub at_uid-keeps : {K : Type 0} (key : QueueHistory → K) (b : Bool) (q next : QueueHistory) → key next ≡ key q → key (cond b next q) ≡ key q
 at_uid-keeps key true q next h = h
 at_uid-keeps key false q next h = refl
 
 pub after_answer-uid : {T : Type 0} (at : ℕ) (command : Command) (answer : Result T Fault) (q : QueueHistory) → (after_answer q at command answer).uid ≡ q.uid
-after_answer-uid at command answer q = after_answer-keeps (λ q. q.uid) (λ q at. refl) (λ q event. refl) at command answer q
+after_answer-uid at command answer q = after_answer-keeps (λ q. q.uid) (λ q at. refl) (λ q event. refl) (λ q. refl) at command answer q
 
-pub after_step-uid : {T : Type 0} (uid at : ℕ) (command : Command) (answer : Result T Fault) (q : QueueHistory) → (cond (nat_eq q.uid uid) (after_answer q at command answer) q).uid ≡ q.uid
-after_step-uid uid at command answer q =
-    at_uid-keeps (λ q. q.uid) (nat_eq q.uid uid) q (after_answer q at command answer) (after_answer-uid at command answer q)
+-- so does a queue with its whole journal
+pub whole_after-uid : {T : Type 0} (at : ℕ) (command : Command) (answer : Result T Fault) (q : QueueHistory) → (whole_after q at command answer).uid ≡ q.uid
+whole_after-uid at command answer q = by_full (is_journal_full answer)
+  where
+    by_full : (b : Bool) → let r : QueueHistory = cond b (reached q at command) (after_answer (without_limit q) at command answer) in r.uid ≡ q.uid
+    by_full true = reached-keeps (λ q. q.uid) (λ q at. refl) (λ q event. refl) (λ q. refl) (leaves_clock command) q at
+    by_full false = after_answer-uid at command answer (without_limit q)
 
 at_uid-unclosed : (b : Bool) (q next : QueueHistory) → (is_closed q.lines ≡ false → is_closed next.lines ≡ false) → is_closed q.lines ≡ false → is_closed (cond b next q).lines ≡ false
 at_uid-unclosed true q next h k = h k
 at_uid-unclosed false q next h k = k
 
+IsRegistry-changed : (w : World) (uid : ℕ) (f : QueueHistory → QueueHistory) → ((q : QueueHistory) → (f q).uid ≡ q.uid) → ((q : QueueHistory) → (f q).name ≡ q.name)
+    → ((q : QueueHistory) → (f q).limits ≡ q.limits) → ((q : QueueHistory) → is_closed q.lines ≡ false → is_closed (f q).lines ≡ false) → IsRegistry w → IsRegistry (with_queue_changed w uid f)
+IsRegistry-changed w uid f own name limits unclosed h =
+    IsRegistry-map (λ q. cond (nat_eq q.uid uid) (f q) q) w
+    (λ q. at_uid-keeps (λ q. q.uid) (nat_eq q.uid uid) q (f q) (own q)) (λ q. at_uid-keeps (λ q. q.name) (nat_eq q.uid uid) q (f q) (name q))
+    (λ q. at_uid-keeps (λ q. q.limits) (nat_eq q.uid uid) q (f q) (limits q)) (λ q. at_uid-unclosed (nat_eq q.uid uid) q (f q) (unclosed q)) h
+
 pub IsRegistry-after_step : {T : Type 0} (w : World) (uid at : ℕ) (command : Command) (answer : Result T Fault) → closes_queue command ≡ false → IsRegistry w
     → IsRegistry (with_queue_changed w uid (λ q. after_answer q at command answer))
 IsRegistry-after_step w uid at command answer stays h =
-    IsRegistry-map (λ q. cond (nat_eq q.uid uid) (after_answer q at command answer) q) w
-    (after_step-uid uid at command answer)
-    (λ q. at_uid-keeps (λ q. q.name) (nat_eq q.uid uid) q (after_answer q at command answer) (after_answer-keeps (λ q. q.name) (λ q at. refl) (λ q event. refl) at command answer q))
-    (λ q. at_uid-keeps (λ q. q.limits) (nat_eq q.uid uid) q (after_answer q at command answer) (after_answer-keeps (λ q. q.limits) (λ q at. refl) (λ q event. refl) at command answer q))
-    (λ q. at_uid-unclosed (nat_eq q.uid uid) q (after_answer q at command answer) (unclosed-after_answer at command answer q stays))
-    h
+    IsRegistry-changed w uid (λ q. after_answer q at command answer) (after_answer-uid at command answer)
+    (after_answer-keeps (λ q. q.name) (λ q at. refl) (λ q event. refl) (λ q. refl) at command answer) (after_answer-keeps (λ q. q.limits) (λ q at. refl) (λ q event. refl) (λ q. refl) at command answer)
+    (λ q. unclosed-after_answer at command answer q stays) h
 
 pub IsRegistry-at_moment : (w : World) (at : ℕ) → IsRegistry w → IsRegistry (world_at_moment w at)
 IsRegistry-at_moment w at h = IsRegistry-map (λ q. at_moment q at) w (λ q. refl) (λ q. refl) (λ q. refl) (λ q k. k) h
@@ -133,8 +146,15 @@ present-absent w uid place h none =
 pub command-absent_answer : (w : World) (uid at : ℕ) (command : Command) → position (λ q. nat_eq q.uid uid) w.queues ≡ None → queue_answer w uid at command ≡ Err QueueDoesNotExist
 command-absent_answer w uid at command h = rw (find-no_position uid_of uid w.queues h) refl
 
+-- a queue that is not there
+pub changed-none : (w : World) (uid : ℕ) (f : QueueHistory → QueueHistory) → queue_of_uid w uid ≡ None → with_queue_changed w uid f ≡ w
+changed-none w uid f none = ap (λ (queues : List QueueHistory). record w { queues = queues }) (map-absent uid_of uid f w.queues none)
+
+pub without-none : (w : World) (uid : ℕ) → queue_of_uid w uid ≡ None → without_queue w uid ≡ w
+without-none w uid none = ap (λ (queues : List QueueHistory). record w { queues = queues }) (filter-absent uid_of uid w.queues none)
+
 pub changed-absent : (w : World) (uid : ℕ) (f : QueueHistory → QueueHistory) → position (λ q. nat_eq q.uid uid) w.queues ≡ None → with_queue_changed w uid f ≡ w
-changed-absent w uid f h = ap (λ (queues : List QueueHistory). record w { queues = queues }) (map-absent uid_of uid f w.queues (find-no_position uid_of uid w.queues h))
+changed-absent w uid f h = changed-none w uid f (find-no_position uid_of uid w.queues h)
 
 module _ (w : World) (own uid : ℕ) where
   uid-found : (q : QueueHistory) → queue_of_uid w uid ≡ Some q → q.uid ≡ uid
@@ -158,8 +178,7 @@ module _ (w : World) (own uid : ℕ) where
 -- ---- a queue deleted
 
 pub delete-absent_state : (w : World) (uid : ℕ) → position (λ q. nat_eq q.uid uid) w.queues ≡ None → without_queue w uid ≡ w
-delete-absent_state w uid h =
-    ap (λ (queues : List QueueHistory). record w { queues = queues }) (filter-absent uid_of uid w.queues (find-no_position uid_of uid w.queues h))
+delete-absent_state w uid h = without-none w uid (find-no_position uid_of uid w.queues h)
 
 pub IsRegistry-without : (w : World) (uid : ℕ) → IsRegistry w → IsRegistry (without_queue w uid)
 IsRegistry-without w uid h =
@@ -178,13 +197,7 @@ IsRegistry-without w uid h =
 
 -- a queue whose clock alone has moved
 pub IsRegistry-moved : (w : World) (uid at : ℕ) → IsRegistry w → IsRegistry (with_queue_changed w uid (λ q. at_moment q at))
-IsRegistry-moved w uid at h =
-    IsRegistry-map (λ q. cond (nat_eq q.uid uid) (at_moment q at) q) w
-    (λ q. at_uid-keeps (λ q. q.uid) (nat_eq q.uid uid) q (at_moment q at) refl)
-    (λ q. at_uid-keeps (λ q. q.name) (nat_eq q.uid uid) q (at_moment q at) refl)
-    (λ q. at_uid-keeps (λ q. q.limits) (nat_eq q.uid uid) q (at_moment q at) refl)
-    (λ q. at_uid-unclosed (nat_eq q.uid uid) q (at_moment q at) (λ k. k))
-    h
+IsRegistry-moved w uid at h = IsRegistry-changed w uid (λ q. at_moment q at) (λ q. refl) (λ q. refl) (λ q. refl) (λ q k. k) h
 
 -- ---- names after a create
 

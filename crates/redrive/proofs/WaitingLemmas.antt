@@ -3,9 +3,9 @@ use Rattle.std.proofs.Common.{◌≡◌, ℕ, ◌<◌, ◌≤◌, ◌≢◌, Boo
 use Rattle.std.specs.Prelude.{filter, map, slice_get, is_some, option_map, option_and_then}
 use Rattle.std.specs.Option.{option_map_or, ForSome}
 use Rattle.std.specs.List.{list_any, All, AllPairs, Contains}
-use Rattle.std.proofs.lemmas.Bool.{eq-eqb, eqb-true, or_cases, not-true, not_from_true, false≢true}
+use Rattle.std.proofs.lemmas.Bool.{eq-eqb, eqb-true, or_cases, not_from_true, false≢true}
 use Rattle.std.proofs.lemmas.List.{append-nil, length-map, get_or-map}
-use Rattle.std.proofs.lemmas.List.Elements.{All-head, All-tail, All-map, All-weaker, All-contains_itself, Contains-append_left, Contains-push}
+use Rattle.std.proofs.lemmas.List.Elements.{All-head, All-tail, All-map, All-weaker, All-contains_itself}
 use Rattle.std.proofs.lemmas.Map.Keys.{IsDistinct-from_apart}
 use Rattle.std.proofs.lemmas.Map.Steps.{length-le_from_distinct_below}
 use Rattle.std.proofs.lemmas.Option.{none-some, same_Some}
@@ -18,26 +18,27 @@ use Rattle.journal.specs.declared.entry.Event.TheVariants.{Arrived, Settled, Orp
 use Rattle.queue_core.specs.declared.command.Command.{Command}
 use Rattle.queue_core.specs.declared.command.Command.TheVariants.{Arrive, Settle, Orphan}
 use Rattle.queue_core.specs.declared.facts.Message.{Message}
-use Rattle.queue_core.specs.declared.facts.Status.{Status}
 use Rattle.queue_core.specs.declared.facts.Status.TheVariants.{Waiting}
 use Rattle.queue_core.specs.declared.facts.Transfer.{Transfer}
 use Rattle.queue_core.specs.declared.parcel.Parcel.{Parcel}
 use Rattle.queue_core.specs.declared.reply.Reply.{Reply}
 use Rattle.queue_core.specs.declared.reply.Reply.TheVariants as replies
-use Rattle.queue_core.specs.Messages.{message_count, content_of, awaits_status, awaits_transfer, status_after, departures, ends_transfer, pending_transfers, has_accepted}
-use Rattle.queue_core.specs.States.{message_numbered}
-use Rattle.queue_core.specs.Queue.{QueueHistory, at_moment, first_refusal, unless_refused, is_pending, waiting_count, outcome_at, with_optional_event, after_answer, parcel_of, transferred_parcel, first_parcel_of}
+use Rattle.queue_core.specs.Messages.{message_count, awaits_status, awaits_transfer, departures, ends_transfer, pending_transfers, has_accepted}
+use Rattle.queue_core.specs.Queue.{QueueHistory, Outcome, adding, answering, at_moment, first_refusal, unless_refused, orphan_outcome, is_pending, waiting_count, outcome_at, with_optional_event, after_answer, transferred_parcel, first_parcel_of}
 use Rattle.queue_core.specs.Legal.{IsLegal}
-use Rattle.queue_core.proofs.OfferLemmas.{Contains-from_filter}
-use Rattle.queue_core.proofs.PushLemmas.{numbered-below, numbered-kept, numbered-number}
-use Rattle.queue_core.proofs.PendingLemmas.{Stands, filter_all, pending_transfers-push, status-push, status-kept, pending_legal}
+use Rattle.queue_core.proofs.PushLemmas.{numbered-below}
+use Rattle.queue_core.proofs.PendingLemmas.{Stands, filter_all, pending_transfers-push}
+use Rattle.queue_core.proofs.SoundLemmas.{IsSound}
+use Rattle.queue_core.proofs.LegalSoundLemmas.{sound_legal}
+use Rattle.queue_core.proofs.WholeLemmas.{AreAlike, acting_alike, sound_after, transfers_alike}
 use Rattle.redrive.specs.declared.moved.Moved.{Moved}
 use Rattle.redrive.specs.declared.moved.Moved.TheVariants as moved
 use Rattle.redrive.specs.World.{World, queue_of_uid, has_queue, first_parcel_in, delivery_of, as_moved, queue_answer, delivered_answer, arrive_answer, world_after_command, needs_confirmation, accepted_number, confirm_answer, world_after_confirm, answer_of_halves, IsHandedOver, IsConfirmed, IsMoved}
 use Rattle.redrive.specs.Waiting.{waiting_in}
 use Rattle.redrive.proofs.RegistryLemmas.{after_answer-uid, changed-queue}
-use Rattle.redrive.proofs.MovingLemmas.{again, new, delivery, needs-Ok, handed-Ok}
+use Rattle.redrive.proofs.MovingLemmas.{again, new, acting_at, delivery, answered-parcel, needs-Ok, handed-Ok}
 use Rattle.redrive.proofs.transfers.Journals.{Line, Lines, more}
+use Rattle.redrive.proofs.transfers.Commands.{some_first, handed}
 
 -- ---- a list without what a test refuses
 
@@ -60,21 +61,18 @@ fewer_kept p (y ∷ xs) x first h =
 -- ---- one entry more, by which no message leaves
 
 -- each transfer that is not confirmed is of a message that waits
-abbrev pub AllAwait : Lines → Type 0
+abbrev AllAwait : Lines → Type 0
 AllAwait lines = (t : Transfer) → Contains (pending_transfers lines) t → Stands lines t.number (Waiting t.target)
 
-pub await-legal : (q : QueueHistory) → IsLegal q → AllAwait q.lines
-await-legal q legal t h = (pending_legal q legal).waiting t h
-
 -- less waits after it
-pub record Fewer (before after : Lines) : Type 0 where
-  pub fewer : length (pending_transfers after) < length (pending_transfers before)
-  pub await : AllAwait after
+pub record Fewer (before : Lines) (after : QueueHistory) : Type 0 where
+  pub fewer : length (pending_transfers after.lines) < length (pending_transfers before)
+  pub sound : IsSound after.lines after.clock
 
 -- as much waits after it
-record Same (before after : Lines) : Type 0 where
-  same : pending_transfers after ≡ pending_transfers before
-  await : AllAwait after
+record Same (before : Lines) (after : QueueHistory) : Type 0 where
+  same : pending_transfers after.lines ≡ pending_transfers before
+  sound : IsSound after.lines after.clock
 
 module _ (lines : Lines) (e : Line) (none : departures e.event ≡ []) where
   abbrev kept : Transfer → Bool
@@ -83,113 +81,95 @@ module _ (lines : Lines) (e : Line) (none : departures e.event ≡ []) where
   pending-left : pending_transfers (more lines e) ≡ filter kept (pending_transfers lines)
   pending-left = pending_transfers-push lines e ∙ ap (λ (ts : List Transfer). filter kept (pending_transfers lines) ++ ts) none ∙ append-nil (filter kept (pending_transfers lines))
 
-  await-left : AllAwait lines → AllAwait (more lines e)
-  await-left h t k =
-      let parts = Contains-from_filter kept (pending_transfers lines) t (subst (λ (ts : List Transfer). Contains ts t) pending-left k) in
-      let was : Stands lines t.number (Waiting t.target) = h t parts.0 in (
-        was.0,
-        numbered-kept lines e t.number was.0 was.1,
-        status-push lines e t.number was.0 was.1 ∙ ap (λ (s : Status). status_after t.number s e.event) was.2 ∙ status-kept t e.event (not-true (ends_transfer t e.event) parts.1),
-      )
+  fewer-ended : (t : Transfer) → slice_get (pending_transfers lines) 0 ≡ Some t → ends_transfer t e.event ≡ true → length (pending_transfers (more lines e)) < length (pending_transfers lines)
+  fewer-ended t first ended = rw pending-left (fewer_kept kept (pending_transfers lines) t first (not_from_true (ends_transfer t e.event) ended))
 
-  Fewer-ended : (t : Transfer) → slice_get (pending_transfers lines) 0 ≡ Some t → ends_transfer t e.event ≡ true → AllAwait lines → Fewer lines (more lines e)
-  Fewer-ended t first ended h = record {
-    fewer = rw pending-left (fewer_kept kept (pending_transfers lines) t first (not_from_true (ends_transfer t e.event) ended));
-    await = await-left h;
-  }
+-- ---- what a command of a move adds to the journal that it comes to
 
--- ---- what a command of a move leaves of a queue
-
-some_first : (lines : Lines) (t : Transfer) → slice_get (pending_transfers lines) 0 ≡ Some t → Contains (pending_transfers lines) t
-some_first lines t first = at_first (pending_transfers lines) first where
-  at_first : (ts : List Transfer) → slice_get ts 0 ≡ Some t → Contains ts t
-  at_first [] h = absurd (none-some t h)
-  at_first (x ∷ xs) h = subst (λ (y : Transfer). Contains (x ∷ xs) y) (same_Some x t h) (Contains-append_left (x ∷ []) xs x (Contains-push [] x))
-
-module _ (q : QueueHistory) (at : ℕ) (h : AllAwait q.lines) where
+module _ (a : QueueHistory) where
   abbrev then : Event ContentText → Line
-  then event = record { at = (at_moment q at).clock; event = event }
+  then event = record { at = a.clock; event = event }
 
   -- a parcel that arrives here
   arrived-by : (p : Parcel) (refused : Option Fault) (accepted : Bool)
-      → Same q.lines (with_optional_event (at_moment q at) (unless_refused refused (cond accepted (again (at_moment q at)) (new (at_moment q at) p))).event).lines
-  arrived-by p (Some fault) accepted = record { same = refl; await = h }
-  arrived-by p None true = record { same = refl; await = h }
-  arrived-by p None false =
-      let e : Line = then (Arrived p.origin p.content) in
-      record { same = pending-left q.lines e refl ∙ filter_all (pending_transfers q.lines); await = await-left q.lines e refl h }
+      → pending_transfers (with_optional_event a (unless_refused refused (cond accepted (again a) (new a p))).event).lines ≡ pending_transfers a.lines
+  arrived-by p (Some fault) accepted = refl
+  arrived-by p None true = refl
+  arrived-by p None false = pending-left a.lines (then (Arrived p.origin p.content)) refl ∙ filter_all (pending_transfers a.lines)
 
-  Same-arrived : (p : Parcel) (m : Moved) → Same q.lines (after_answer {T = Moved} q at (Arrive p) (Ok m)).lines
-  Same-arrived p m = arrived-by p (first_refusal (at_moment q at)) (has_accepted q.lines p.origin.uid p.origin.number)
-
-  module _ (t : Transfer) (first : slice_get (pending_transfers q.lines) 0 ≡ Some t) where
+  module _ (t : Transfer) (first : slice_get (pending_transfers a.lines) 0 ≡ Some t) where
     -- its confirmation
-    first_pending : (n : ℕ) → t.number ≡ n → is_pending (at_moment q at) n ≡ true
-    first_pending n is =
-        let waits : Stands q.lines t.number (Waiting t.target) = h t (some_first q.lines t first) in
-        subst (λ (i : ℕ). is_pending (at_moment q at) i ≡ true) is
-        (ap (λ (o : Option Message). option_map_or (λ m. awaits_transfer q.lines m) o false) waits.1 ∙ ap awaits_status waits.2)
+    first_pending : AllAwait a.lines → (n : ℕ) → t.number ≡ n → is_pending a n ≡ true
+    first_pending h n is =
+        let waits : Stands a.lines t.number (Waiting t.target) = h t (some_first a.lines t first) in
+        subst (λ (i : ℕ). is_pending a i ≡ true) is (ap (λ (o : Option Message). option_map_or (λ m. awaits_transfer a.lines m) o false) waits.1 ∙ ap awaits_status waits.2)
 
-    settled-by : (n : ℕ) (r : Reply) (refused : Option Fault) (b : Bool) → t.number ≡ n → b ≡ true
-        → Ok r ≡ (unless_refused refused (cond b (record { event = Some (Settled n); reply = Ok (replies.Settled true) }) (record { event = None; reply = Ok (replies.Settled false) }))).reply
-        → Fewer q.lines (with_optional_event (at_moment q at) (unless_refused refused (cond b (record { event = Some (Settled n); reply = Ok (replies.Settled true) }) (record { event = None; reply = Ok (replies.Settled false) }))).event).lines
+    abbrev settling : ℕ → Bool → Outcome
+    settling n b = cond b (adding (Settled n) (Ok (replies.Settled true))) (answering (Ok (replies.Settled false)))
+
+    settled-by : (n : ℕ) (r : Reply) (refused : Option Fault) (b : Bool) → t.number ≡ n → b ≡ true → Ok r ≡ (unless_refused refused (settling n b)).reply
+        → length (pending_transfers (with_optional_event a (unless_refused refused (settling n b)).event).lines) < length (pending_transfers a.lines)
     settled-by n r (Some fault) b is pending k = absurd cc
     settled-by n r None false is pending k = absurd (false≢true pending)
-    settled-by n r None true is pending k = Fewer-ended q.lines (then (Settled n)) refl t first (rw (eq-eqb n t.number (sym is)) refl) h
-
-    Fewer-settled : (n : ℕ) (r : Reply) → t.number ≡ n → Ok r ≡ (outcome_at q at (Settle n)).reply → Fewer q.lines (after_answer {T = Reply} q at (Settle n) (Ok r)).lines
-    Fewer-settled n r is k = settled-by n r (first_refusal (at_moment q at)) (is_pending (at_moment q at) n) is (first_pending n is) k
+    settled-by n r None true is pending k = fewer-ended a.lines (then (Settled n)) refl t first (rw (eq-eqb n t.number (sym is)) refl)
 
     -- everything that waits for a queue that is gone comes back
-    orphaned-by : (target : ℕ) (m : Moved) (refused : Option Fault) → t.target ≡ target
-        → Ok m ≡ as_moved (unless_refused refused (record { event = Some (Orphaned target); reply = Ok (replies.Orphaned (waiting_count (at_moment q at) target)) })).reply
-        → Fewer q.lines (with_optional_event (at_moment q at) (unless_refused refused (record { event = Some (Orphaned target); reply = Ok (replies.Orphaned (waiting_count (at_moment q at) target)) })).event).lines
+    orphaned-by : (target : ℕ) (m : Moved) (refused : Option Fault) → t.target ≡ target → Ok m ≡ as_moved (unless_refused refused (orphan_outcome a target)).reply
+        → length (pending_transfers (with_optional_event a (unless_refused refused (orphan_outcome a target)).event).lines) < length (pending_transfers a.lines)
     orphaned-by target m (Some fault) is k = absurd cc
-    orphaned-by target m None is k = Fewer-ended q.lines (then (Orphaned target)) refl t first (rw (eq-eqb target t.target (sym is)) refl) h
+    orphaned-by target m None is k = fewer-ended a.lines (then (Orphaned target)) refl t first (rw (eq-eqb target t.target (sym is)) refl)
 
-    Fewer-orphaned : (target : ℕ) (m : Moved) → t.target ≡ target → Ok m ≡ as_moved (outcome_at q at (Orphan target)).reply → Fewer q.lines (after_answer {T = Moved} q at (Orphan target) (Ok m)).lines
-    Fewer-orphaned target m is k = orphaned-by target m (first_refusal (at_moment q at)) is k
+-- ---- what it leaves of a queue
 
--- ---- the first parcel is that of the first transfer
+module _ (q : QueueHistory) (at : ℕ) (sound : IsSound q.lines q.clock) where
+  Same-arrived : (p : Parcel) (m : Moved) → Same q.lines (after_answer {T = Moved} q at (Arrive p) (Ok m))
+  Same-arrived p m =
+      let a : QueueHistory = acting_at q at (Arrive p) in
+      record {
+        same = arrived-by a p (first_refusal a) (has_accepted a.lines p.origin.uid p.origin.number) ∙ transfers_alike a (at_moment q at) (acting_alike q at (Arrive p) sound);
+        sound = sound_after {T = Moved} q at (Arrive p) (Ok m) sound;
+      }
 
-record IsFirst (lines : Lines) (p : Parcel) : Type 0 where
-  transfer : Transfer
-  first : slice_get (pending_transfers lines) 0 ≡ Some transfer
-  number : transfer.number ≡ p.origin.number
-  target : transfer.target ≡ p.target
+  fewer_after : {T : Type 0} (command : Command) (answer : Result T Fault) (before : List Transfer) → before ≡ pending_transfers q.lines
+      → length (pending_transfers (after_answer q at command answer).lines) < length before → Fewer q.lines (after_answer q at command answer)
+  fewer_after command answer before same less = record {
+    fewer = subst (λ (ts : List Transfer). length (pending_transfers (after_answer q at command answer).lines) < length ts) same less;
+    sound = sound_after q at command answer sound;
+  }
 
-module _ (q : QueueHistory) (p : Parcel) where
-  first-content : (t : Transfer) (m : Message) (o : Option ContentText) → slice_get (pending_transfers q.lines) 0 ≡ Some t → message_numbered q.lines t.number ≡ Some m
-      → option_map (λ content. parcel_of q t m content) o ≡ Some p → IsFirst q.lines p
-  first-content t m None first is h = absurd (none-some p h)
-  first-content t m (Some content) first is h =
-      let same : parcel_of q t m content ≡ p = same_Some (parcel_of q t m content) p h in
-      record { transfer = t; first = first; number = sym (numbered-number q.lines t.number m is) ∙ ap (λ (x : Parcel). x.origin.number) same; target = ap (λ (x : Parcel). x.target) same }
+  module _ (t : Transfer) (first : slice_get (pending_transfers q.lines) 0 ≡ Some t) where
+    Fewer-settled : (n : ℕ) (r : Reply) → t.number ≡ n → Ok r ≡ (outcome_at q at (Settle n)).reply → Fewer q.lines (after_answer {T = Reply} q at (Settle n) (Ok r))
+    Fewer-settled n r is k =
+        let a : QueueHistory = acting_at q at (Settle n) in
+        let alike : AreAlike a (at_moment q at) = acting_alike q at (Settle n) sound in
+        let same : pending_transfers a.lines ≡ pending_transfers q.lines = transfers_alike a (at_moment q at) alike in
+        let there : slice_get (pending_transfers a.lines) 0 ≡ Some t = ap (λ (ts : List Transfer). slice_get ts 0) same ∙ first in
+        fewer_after (Settle n) (Ok r) (pending_transfers a.lines) same
+        (settled-by a t there n r (first_refusal a) (is_pending a n) is (first_pending a t there (λ t h. alike.sound.pending.waiting t h) n is) k)
 
-  first-message : (t : Transfer) (o : Option Message) → slice_get (pending_transfers q.lines) 0 ≡ Some t → message_numbered q.lines t.number ≡ o
-      → option_and_then (λ m. option_map (λ content. parcel_of q t m content) (content_of q.lines m)) o ≡ Some p → IsFirst q.lines p
-  first-message t None first is h = absurd (none-some p h)
-  first-message t (Some m) first is h = first-content t m (content_of q.lines m) first is h
-
-  first-transfer : (o : Option Transfer) → slice_get (pending_transfers q.lines) 0 ≡ o → option_and_then (λ t. transferred_parcel q t) o ≡ Some p → IsFirst q.lines p
-  first-transfer None first h = absurd (none-some p h)
-  first-transfer (Some t) first h = first-message t (message_numbered q.lines t.number) first refl h
-
-  first-parcel : first_parcel_of q ≡ Some p → IsFirst q.lines p
-  first-parcel h = first-transfer (slice_get (pending_transfers q.lines) 0) refl h
+    Fewer-orphaned : (target : ℕ) (m : Moved) → t.target ≡ target → Ok m ≡ as_moved (outcome_at q at (Orphan target)).reply → Fewer q.lines (after_answer {T = Moved} q at (Orphan target) (Ok m))
+    Fewer-orphaned target m is k =
+        let a : QueueHistory = acting_at q at (Orphan target) in
+        let same : pending_transfers a.lines ≡ pending_transfers q.lines = transfers_alike a (at_moment q at) (acting_alike q at (Orphan target) sound) in
+        fewer_after (Orphan target) (Ok m) (pending_transfers a.lines) same
+        (orphaned-by a t (ap (λ (ts : List Transfer). slice_get ts 0) same ∙ first) target m (first_refusal a) is k)
 
 -- ---- a move
+
+-- the transfer of a parcel
+abbrev transfer_of : Parcel → Transfer
+transfer_of p = record { number = p.origin.number; target = p.target }
 
 -- less waits in the queue of a uid
 pub record LeavesFewer (s : QueueHistory) (new : World) (source : ℕ) : Type 0 where
   pub queue : QueueHistory
   pub there : queue_of_uid new source ≡ Some queue
-  pub less : Fewer s.lines queue.lines
+  pub less : Fewer s.lines queue
 
 record LeavesSame (s : QueueHistory) (new : World) (source : ℕ) : Type 0 where
   queue : QueueHistory
   there : queue_of_uid new source ≡ Some queue
-  as_much : Same s.lines queue.lines
+  as_much : Same s.lines queue
 
 -- what a command leaves of the queue of the uid that it comes to
 pub left-own : {T : Type 0} → (w : World) (uid at : ℕ) (command : Command) (answer : Result T Fault) (s : QueueHistory) → queue_of_uid w uid ≡ Some s
@@ -198,15 +178,7 @@ left-own w uid at command answer s here =
     changed-queue w uid uid (λ q. after_answer q at command answer) true (λ q. after_answer-uid at command answer q) (eq-eqb uid uid refl)
     ∙ ap (λ (o : Option QueueHistory). option_map (λ q. after_answer q at command answer) o) here
 
-module _ (w : World) (source at : ℕ) (s : QueueHistory) (here : queue_of_uid w source ≡ Some s) (h : AllAwait s.lines) where
-  -- a parcel is there, and its queue was answered so
-  parcel-there : (m : Moved) (there : Bool) (o : Option Parcel) → (m ≡ moved.None → ⊥)
-      → Ok m ≡ cond there (option_map_or (λ p. delivered_answer w at (delivery_of w source p)) o (Ok moved.None)) (Err QueueDoesNotExist)
-      → (p : Parcel) × (o ≡ Some p) × (Ok m ≡ delivered_answer w at (delivery_of w source p))
-  parcel-there m false o some k = absurd cc
-  parcel-there m true None some k = absurd (some cc)
-  parcel-there m true (Some p) some k = (p, refl, k)
-
+module _ (w : World) (source at : ℕ) (s : QueueHistory) (here : queue_of_uid w source ≡ Some s) (sound : IsSound s.lines s.clock) where
   module _ (m : Moved) (p : Parcel) (parcel : first_parcel_of s ≡ Some p) where
     -- its queue is there
     arrived-there : (t : QueueHistory) (own : Bool) → nat_eq p.target source ≡ own → LeavesSame s (world_after_command {T = Moved} w p.target at (Arrive p) (Ok m)) source
@@ -215,12 +187,12 @@ module _ (w : World) (source at : ℕ) (s : QueueHistory) (here : queue_of_uid w
       there =
           changed-queue w p.target source (λ q. after_answer {T = Moved} q at (Arrive p) (Ok m)) true (λ q. after_answer-uid at (Arrive p) (Ok m) q) e
           ∙ ap (λ (o : Option QueueHistory). option_map (λ q. after_answer {T = Moved} q at (Arrive p) (Ok m)) o) here;
-      as_much = Same-arrived s at h p m;
+      as_much = Same-arrived s at sound p m;
     }
     arrived-there t false e = record {
       queue = s;
       there = changed-queue w p.target source (λ q. after_answer {T = Moved} q at (Arrive p) (Ok m)) false (λ q. after_answer-uid at (Arrive p) (Ok m) q) e ∙ here;
-      as_much = record { same = refl; await = h };
+      as_much = record { same = refl; sound = sound };
     }
 
     arrival-needs : (q : QueueHistory) (refused : Option Fault) (accepted : Bool) → Ok m ≡ as_moved (unless_refused refused (cond accepted (again q) (new q p))).reply → needs_confirmation (Ok m) ≡ true
@@ -228,7 +200,7 @@ module _ (w : World) (source at : ℕ) (s : QueueHistory) (here : queue_of_uid w
     arrival-needs q None true k = let same : m ≡ moved.Again = cc in rw same refl
     arrival-needs q None false k = let same : m ≡ moved.Arrived = cc in rw same refl
 
-    orphaned-needs : (refused : Option Fault) (count : ℕ) (event : Event ContentText) → Ok m ≡ as_moved (unless_refused refused (record { event = Some event; reply = Ok (replies.Orphaned count) })).reply
+    orphaned-needs : (refused : Option Fault) (count : ℕ) (event : Event ContentText) → Ok m ≡ as_moved (unless_refused refused (adding event (Ok (replies.Orphaned count)))).reply
         → needs_confirmation (Ok m) ≡ false
     orphaned-needs (Some fault) count event k = absurd cc
     orphaned-needs None count event k = let same : m ≡ moved.Orphaned = cc in rw same refl
@@ -240,20 +212,19 @@ module _ (w : World) (source at : ℕ) (s : QueueHistory) (here : queue_of_uid w
     handed-same true None is there needs k = absurd (false≢true there)
     handed-same true (Some t) is there needs k = arrived-there t (nat_eq p.target source) refl
     handed-same false o is there needs k =
-        absurd (false≢true (sym (orphaned-needs (first_refusal (at_moment s at)) (waiting_count (at_moment s at) p.target) (Orphaned p.target) (rw here at k)) ∙ needs))
+        absurd (false≢true (sym (orphaned-needs (first_refusal (acting_at s at (Orphan p.target))) (waiting_count (acting_at s at (Orphan p.target)) p.target) (Orphaned p.target) (rw here at k)) ∙ needs))
 
     handed-fewer : (there : Bool) (o : Option QueueHistory) → queue_of_uid w p.target ≡ o → is_some o ≡ there → needs_confirmation (Ok m) ≡ false
         → Ok m ≡ delivered_answer w at (delivery w source p there)
         → LeavesFewer s (world_after_command {T = Moved} w (delivery w source p there).uid at (delivery w source p there).command (Ok m)) source
     handed-fewer true None is there needs k = absurd (false≢true there)
     handed-fewer true (Some t) is there needs k =
-        absurd (false≢true (sym needs ∙ arrival-needs (at_moment t at) (first_refusal (at_moment t at)) (has_accepted t.lines p.origin.uid p.origin.number) (rw is at k)))
+        absurd (false≢true (sym needs ∙ arrival-needs (acting_at t at (Arrive p)) (first_refusal (acting_at t at (Arrive p))) (has_accepted (acting_at t at (Arrive p)).lines p.origin.uid p.origin.number) (rw is at k)))
     handed-fewer false o is there needs k =
-        let f = first-parcel s p parcel in
         record {
           queue = after_answer {T = Moved} s at (Orphan p.target) (Ok m);
           there = left-own w source at (Orphan p.target) (Ok m) s here;
-          less = Fewer-orphaned s at h f.transfer f.first p.target m f.target (rw here at k);
+          less = Fewer-orphaned s at sound (transfer_of p) (handed s p parcel).first p.target m refl (rw here at k);
         }
 
   -- a confirmation, of which the number is that of the first parcel
@@ -261,17 +232,16 @@ module _ (w : World) (source at : ℕ) (s : QueueHistory) (here : queue_of_uid w
       → accepted_number between source ≡ Some n → Ok r ≡ confirm_answer between source at
       → LeavesFewer s (world_after_confirm {T = Reply} between source at (Ok r)) source
   confirmed-fewer between same p n r parcel is accepted k =
-      let f = first-parcel s p parcel in
       let q : QueueHistory = same.queue in
-      let first : slice_get (pending_transfers q.lines) 0 ≡ Some f.transfer = ap (λ (ts : List Transfer). slice_get ts 0) same.as_much.same ∙ f.first in
+      let first : slice_get (pending_transfers q.lines) 0 ≡ Some (transfer_of p) = ap (λ (ts : List Transfer). slice_get ts 0) same.as_much.same ∙ (handed s p parcel).first in
       let answered : Ok r ≡ (outcome_at q at (Settle n)).reply =
       k ∙ ap (λ (o : Option ℕ). option_map_or (λ number. queue_answer between source at (Settle number)) o (Ok (replies.Settled false))) accepted
       ∙ ap (λ (o : Option QueueHistory). option_map_or (λ q. (outcome_at q at (Settle n)).reply) o (Err QueueDoesNotExist)) same.there in
-      let less : Fewer q.lines (after_answer {T = Reply} q at (Settle n) (Ok r)).lines = Fewer-settled q at same.as_much.await f.transfer first n r (f.number ∙ is) answered in
+      let less : Fewer q.lines (after_answer {T = Reply} q at (Settle n) (Ok r)) = Fewer-settled q at same.as_much.sound (transfer_of p) first n r is answered in
       record {
         queue = after_answer {T = Reply} q at (Settle n) (Ok r);
         there = rw accepted (left-own between source at (Settle n) (Ok r) q same.there);
-        less = record { fewer = subst (λ (ts : List Transfer). length (pending_transfers (after_answer {T = Reply} q at (Settle n) (Ok r)).lines) < length ts) same.as_much.same less.fewer; await = less.await };
+        less = record { fewer = subst (λ (ts : List Transfer). length (pending_transfers (after_answer {T = Reply} q at (Settle n) (Ok r)).lines) < length ts) same.as_much.same less.fewer; sound = less.sound };
       }
 
   module _ (new : World) where
@@ -300,7 +270,7 @@ module _ (w : World) (source at : ℕ) (s : QueueHistory) (here : queue_of_uid w
         let ends = m.no_second_half e in
         let half : m.handed_over ≡ Ok x = sym ends.0 in
         let answered : Ok x ≡ arrive_answer w source at = subst (λ (a : Result Moved Fault). Meets a (arrive_answer w source at)) half m.meets in
-        let found = parcel-there x (has_queue w source) (first_parcel_in w source) some answered in
+        let found = answered-parcel w source at x (has_queue w source) (first_parcel_in w source) some answered in
         let p : Parcel = found.0 in
         let left = handed-to x m.between None p found.1 (subst (λ (a : Result Moved Fault). IsHandedOver w source at a m.between) half m.first_half) in
         subst (λ (v : World). LeavesFewer s v source) (sym (ends.1 ∙ left))
@@ -311,7 +281,7 @@ module _ (w : World) (source at : ℕ) (s : QueueHistory) (here : queue_of_uid w
         let half : m.handed_over ≡ Ok y = yes.1 in
         let needs : needs_confirmation (Ok y) ≡ true = ap needs_confirmation (sym half) ∙ e in
         let answered : Ok y ≡ arrive_answer w source at = subst (λ (a : Result Moved Fault). Meets a (arrive_answer w source at)) half m.meets in
-        let found = parcel-there y (has_queue w source) (first_parcel_in w source) (λ none. false≢true (ap (λ (m : Moved). needs_confirmation (Ok m)) (sym none) ∙ needs)) answered in
+        let found = answered-parcel w source at y (has_queue w source) (first_parcel_in w source) (λ none. false≢true (ap (λ (m : Moved). needs_confirmation (Ok m)) (sym none) ∙ needs)) answered in
         let p : Parcel = found.0 in
         let left = handed-to y m.between None p found.1 (subst (λ (a : Result Moved Fault). IsHandedOver w source at a m.between) half m.first_half) in
         let same : LeavesSame s m.between source =
@@ -344,7 +314,7 @@ waiting-fewer old new source at x some legal m = by_queue (queue_of_uid old sour
   by_queue : (o : Option QueueHistory) → queue_of_uid old source ≡ o → length (waiting_in new source) < length (waiting_in old source)
   by_queue None is = absurd (absent-moved old new source at x is m)
   by_queue (Some s) is =
-      let left = moved-fewer old source at s is (await-legal s (legal s is)) new x m some in
+      let left = moved-fewer old source at s is (sound_legal s (legal s is)) new x m some in
       let less = left.less.fewer in
       let before = waiting-there old source s is in
       let after = waiting-there new source left.queue left.there in
@@ -372,7 +342,7 @@ numbers-apart ts once i j d before within =
 
 pub waiting-count : (q : QueueHistory) → IsLegal q → length (pending_transfers q.lines) ≤ message_count q.lines
 waiting-count q legal =
-    let is = pending_legal q legal in
+    let is = (sound_legal q legal).pending in
     let ts : List Transfer = pending_transfers q.lines in
     let ns : List ℕ = map (λ t. t.number) ts in
     let count : ℕ = message_count q.lines in
@@ -388,15 +358,15 @@ arrived-some q p (Some fault) accepted h = cc
 arrived-some q p None true h = cc
 arrived-some q p None false h = cc
 
-orphaned-some : (refused : Option Fault) (count : ℕ) (event : Event ContentText) → Ok moved.None ≡ as_moved (unless_refused refused (record { event = Some event; reply = Ok (replies.Orphaned count) })).reply → ⊥
+orphaned-some : (refused : Option Fault) (count : ℕ) (event : Event ContentText) → Ok moved.None ≡ as_moved (unless_refused refused (adding event (Ok (replies.Orphaned count)))).reply → ⊥
 orphaned-some (Some fault) count event h = cc
 orphaned-some None count event h = cc
 
 module _ (w : World) (source at : ℕ) (s : QueueHistory) (here : queue_of_uid w source ≡ Some s) where
   delivered-some : (p : Parcel) (there : Bool) (o : Option QueueHistory) → queue_of_uid w p.target ≡ o → is_some o ≡ there → Ok moved.None ≡ delivered_answer w at (delivery w source p there) → ⊥
   delivered-some p true None is there k = false≢true there
-  delivered-some p true (Some t) is there k = arrived-some (at_moment t at) p (first_refusal (at_moment t at)) (has_accepted t.lines p.origin.uid p.origin.number) (rw is at k)
-  delivered-some p false o is there k = orphaned-some (first_refusal (at_moment s at)) (waiting_count (at_moment s at) p.target) (Orphaned p.target) (rw here at k)
+  delivered-some p true (Some t) is there k = arrived-some (acting_at t at (Arrive p)) p (first_refusal (acting_at t at (Arrive p))) (has_accepted (acting_at t at (Arrive p)).lines p.origin.uid p.origin.number) (rw is at k)
+  delivered-some p false o is there k = orphaned-some (first_refusal (acting_at s at (Orphan p.target))) (waiting_count (acting_at s at (Orphan p.target)) p.target) (Orphaned p.target) (rw here at k)
 
   none-by : (there : Bool) (o : Option Parcel) → Ok moved.None ≡ cond there (option_map_or (λ p. delivered_answer w at (delivery_of w source p)) o (Ok moved.None)) (Err QueueDoesNotExist) → o ≡ None
   none-by false o k = absurd cc

@@ -4,6 +4,7 @@ pub mod Commands
 pub mod Worlds
 pub mod Once
 pub mod Runs
+pub mod Twins
 pub mod Fates
 pub mod Holders
 pub mod Laws

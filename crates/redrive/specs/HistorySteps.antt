@@ -7,9 +7,9 @@ use Rattle.queue_core.specs.declared.command.Command.TheVariants as commands
 use Rattle.queue_core.specs.declared.reply.Reply.TheVariants as replies
 use Rattle.redrive.specs.declared.steps.HouseReply.TheVariants.{Confirmed}
 use Rattle.redrive.specs.declared.steps.HouseStep.{HouseStep}
-use Rattle.redrive.specs.World.{queue_answer, world_after_command, first_parcel_in}
+use Rattle.redrive.specs.World.{queue_answer, first_parcel_in}
 use Rattle.redrive.specs.History.{AllQueues, was_accepted}
-use Rattle.redrive.specs.WorldRun.{Answer, as_house_reply, answer_of_step, all_after, IsAnswerOf}
+use Rattle.redrive.specs.WorldRun.{Answer, as_house_reply, Act, confirm_act, act_of, answer_of_step, all_left, IsAnswerOf}
 
 -- one of the registry, or a confirmation of the first parcel of the queue of a uid
 pub data HistoryStep : Type 0 where
@@ -32,10 +32,12 @@ IsHistoryAnswer all (Own step) answer = IsAnswerOf all.world step answer
 IsHistoryAnswer all (Settle at source) answer = Meets answer (answer_in_history all (Settle at source))
 
 -- everything after a step that is answered so
+abbrev pub act_in_history : AllQueues → HistoryStep → Act
+act_in_history all (Own step) = act_of all.world step
+act_in_history all (Settle at source) = confirm_act at source (settled_number all source)
+
 abbrev pub after_history_step : AllQueues → HistoryStep → Answer → AllQueues
-after_history_step all (Own step) answer = all_after all step answer
-after_history_step all (Settle at source) answer =
-    record all { world = option_map_or (λ number. world_after_command all.world source at (commands.Settle number) answer) (settled_number all source) all.world }
+after_history_step all step answer = all_left all (act_in_history all step) answer
 
 -- each answer is that of everything which the answers before it leave
 abbrev pub AreHistoryAnswers : AllQueues → List HistoryStep → List Answer → Type 0

@@ -7,6 +7,7 @@ pub mod Halves
 pub mod History
 pub mod WorldRun
 pub mod HistorySteps
+pub mod WholeSteps
 pub mod Cost
 pub mod Places
 pub mod TransferExamples

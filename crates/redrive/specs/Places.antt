@@ -17,7 +17,8 @@ use Rattle.redrive.specs.declared.steps.HouseStep.TheVariants as steps
 use Rattle.redrive.specs.World.{queue_of_uid, new_world}
 use Rattle.redrive.specs.History.{AllQueues, journal_of, was_accepted}
 use Rattle.redrive.specs.WorldRun.{Answer}
-use Rattle.redrive.specs.HistorySteps.{HistoryStep, Own, after_history_step}
+use Rattle.redrive.specs.HistorySteps.{HistoryStep, Own}
+use Rattle.redrive.specs.WholeSteps.{whole_after_step}
 
 -- the beginning: the configured queues, and none deleted
 abbrev pub first_history : Configuration → ℕ → AllQueues
@@ -141,8 +142,8 @@ abbrev pub IsSpared : AllQueues → HistoryStep → Answer → Type 0
 IsSpared all (Own (steps.Delete at uid)) (Ok reply) = IsRelay all uid → ⊥
 IsSpared all step answer = ⊤
 
--- no step of the list deletes such a queue
+-- no step of the list deletes such a queue; whether it is one is read off whole journals
 abbrev pub NoRelayDeleted : AllQueues → List HistoryStep → List Answer → Type 0
 NoRelayDeleted all [] answers = ⊤
 NoRelayDeleted all (step ∷ steps) [] = ⊤
-NoRelayDeleted all (step ∷ steps) (answer ∷ answers) = IsSpared all step answer × NoRelayDeleted (after_history_step all step answer) steps answers
+NoRelayDeleted all (step ∷ steps) (answer ∷ answers) = IsSpared all step answer × NoRelayDeleted (whole_after_step all step answer) steps answers

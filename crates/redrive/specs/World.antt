@@ -102,12 +102,15 @@ has_no_place w = nat_le 1000 (length w.queues) || nat_le (2 ^ 62) w.next_uid
 abbrev pub new_answer : World → Result ℕ Fault
 new_answer w = if has_no_place w then Err OverLimit else Ok w.next_uid
 
--- the dead-letter queue is judged first, then whether the name is there, then whether there is a place
-abbrev pub create_answer : World → List ℕ → RequestedAttributes → Result ℕ Fault
-create_answer w name wish =
+-- the dead-letter queue is judged first, then whether a queue has the name, then whether there is a place
+abbrev pub created_answer : World → List ℕ → RequestedAttributes → Option QueueHistory → Result ℕ Fault
+created_answer w name wish known =
     if may_name_target w name wish
-    then option_map_or (λ q. existing_answer wish (target_uid w wish) q) (queue_named w name) (new_answer w)
+    then option_map_or (λ q. existing_answer wish (target_uid w wish) q) known (new_answer w)
     else Err InvalidAttributeValue
+
+abbrev pub create_answer : World → List ℕ → RequestedAttributes → Result ℕ Fault
+create_answer w name wish = created_answer w name wish (queue_named w name)
 
 -- whether a create of the name opens a queue
 abbrev pub opens_queue : World → List ℕ → RequestedAttributes → Bool
@@ -145,17 +148,24 @@ step_refusal w uid command =
     then (if is_internal command then Some UnsupportedOperation else if may_set w uid command then None else Some InvalidAttributeValue)
     else Some QueueDoesNotExist
 
+-- the reply of a queue, if it is there
+abbrev pub reply_alone : Option QueueHistory → ℕ → Command → Result Reply Fault
+reply_alone q at command = option_map_or (λ q. (outcome_at q at command).reply) q (Err QueueDoesNotExist)
+
 -- the answer of the queue of a uid
 abbrev pub queue_answer : World → ℕ → ℕ → Command → Result Reply Fault
-queue_answer w uid at command = option_map_or (λ q. (outcome_at q at command).reply) (queue_of_uid w uid) (Err QueueDoesNotExist)
+queue_answer w uid at command = reply_alone (queue_of_uid w uid) at command
 
 -- the answer is that of the queue of the uid, where nothing refuses the command before it comes there
 abbrev pub step_answer : World → ℕ → ℕ → Command → Result Reply Fault
 step_answer w uid at command = option_map_or (λ fault. Err fault) (step_refusal w uid command) (queue_answer w uid at command)
 
 -- whether a queue's answer to a command takes memory
+abbrev pub takes_alone : Option QueueHistory → ℕ → Command → Bool
+takes_alone q at command = option_map_or (λ q. takes_memory (outcome_at q at command)) q false
+
 abbrev pub takes_memory_in : World → ℕ → ℕ → Command → Bool
-takes_memory_in w uid at command = option_map_or (λ q. takes_memory (outcome_at q at command)) (queue_of_uid w uid) false
+takes_memory_in w uid at command = takes_alone (queue_of_uid w uid) at command
 
 -- whether a step takes memory: one that is refused before it comes to a queue takes none
 abbrev pub takes_memory_at : World → ℕ → ℕ → Command → Bool
@@ -243,27 +253,11 @@ world_after_confirm w source at answer =
 
 -- ---- a parcel moved: handed over, and confirmed
 
--- the parcel came to its queue, or there is none; it is answered so, exactly where that queue takes no memory for it
-pub record IsDelivered (old : World) (source at : ℕ) (answer : Result Moved Fault) (new : World) : Type 0 where
+-- What a hand-over leaves that is answered so, exactly where the queue that the parcel goes to takes no memory for it. Where memory ran out, for the parcel or in
+-- that queue, that queue's clock alone has moved
+pub record IsHandedOver (old : World) (source at : ℕ) (answer : Result Moved Fault) (new : World) : Type 0 where
   pub exact : hand_over_takes_memory old source at ≡ false → answer ≡ arrive_answer old source at
   pub left : new ≡ world_after_hand_over old source at answer
-
--- whether the first parcel of the queue of a uid goes to a queue that is there
-abbrev pub goes_to_queue : World → ℕ → Bool
-goes_to_queue w source = option_map_or (λ p. has_queue w p.target) (first_parcel_in w source) false
-
--- there is a parcel for a queue that is there and has an entry to add for it, and it could not be made for want of memory. A full queue, and one that has
--- accepted it, is asked first, and for a queue that is gone no parcel is made
-pub record IsUnmade (old : World) (source at : ℕ) (answer : Result Moved Fault) (new : World) : Type 0 where
-  pub goes : goes_to_queue old source ≡ true
-  pub takes : hand_over_takes_memory old source at ≡ true
-  pub no_memory : is_out_of_memory answer ≡ true
-  pub left : new ≡ old
-
--- What a hand-over leaves that is answered so. Memory may run out in two ways: where the queue that the parcel goes to finds none, that queue's clock has
--- moved; where the parcel itself could not be made, nothing has changed
-abbrev pub IsHandedOver : World → ℕ → ℕ → Result Moved Fault → World → Type 0
-IsHandedOver old source at answer new = IsDelivered old source at answer new ⊎ IsUnmade old source at answer new
 
 -- whether the dead-letter queue has the parcel after a hand-over that is answered so: its source has to be told
 abbrev pub needs_confirmation : Result Moved Fault → Bool
@@ -324,9 +318,12 @@ sources_answer w uid = if has_queue w uid then Ok (sources_in_world w uid) else 
 abbrev pub closed_queue : QueueHistory → ℕ → QueueHistory
 closed_queue q at = with_event (at_moment q at) Closed
 
--- the queue of the uid, closed
+-- the queue, closed, if it is there
+abbrev pub taken_alone : Option QueueHistory → ℕ → Result QueueHistory Fault
+taken_alone q at = option_map_or (λ q. Ok (closed_queue q at)) q (Err QueueDoesNotExist)
+
 abbrev pub take_answer : World → ℕ → ℕ → Result QueueHistory Fault
-take_answer w uid at = option_map_or (λ q. Ok (closed_queue q at)) (queue_of_uid w uid) (Err QueueDoesNotExist)
+take_answer w uid at = taken_alone (queue_of_uid w uid) at
 
 abbrev pub delete_answer : World → ℕ → Result (Unit {0}) Fault
 delete_answer w uid = option_map_or (λ q. Ok tt) (queue_of_uid w uid) (Err QueueDoesNotExist)

@@ -1,20 +1,19 @@
 -- The queue registry over a list of steps: queues created and deleted, commands for one queue, and time that passes for all.
-use Rattle.std.specs.Prelude.{◌≡◌, ℕ, ◌==◌, ◌&&◌, Bool, false, if◌then◌else◌, IfSome, option_and_then, List, [], ◌∷◌, map, slice_get, option_map, Option, Some, None, unwrap_or, Result, Ok, Err}
+use Rattle.std.specs.Prelude.{◌≡◌, ℕ, ◌==◌, Bool, true, false, if◌then◌else◌, IfSome, is_some, option_and_then, List, [], ◌∷◌, map, slice_get, Option, Some, None, Result, Ok, Err}
 use Rattle.std.specs.Option.{option_map, option_map_or}
-use Rattle.std.specs.Str.{bytes_eq}
 use Rattle.message.specs.Content.{content_size}
 use Rattle.message.specs.declared.fault.Fault.{Fault}
-use Rattle.message.specs.declared.fault.Fault.TheVariants.{QueueDoesNotExist, InvalidAttributeValue}
+use Rattle.message.specs.declared.fault.Fault.TheVariants.{QueueDoesNotExist}
 use Rattle.message.specs.Fault.{is_out_of_memory, Meets}
-use Rattle.queue_config.specs.Settings.{RequestedAttributes, default_settings, settings_with}
+use Rattle.queue_config.specs.Settings.{QueueSettings, default_settings, settings_with}
 use Rattle.queue_core.specs.declared.command.Command.{Command}
 use Rattle.queue_core.specs.declared.command.Command.TheVariants as commands
+use Rattle.queue_core.specs.declared.parcel.Parcel.{Parcel}
 use Rattle.queue_core.specs.declared.reply.Reply.{Reply}
 use Rattle.queue_core.specs.declared.reply.Reply.TheVariants as replies
 use Rattle.queue_core.specs.States.{gauges_of}
 use Rattle.queue_core.specs.Metrics.{current_flows, row_of, alarm_state_in}
-use Rattle.queue_core.specs.Queue.{QueueHistory, at_moment, outcome_at, after_answer, offered_candidates, offers_of}
-use Rattle.queue_core.specs.Kept.{opened_queue}
+use Rattle.queue_core.specs.Queue.{QueueHistory, at_moment, rebased_where, outcome_at, after_answer, offered_candidates, offers_of}
 use Rattle.redrive.specs.declared.moved.Moved.{Moved}
 use Rattle.redrive.specs.declared.moved.Moved.TheVariants as moved
 use Rattle.redrive.specs.declared.steps.HouseReply.{HouseReply}
@@ -22,7 +21,7 @@ use Rattle.redrive.specs.declared.steps.HouseReply.TheVariants.{Created, Deleted
 use Rattle.redrive.specs.declared.steps.HouseStep.{HouseStep}
 use Rattle.redrive.specs.declared.steps.HouseStep.TheVariants as steps
 use Rattle.redrive.specs.declared.steps.QueueMetrics.{QueueMetrics}
-use Rattle.redrive.specs.World.{World, queue_of_uid, has_queue, target_uid, may_name_target, existing_answer, opens_queue, step_refusal, closed_queue, create_answer, world_after_create, take_answer, world_after_delete, step_answer, takes_memory_at, world_after_step, first_parcel_in, delivery_of, as_moved, hand_over_answer, hand_over_takes_memory, world_after_hand_over, accepted_number, confirm_answer, confirm_takes_memory, world_after_confirm, needs_confirmation, world_at_moment}
+use Rattle.redrive.specs.World.{World, next_queue, with_queue, queue_named, queue_of_uid, target_uid, opens_queue, created_answer, step_refusal, reply_alone, takes_alone, world_after_command, closed_queue, taken_alone, world_after_delete, first_parcel_in, delivery_of, moved_of, accepted_number, needs_confirmation, world_at_moment}
 use Rattle.redrive.specs.History.{AllQueues}
 
 abbrev pub Answer : Type 0
@@ -32,60 +31,131 @@ abbrev pub as_house_reply : {T : Type 0} → (T → HouseReply) → Result T Fau
 as_house_reply reply (Ok x) = Ok (reply x)
 as_house_reply reply (Err fault) = Err fault
 
+-- ---- what a step does
+
+-- what changes: nothing; the queue of a uid, which performs a command; one queue more, of the next uid; one fewer; or the clock of every queue
+pub data WorldChange : Type 0 where
+  Nothing : WorldChange
+  Performs : (uid : ℕ) (command : Command) → WorldChange
+  Opens : (name : List ℕ) (settings : QueueSettings) → WorldChange
+  Closes : (uid : ℕ) → WorldChange
+  Passes : WorldChange
+
+-- the moment of a step; the uid of the queue that it is for, if it is for one alone; what is answered, and whether that takes memory, where that queue is there and
+-- where it is not; and what changes
+pub record Act : Type 0 where
+  pub at : ℕ
+  pub uid : Option ℕ
+  pub answer : Option QueueHistory → Answer
+  pub takes_memory : Option QueueHistory → Bool
+  pub change : WorldChange
+
+-- what is refused before a queue is asked
+abbrev pub refuses : ℕ → ℕ → Fault → Act
+refuses at uid fault = record { at = at; uid = Some uid; answer = λ q. Err fault; takes_memory = λ q. false; change = Nothing }
+
+-- what is answered for a queue that has nothing to do
+abbrev pub idles : ℕ → ℕ → HouseReply → Act
+idles at uid reply = record { at = at; uid = Some uid; answer = λ q. if is_some q then Ok reply else Err QueueDoesNotExist; takes_memory = λ q. false; change = Nothing }
+
+-- the queue of a uid is asked
+abbrev pub performs : ℕ → ℕ → Command → (Reply → HouseReply) → Act
+performs at uid command reply = record {
+  at = at;
+  uid = Some uid;
+  answer = λ q. as_house_reply reply (reply_alone q at command);
+  takes_memory = λ q. takes_alone q at command;
+  change = Performs uid command;
+}
+
+-- a command, which may be refused before it comes to the queue of a uid
+abbrev pub perform_act : ℕ → ℕ → Command → Option Fault → Act
+perform_act at uid command (Some fault) = refuses at uid fault
+perform_act at uid command None = performs at uid command Performed
+
+-- the first parcel of a source is handed over
+abbrev pub hand_over_act : World → ℕ → ℕ → Option Parcel → Act
+hand_over_act w at source (Some p) = performs at (delivery_of w source p).uid (delivery_of w source p).command (λ reply. HandedOver (moved_of reply))
+hand_over_act w at source None = idles at source (HandedOver moved.None)
+
+-- the first parcel of a source is confirmed, where its number is known
+abbrev pub confirm_act : ℕ → ℕ → Option ℕ → Act
+confirm_act at source (Some number) = performs at source (commands.Settle number) Confirmed
+confirm_act at source None = idles at source (Confirmed (replies.Settled false))
+
+-- A create is for the queue of the name, or for the next uid where no queue has it. A hand-over is for the queue that the parcel goes to, or comes back to, and
+-- for its source where no parcel waits
+abbrev pub act_of : World → HouseStep → Act
+act_of w (steps.Create at name wish) = record {
+  at = at;
+  uid = Some (option_map_or (λ q. q.uid) (queue_named w name) w.next_uid);
+  answer = λ q. as_house_reply Created (created_answer w name wish q);
+  takes_memory = λ q. opens_queue w name wish;
+  change = if opens_queue w name wish then Opens name (settings_with default_settings wish (target_uid w wish)) else Nothing;
+}
+act_of w (steps.Delete at uid) = record {
+  at = at;
+  uid = Some uid;
+  answer = λ q. as_house_reply Deleted (taken_alone q at);
+  takes_memory = λ q. is_some q;
+  change = Closes uid;
+}
+act_of w (steps.Perform at uid command) = perform_act at uid command (step_refusal w uid command)
+act_of w (steps.HandOver at source) = hand_over_act w at source (first_parcel_in w source)
+act_of w (steps.Confirm at source) = confirm_act at source (accepted_number w source)
+act_of w (steps.Advance at) = record { at = at; uid = None; answer = λ q. Ok Advanced; takes_memory = λ q. false; change = Passes }
+
 -- ---- one step
 
--- the answer of a queue of a uid that is there
-abbrev pub if_there : World → ℕ → Answer → Answer
-if_there w uid answer = if has_queue w uid then answer else Err QueueDoesNotExist
+-- the queue that a step is for
+abbrev pub found_for : World → Act → Option QueueHistory
+found_for w act = option_and_then (queue_of_uid w) act.uid
+
+abbrev pub answer_of_act : World → Act → Answer
+answer_of_act w act = act.answer (found_for w act)
 
 abbrev pub answer_of_step : World → HouseStep → Answer
-answer_of_step w (steps.Create at name wish) = as_house_reply Created (create_answer w name wish)
-answer_of_step w (steps.Delete at uid) = as_house_reply Deleted (take_answer w uid at)
-answer_of_step w (steps.Perform at uid command) = as_house_reply Performed (step_answer w uid at command)
-answer_of_step w (steps.HandOver at source) = if_there w source (Ok (HandedOver (hand_over_answer w source at)))
-answer_of_step w (steps.Confirm at source) = if_there w source (as_house_reply Confirmed (confirm_answer w source at))
-answer_of_step w (steps.Advance at) = Ok Advanced
+answer_of_step w step = answer_of_act w (act_of w step)
 
--- whether a step that is answered so needs memory: where it opens a queue, adds to the journal of one, or shares the content of a parcel for its client. To
--- hand a parcel over, memory is needed only where the queue that it goes to adds to its journal
-abbrev pub needs_memory : World → HouseStep → Answer → Bool
-needs_memory w (steps.Create at name wish) answer = opens_queue w name wish
-needs_memory w (steps.Delete at uid) answer = has_queue w uid
-needs_memory w (steps.Perform at uid command) answer = takes_memory_at w uid at command
-needs_memory w (steps.HandOver at source) answer = hand_over_takes_memory w source at
-needs_memory w (steps.Confirm at source) answer = confirm_takes_memory w source at
-needs_memory w (steps.Advance at) answer = false
+-- whether it needs memory: where it opens a queue, adds to the journal of one or begins it anew, or shares the content of a parcel for its client. To hand a
+-- parcel over, memory is needed only where the queue that it goes to adds to its journal or begins it anew
+abbrev pub needs_memory : World → HouseStep → Bool
+needs_memory w step = (act_of w step).takes_memory (found_for w (act_of w step))
 
--- the registry that a step leaves which is answered so. Where the first parcel is not found for want of memory, nothing is handed over
+-- the registry that a change leaves where it is answered so
+abbrev pub world_changed : World → ℕ → WorldChange → Answer → World
+world_changed w at Nothing answer = w
+world_changed w at (Performs uid command) answer = world_after_command w uid at command answer
+world_changed w at (Opens name settings) answer = if is_out_of_memory answer then w else with_queue w (next_queue w at name settings [])
+world_changed w at (Closes uid) answer = world_after_delete w uid at answer
+world_changed w at Passes answer = world_at_moment w at
+
 abbrev pub world_after : World → HouseStep → Answer → World
-world_after w (steps.Create at name wish) answer = world_after_create w at name wish answer
-world_after w (steps.Delete at uid) answer = world_after_delete w uid at answer
-world_after w (steps.Perform at uid command) answer = world_after_step w uid at command answer
-world_after w (steps.HandOver at source) (Ok (HandedOver answer)) = world_after_hand_over w source at answer
-world_after w (steps.HandOver at source) _ = w
-world_after w (steps.Confirm at source) answer = world_after_confirm w source at answer
-world_after w (steps.Advance at) answer = world_at_moment w at
+world_after w step answer = world_changed w (act_of w step).at (act_of w step).change answer
 
--- a queue that was deleted is handed over closed
-abbrev pub with_deleted : Answer → List QueueHistory → List QueueHistory
-with_deleted (Ok (Deleted q)) deleted = q ∷ deleted
-with_deleted _ deleted = deleted
+-- the queues that were deleted, with the one that a change closes
+abbrev pub with_closed : World → ℕ → WorldChange → Answer → List QueueHistory → List QueueHistory
+with_closed w at (Closes uid) answer deleted =
+    if is_out_of_memory answer then deleted else option_map_or (λ q. closed_queue q at ∷ deleted) (queue_of_uid w uid) deleted
+with_closed w at change answer deleted = deleted
 
--- everything after a step
+-- everything after a change, an act, and a step
+abbrev pub all_changed : AllQueues → ℕ → WorldChange → Answer → AllQueues
+all_changed all at change answer =
+    record { world = world_changed all.world at change answer; deleted = with_closed all.world at change answer all.deleted }
+
+abbrev pub all_left : AllQueues → Act → Answer → AllQueues
+all_left all act answer = all_changed all act.at act.change answer
+
 abbrev pub all_after : AllQueues → HouseStep → Answer → AllQueues
-all_after all step answer = record { world = world_after all.world step answer; deleted = with_deleted answer all.deleted }
+all_after all step answer = all_left all (act_of all.world step) answer
 
 -- ---- a list of steps
 
--- the answer is the one wanted, or memory ran out; that a queue found no memory for a parcel is part of the answer
-abbrev pub MeetsAnswer : Answer → Answer → Type 0
-MeetsAnswer (Ok (HandedOver answer)) (Ok (HandedOver wanted)) = Meets answer wanted
-MeetsAnswer answer wanted = Meets answer wanted
-
 -- the answer is that of the registry; only a step that needs memory may find none
 pub record IsAnswerOf (w : World) (step : HouseStep) (answer : Answer) : Type 0 where
-  pub meets : MeetsAnswer answer (answer_of_step w step)
-  pub exact : needs_memory w step answer ≡ false → answer ≡ answer_of_step w step
+  pub meets : Meets answer (answer_of_step w step)
+  pub exact : needs_memory w step ≡ false → answer ≡ answer_of_step w step
 
 -- each answer is that of the registry which the answers before it leave
 abbrev pub AreHouseAnswers : World → List HouseStep → List Answer → Type 0
@@ -118,82 +188,45 @@ history_after all (step ∷ steps) (answer ∷ answers) = history_after (all_aft
 
 -- ---- one queue of many
 
--- whether a create answers the uid
-abbrev pub answers_uid : ℕ → Answer → Bool
-answers_uid uid (Ok (Created given)) = given == uid
-answers_uid uid _ = false
+-- what a change leaves of the queue of a uid, if there is one: it sees its own opening, the commands that are for it, its deletion, and time, and nothing else
+abbrev pub queue_changed : World → ℕ → Option QueueHistory → ℕ → WorldChange → Answer → Option QueueHistory
+queue_changed w uid q at Nothing answer = q
+queue_changed w uid q at (Performs own command) answer = if own == uid then option_map (λ q. after_answer q at command answer) q else q
+queue_changed w uid q at (Opens name settings) answer =
+    if is_out_of_memory answer then q else if w.next_uid == uid then Some (next_queue w at name settings []) else q
+queue_changed w uid q at (Closes own) answer = if own == uid then (if is_out_of_memory answer then option_map (λ q. at_moment q at) q else None) else q
+queue_changed w uid q at Passes answer = option_map (λ q. at_moment q at) q
 
--- the command that a step gives the queue of a uid
-abbrev pub command_for : World → ℕ → HouseStep → Option Command
-command_for w uid (steps.Perform at own command) = if own == uid then option_map_or (λ fault. None) (step_refusal w uid command) (Some command) else None
-command_for w uid (steps.HandOver at source) =
-    option_and_then (λ p. if (delivery_of w source p).uid == uid then Some (delivery_of w source p).command else None) (first_parcel_in w source)
-command_for w uid (steps.Confirm at source) = if source == uid then option_map (λ number. commands.Settle number) (accepted_number w source) else None
-command_for w uid _ = None
-
--- what a command leaves of a queue, where there is one
-abbrev pub after_command : {T : Type 0} → Option QueueHistory → ℕ → Option Command → Result T Fault → Option QueueHistory
-after_command q at None answer = q
-after_command q at (Some command) answer = option_map (λ q. after_answer q at command answer) q
-
--- what a step leaves of the queue of a uid, if there is one: it sees its own creation, the commands that are for it, its deletion, and time, and nothing else
 abbrev pub queue_after : World → ℕ → Option QueueHistory → HouseStep → Answer → Option QueueHistory
-queue_after w uid q (steps.Create at name wish) answer =
-    if answers_uid uid answer then Some (unwrap_or q (opened_queue uid name (settings_with default_settings wish (target_uid w wish)) w.limits [] at)) else q
-queue_after w uid q (steps.Delete at own) answer =
-    if own == uid then (if is_out_of_memory answer then option_map (λ q. at_moment q at) q else None) else q
-queue_after w uid q (steps.Perform at own command) answer = after_command q at (command_for w uid (steps.Perform at own command)) answer
-queue_after w uid q (steps.HandOver at source) (Ok (HandedOver answer)) = after_command q at (command_for w uid (steps.HandOver at source)) answer
-queue_after w uid q (steps.HandOver at source) _ = q
-queue_after w uid q (steps.Confirm at source) answer = after_command q at (command_for w uid (steps.Confirm at source)) answer
-queue_after w uid q (steps.Advance at) answer = option_map (λ q. at_moment q at) q
+queue_after w uid q step answer = queue_changed w uid q (act_of w step).at (act_of w step).change answer
 
--- the reply of a queue, if it is there
-abbrev pub reply_alone : Option QueueHistory → ℕ → Command → Result Reply Fault
-reply_alone q at command = option_map_or (λ q. (outcome_at q at command).reply) q (Err QueueDoesNotExist)
-
--- what the queue of a uid answers to a create: where it has the name, and where it is the queue that is opened
-abbrev pub created_alone : World → ℕ → Option QueueHistory → List ℕ → RequestedAttributes → Option Answer
-created_alone w uid (Some q) name wish =
-    if bytes_eq q.name name
-    then Some (as_house_reply Created (if may_name_target w name wish then existing_answer wish (target_uid w wish) q else Err InvalidAttributeValue)) else None
-created_alone w uid None name wish = if (w.next_uid == uid) && opens_queue w name wish then Some (Ok (Created uid)) else None
-
--- what the queue of a uid answers by itself: to a create of its name, its deletion, its commands, a parcel that comes to it or comes back, its confirmations,
--- and, as a source, that no parcel waits or that it is not there. A create that is refused and of no queue's name is for none
+-- what the queue of a uid answers by itself to a step that is for it, or for all: to a create of its name, its deletion, its commands, a parcel that comes to it or
+-- comes back, its confirmations, and, as a source, that no parcel waits or that it is not there
 abbrev pub answer_alone : World → ℕ → Option QueueHistory → HouseStep → Option Answer
-answer_alone w uid q (steps.Create at name wish) = created_alone w uid q name wish
-answer_alone w uid q (steps.Delete at own) =
-    if own == uid then Some (as_house_reply Deleted (option_map_or (λ q. Ok (closed_queue q at)) q (Err QueueDoesNotExist))) else None
-answer_alone w uid q (steps.Perform at own command) =
-    if own == uid then Some (as_house_reply Performed (option_map_or (λ fault. Err fault) (step_refusal w uid command) (reply_alone q at command))) else None
-answer_alone w uid q (steps.HandOver at source) =
-    option_map_or (λ p. if (delivery_of w source p).uid == uid then Some (Ok (HandedOver (as_moved (reply_alone q at (delivery_of w source p).command)))) else None)
-    (first_parcel_in w source) (if source == uid then Some (option_map_or (λ q. Ok (HandedOver (Ok moved.None))) q (Err QueueDoesNotExist)) else None)
-answer_alone w uid q (steps.Confirm at source) =
-    if source == uid
-    then Some (option_map_or (λ q. as_house_reply Confirmed (option_map_or (λ number. (outcome_at q at (commands.Settle number)).reply) (accepted_number w source)
-    (Ok (replies.Settled false)))) q (Err QueueDoesNotExist)) else None
-answer_alone w uid q (steps.Advance at) = Some (Ok Advanced)
+answer_alone w uid q step = if option_map_or (λ own. own == uid) (act_of w step).uid true then Some ((act_of w step).answer q) else None
 
 -- the queue of a uid answers all that is for it, and becomes what the commands for it leave, as if no other queue were there
 abbrev pub IsAsIfAlone : World → ℕ → Option QueueHistory → List HouseStep → List Answer → Option QueueHistory → Type 0
 IsAsIfAlone w uid q [] answers new = new ≡ q
 IsAsIfAlone w uid q (step ∷ steps) [] new = new ≡ q
 IsAsIfAlone w uid q (step ∷ steps) (answer ∷ answers) new =
-    IfSome (answer_alone w uid q step) (λ wanted. MeetsAnswer answer wanted) × IsAsIfAlone (world_after w step answer) uid (queue_after w uid q step answer) steps answers new
+    IfSome (answer_alone w uid q step) (λ wanted. Meets answer wanted) × IsAsIfAlone (world_after w step answer) uid (queue_after w uid q step answer) steps answers new
 
 -- ---- what is told of the queues is recomputed from their journals
 
--- a look tells the counts and the age, and a receive offers the first messages of the order, that the whole journal gives
+-- a look tells the counts and the age, and a receive offers the first messages of the order, that the whole journal gives: with a checkpoint for its first entry,
+-- where one came first
 abbrev pub IsTold : QueueHistory → Command → Reply → Type 0
 IsTold q commands.Look (replies.Looked look) = look.gauges ≡ gauges_of q.lines q.clock
 IsTold q (commands.Receive maximum timeout) (replies.Received offers) = offers ≡ offers_of q (offered_candidates q maximum)
 IsTold q _ _ = Unit {0}
 
+abbrev pub IsToldIn : World → ℕ → WorldChange → Answer → Type 0
+IsToldIn w at (Performs uid command) (Ok (Performed reply)) = IfSome (queue_of_uid w uid) (λ q. IsTold (rebased_where (outcome_at q at command).rebases (at_moment q at)) command reply)
+IsToldIn w at change answer = Unit {0}
+
 abbrev pub IsToldBy : World → HouseStep → Answer → Type 0
-IsToldBy w (steps.Perform at uid command) (Ok (Performed reply)) = IfSome (queue_of_uid w uid) (λ q. IsTold (at_moment q at) command reply)
-IsToldBy w _ _ = Unit {0}
+IsToldBy w step answer = IsToldIn w (act_of w step).at (act_of w step).change answer
 
 abbrev pub AreTold : World → List HouseStep → List Answer → Type 0
 AreTold w [] answers = Unit {0}

@@ -1,11 +1,12 @@
 //! Dead letters that go from one queue of the registry to another.
 
-ghost use Rattle.std.specs.Prelude.{◌≡◌, ℕ, ◌+◌, ◌≤◌, true, false, Some, None, Ok, Err, IfOk, OnErr, option_map, option_and_then};
+ghost use Rattle.std.specs.Prelude.{◌≡◌, ℕ, ◌+◌, ◌≤◌, true, false, Some, None, Ok, Err, option_map, option_and_then};
 ghost use Rattle.std.specs.Option.{option_map_or};
 ghost use Rattle.message.specs.Fault.{Meets};
 ghost use Rattle.queue_core.specs.Messages.{has_accepted};
-ghost use Rattle.queue_core.specs.Queue.{outcome_at, reply_without_memory, as_reply};
-ghost use Rattle.redrive.specs.World.{moved_of, as_moved, needs_confirmation, goes_to_queue};
+ghost use Rattle.queue_core.specs.Queue.{QueueHistory, outcome_of, reply_without_memory, as_reply};
+ghost use Rattle.queue_core.specs.Legal.{IsLegal};
+ghost use Rattle.redrive.specs.World.{moved_of, as_moved, needs_confirmation};
 
 use crate::house::House;
 use crate::moved::Moved;
@@ -45,9 +46,9 @@ fn needs_confirmation(moved: Moved) -> bool
 }
 
 impl House {
-    ghost use Rattle.redrive.specs.World.{queue_of_uid, has_queue, queue_answer, first_parcel_in, arrive_answer, hand_over_takes_memory, takes_memory_in, world_after_command, world_after_hand_over, accepted_number, confirm_answer, confirm_takes_memory, world_after_confirm, IsHandedOver, move_answer, IsMoved};
+    ghost use Rattle.redrive.specs.World.{queue_of_uid, has_queue, queue_answer, first_parcel_in, arrive_answer, hand_over_takes_memory, takes_memory_in, world_after_command, world_after_hand_over, accepted_number, confirm_answer, confirm_takes_memory, world_after_confirm, hand_over_answer, IsHandedOver, move_answer, IsMoved};
     ghost use Rattle.redrive.specs.ByPlace.{closes_queue};
-    ghost use Rattle.redrive.specs.Halves.{handed_over, MeetsHandOver};
+    ghost use Rattle.redrive.specs.Halves.{confirmed};
     ghost use Rattle.redrive.specs.Cost.{command_ticks, hand_over_ticks, confirm_ticks, CostsMove};
 
     /// The first parcel of the queue of a uid.
@@ -64,15 +65,16 @@ impl House {
     /// Where the first parcel of the queue of a uid comes from, and the uid of the queue that it is for. It
     /// takes no memory.
     fn first_waiting(&self, source: u64) -> Option<(Origin, u64)>
-        ensures { result ≡ option_map (λ p. (p.origin, p.target)) (first_parcel_in self.now source) }
+        ensures first { result ≡ option_map (λ p. (p.origin, p.target)) (first_parcel_in self.now source) }
+        ensures legal { (q : QueueHistory) → queue_of_uid self.now source ≡ Some q → IsLegal q }
     {
         self.state(source)?.first_waiting()
     }
 
-    /// What the queue of a uid answers, at any moment, to a parcel from this origin that it does not accept.
+    /// What the queue of a uid answers at its clock to a parcel from this origin, where that takes no memory.
     fn arrival_answer(&self, target: u64, origin: &Origin) -> Option<Result<Arrival, Fault>>
-        ensures { (parcel : Parcel) (at : ℕ) → parcel.origin ≡ origin.now
-            → option_map (λ answer. as_reply Reply.Arrived answer) result ≡ option_and_then (λ q. reply_without_memory (outcome_at q at (Command.Arrive parcel))) (queue_of_uid self.now target) }
+        ensures { (parcel : Parcel) → parcel.origin ≡ origin.now
+            → option_map (λ answer. as_reply Reply.Arrived answer) result ≡ option_and_then (λ q. reply_without_memory (outcome_of q (Command.Arrive parcel))) (queue_of_uid self.now target) }
     {
         match self.state(target) {
             Some(queue) => queue.arrival_answer(origin),
@@ -100,7 +102,8 @@ impl House {
     }
 
     /// Hands over the first parcel of the queue of a uid, which comes from this origin and is for the queue
-    /// of the uid `target`. That queue is asked first whether it takes the parcel, which is made only then.
+    /// of the uid `target`. Where there is no memory for the parcel, that queue answers still what it answers
+    /// without memory.
     fn hand_over_first(
         &mut self,
         alloc: Global,
@@ -109,58 +112,28 @@ impl House {
         origin: &Origin,
         target: u64,
         ticks: &mut Ticks,
-    ) -> Result<Result<Moved, Fault>, Fault>
+    ) -> Result<Moved, Fault>
         requires there { has_queue self.old source ≡ true }
         requires first { option_map {U = Origin × ℕ} (λ p. (p.origin, p.target)) (first_parcel_in self.old source) ≡ Some (origin.now, target) }
-        ensures answer { MeetsHandOver result (handed_over self.old source at) }
-        ensures exact { hand_over_takes_memory self.old source at ≡ false → result ≡ handed_over self.old source at }
-        ensures ok { IfOk result (λ answer. self.new ≡ world_after_hand_over self.old source at answer) }
-        ensures err { OnErr result (self.new ≡ self.old) }
-        ensures goes { OnErr result (goes_to_queue self.old source ≡ true) }
-        ensures cost { IfOk result (λ answer. ticks.new ≤ ticks.old + hand_over_ticks self.old source at answer) }
-        ensures calm { OnErr result (ticks.new ≡ ticks.old) }
+        ensures answer { Meets result (hand_over_answer self.old source at) }
+        ensures exact { hand_over_takes_memory self.old source at ≡ false → result ≡ hand_over_answer self.old source at }
+        ensures state { self.new ≡ world_after_hand_over self.old source at result }
+        ensures cost { ticks.new ≤ ticks.old + hand_over_ticks self.old source at result }
     {
         self.keep_registry();
         if !self.has_queue(target) {
-            return Ok(self.deliver(alloc, source, at, &Command::Orphan { target }, ticks));
+            return self.deliver(alloc, source, at, &Command::Orphan { target }, ticks);
         }
-        if let Some(answer) = self.arrival_answer(target, origin) {
-            self.advance_in(target, at, ticks);
-            return Ok(as_moved(answer));
-        }
-        match self.first_parcel(alloc, source)? {
-            Some(parcel) => {
-                Ok(self.deliver(alloc, target, at, &Command::Arrive { parcel }, ticks))
+        match self.first_parcel(alloc, source) {
+            Ok(Some(parcel)) => self.deliver(alloc, target, at, &Command::Arrive { parcel }, ticks),
+            Ok(None) => unreachable!(),
+            Err(fault) => {
+                self.advance_in(target, at, ticks);
+                match self.arrival_answer(target, origin) {
+                    Some(answer) => as_moved(answer),
+                    None => Err(fault),
+                }
             }
-            None => unreachable!(),
-        }
-    }
-
-    /// Hands over the first parcel of the queue of a uid. Where the parcel cannot be made for want of
-    /// memory, nothing is done; where the queue that it goes to has no entry to add, none is wanted.
-    pub(crate) fn hand_over(
-        &mut self,
-        alloc: Global,
-        source: u64,
-        at: Moment,
-        ticks: &mut Ticks,
-    ) -> Result<Result<Moved, Fault>, Fault>
-        ensures answer { MeetsHandOver result (handed_over self.old source at) }
-        ensures exact { hand_over_takes_memory self.old source at ≡ false → result ≡ handed_over self.old source at }
-        ensures ok { IfOk result (λ answer. self.new ≡ world_after_hand_over self.old source at answer) }
-        ensures err { OnErr result (self.new ≡ self.old) }
-        ensures goes { OnErr result (has_queue self.old source ≡ true → goes_to_queue self.old source ≡ true) }
-        ensures cost { IfOk result (λ answer. ticks.new ≤ ticks.old + hand_over_ticks self.old source at answer) }
-        ensures calm { OnErr result (ticks.new ≡ ticks.old) }
-    {
-        if !self.has_queue(source) {
-            return Err(Fault::QueueDoesNotExist);
-        }
-        match self.first_waiting(source) {
-            Some((origin, target)) => {
-                self.hand_over_first(alloc, source, at, &origin, target, ticks)
-            }
-            None => Ok(Ok(Moved::None)),
         }
     }
 
@@ -170,9 +143,9 @@ impl House {
     /// back everything that waited for it, and its policy is cleared where it names that queue. Where no
     /// queue has the uid it is `QueueDoesNotExist`; where no parcel waits it is `None`, and no clock moves;
     /// neither needs memory. A refusal of the queue that the parcel goes to, as `JournalFull`, leaves the
-    /// parcel waiting, and that queue's clock alone has moved. The answer is `OutOfMemory` only where that
-    /// queue has an entry to add: whether it has one is judged before the parcel is made. Where the parcel
-    /// itself could not be made, that queue's clock has not moved either.
+    /// parcel waiting, and that queue's clock alone has moved. So it is where the answer is `OutOfMemory`,
+    /// which it is only where that queue has an entry to add or makes a checkpoint: where there is no memory
+    /// for the parcel, the queue answers still what it answers without memory.
     pub fn arrive_one(
         &mut self,
         alloc: Global,
@@ -183,11 +156,17 @@ impl House {
         ensures answer { Meets result (arrive_answer self.old source at) }
         ensures exact { hand_over_takes_memory self.old source at ≡ false → result ≡ arrive_answer self.old source at }
         ensures state { IsHandedOver self.old source at result self.new }
+        ensures legal { (q : QueueHistory) → queue_of_uid self.old source ≡ Some q → IsLegal q }
         ensures cost { ticks.new ≤ ticks.old + hand_over_ticks self.old source at result }
     {
-        match self.hand_over(alloc, source, at, ticks) {
-            Ok(answer) => answer,
-            Err(fault) => Err(fault),
+        if !self.has_queue(source) {
+            return Err(Fault::QueueDoesNotExist);
+        }
+        match self.first_waiting(source) {
+            Some((origin, target)) => {
+                self.hand_over_first(alloc, source, at, &origin, target, ticks)
+            }
+            None => Ok(Moved::None),
         }
     }
 
@@ -243,9 +222,8 @@ impl House {
         at: Moment,
         ticks: &mut Ticks,
     ) -> Result<Reply, Fault>
-        ensures absent { has_queue self.old source ≡ false → result ≡ Err Fault.QueueDoesNotExist }
-        ensures answer { has_queue self.old source ≡ true → Meets result (confirm_answer self.old source at) }
-        ensures exact { has_queue self.old source ≡ true → confirm_takes_memory self.old source at ≡ false → result ≡ confirm_answer self.old source at }
+        ensures answer { Meets result (confirmed self.old source at) }
+        ensures exact { confirm_takes_memory self.old source at ≡ false → result ≡ confirmed self.old source at }
         ensures state { self.new ≡ world_after_confirm self.old source at result }
         ensures cost { ticks.new ≤ ticks.old + confirm_ticks self.old source at result }
     {

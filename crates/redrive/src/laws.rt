@@ -8,6 +8,7 @@ ghost use Rattle.std.specs.Str.{bytes_eq};
 ghost use Rattle.message.specs.declared.fault.Fault.{Fault};
 ghost use Rattle.message.specs.Order.{is_ascending, text_before};
 ghost use Rattle.queue_core.specs.declared.command.Command.{Command};
+ghost use Rattle.queue_core.specs.Legal.{IsLegal};
 ghost use Rattle.queue_core.specs.Refusals.{is_own_refusal};
 ghost use Rattle.redrive.specs.declared.steps.HouseStep.{HouseStep};
 ghost use Rattle.redrive.specs.declared.steps.HouseStep.TheVariants.{Perform};
@@ -38,8 +39,10 @@ pub fn histories_begin()
 
 /// Wherever it stands in a list of steps, as [`House::run`](crate::House::run) answers them, a command
 /// that its queue itself refuses leaves one entry there, which records that, and nothing else in the
-/// whole registry: at every later moment the queue stands as if the call had not been made. A command
-/// that is refused in any other way, or finds no memory, leaves every journal as it was.
+/// whole registry: at every later moment the queue stands as if the call had not been made. Where its
+/// journal was at its limit, that is so of the queue with a checkpoint in the place of its entries. A
+/// command that is refused in any other way, or finds no memory, leaves every journal as it was, of
+/// queues that began with journals that a queue can have.
 pub fn refused_steps_change_nothing()
     ensures own { (w : World) (steps later : List HouseStep) (answers rest : List Answer) (at uid : ℕ) (command : Command) (fault : Fault)
         → length steps ≡ length answers
@@ -50,7 +53,7 @@ pub fn refused_steps_change_nothing()
     ensures no_other { (w : World) (steps later : List HouseStep) (answers rest : List Answer) (at uid : ℕ) (command : Command) (fault : Fault)
         → length steps ≡ length answers
         → AreHouseAnswers w (steps ++ Perform at uid command ∷ later) (answers ++ Err fault ∷ rest)
-        → is_own_refusal fault ≡ false
+        → is_own_refusal fault ≡ false → All (λ q. IsLegal q) w.queues
         → (other : ℕ) → option_map (λ q. q.lines) (queue_of_uid (world_after (world_after_all w steps answers) (Perform at uid command) (Err fault)) other)
         ≡ option_map (λ q. q.lines) (queue_of_uid (world_after_all w steps answers) other) }
 {}

@@ -1,6 +1,6 @@
 //! The queue registry over a list of steps.
 
-ghost use Rattle.std.specs.Prelude.{◌≡◌, ℕ, ◌+◌, ◌≤◌, false, IfOk, OnErr, IfErr};
+ghost use Rattle.std.specs.Prelude.{◌≡◌, ℕ, ◌+◌, ◌≤◌, IfOk, OnErr, IfErr};
 
 use crate::house::House;
 use crate::moved::Moved;
@@ -59,8 +59,8 @@ pub enum HouseReply {
     Deleted(QueueState),
     /// What the queue answered.
     Performed(Reply),
-    /// What became of the first parcel, or why the queue that it went to refused it.
-    HandedOver(Result<Moved, Fault>),
+    /// What became of the first parcel.
+    HandedOver(Moved),
     /// Whether a parcel was confirmed.
     Confirmed(Reply),
     Advanced,
@@ -91,8 +91,8 @@ pub struct HouseRun {
 impl House {
     ghost use Rattle.redrive.specs.History.{AllQueues, IsWholeHistory};
     ghost use Rattle.redrive.specs.World.{queue_of_uid, IsRegistry};
-    ghost use Rattle.redrive.specs.Cost.{ticks_of_step, ticks_of_steps};
-    ghost use Rattle.redrive.specs.WorldRun.{answer_of_step, needs_memory, MeetsAnswer, world_after, AreHouseAnswers, world_after_all, history_after, IsAsIfAlone, AreRecomputed};
+    ghost use Rattle.redrive.specs.Cost.{IsDone, ticks_of_steps};
+    ghost use Rattle.redrive.specs.WorldRun.{act_of, AreHouseAnswers, world_after_all, history_after, IsAsIfAlone, AreRecomputed};
 
     /// Does one step.
     fn take_step(
@@ -101,10 +101,7 @@ impl House {
         step: &HouseStep,
         ticks: &mut Ticks,
     ) -> Result<HouseReply, Fault>
-        ensures answer { MeetsAnswer result (answer_of_step self.old step.now) }
-        ensures exact { needs_memory self.old step.now result ≡ false → result ≡ answer_of_step self.old step.now }
-        ensures state { self.new ≡ world_after self.old step.now result }
-        ensures cost { ticks.new ≤ ticks.old + ticks_of_step self.old step.now result }
+        ensures done { IsDone self.old (act_of self.old step.now) result self.new ticks.old ticks.new }
         ensures registry { IsRegistry self.old }
     {
         self.keep_registry();
@@ -119,7 +116,7 @@ impl House {
                 Ok(HouseReply::Performed(self.step(alloc, *uid, *at, command, ticks)?))
             }
             HouseStep::HandOver { at, source } => {
-                Ok(HouseReply::HandedOver(self.hand_over(alloc, *source, *at, ticks)?))
+                Ok(HouseReply::HandedOver(self.arrive_one(alloc, *source, *at, ticks)?))
             }
             HouseStep::Confirm { at, source } => {
                 Ok(HouseReply::Confirmed(self.confirm(alloc, *source, *at, ticks)?))

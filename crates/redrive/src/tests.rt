@@ -94,15 +94,56 @@ dead_letter_queue = "dead"
 max_receive_count = 1
 "#;
 
-/// A source whose journal is full cannot confirm: the parcel waits, and is accepted once.
-const FULL: &str = "send 2 1000 => sent 0
+/// The second sends what leaves, by which its journal comes to its limit.
+const AT_LIMIT: &str = "send 2 1000 => sent 0
 receive 2 2000 => offered 1
 receive 2 3000 => offered 0
-move 2 3000 => JournalFull
-look 1 0 => 3000 2 1 0 0
-move 2 3000 => JournalFull
-look 1 0 => 3000 2 1 0 0
 look 2 0 => 3000 4 0 0 0";
+
+/// Its journal begins anew, with what waits, and it confirms.
+const ROOM: &str = "move 2 3000 => Arrived or Again
+look 1 0 => 3000 2 1 0 0
+look 2 0 => 3000 3 0 0 0
+move 2 3000 => None
+look 2 0 => 3000 3 0 0 0";
+
+/// A source whose journal is full of what it holds cannot confirm: the parcel waits, and is accepted once.
+const FULL: &str = "send 2 3000 => sent 1
+look 2 0 => 3000 3 1 0 0
+send 2 3000 => sent 2
+move 2 3000 => JournalFull
+look 1 0 => 3000 2 1 0 0
+move 2 3000 => JournalFull
+look 1 0 => 3000 2 1 0 0
+look 2 0 => 3000 4 2 0 0";
+
+/// The same two queues with journals of five entries, of which the second keeps messages for a minute.
+const SHORT: &str = r#"[limits]
+max_lines = 5
+
+[[queue]]
+name = "dead"
+
+[[queue]]
+name = "jobs"
+visibility_timeout = 1
+retention_seconds = 60
+dead_letter_queue = "dead"
+max_receive_count = 1
+"#;
+
+/// A message leaves, and runs out while it waits. Behind that the second keeps messages for two minutes.
+const RUN_OUT: &str = "send 2 0 => sent 0
+receive 2 0 => offered 1
+receive 2 1000 => offered 0
+set 2 90000 1 MessageRetentionPeriod=120 => Performed(Done)
+look 2 0 => 90000 5 0 0 0";
+
+/// The dead-letter queue is gone: the second takes back what ran out, and its journal, which began anew before that, knows so still.
+const GONE_SINCE: &str = "delete 1 91000 => deleted 1: 91000 2 0 0 0
+move 2 91000 => Orphaned
+look 2 0 => 91000 3 0 0 0
+move 2 91000 => None";
 
 /// Two configured queues, of which the first keeps messages for a minute.
 const PAIR: &str = r#"[[queue]]
@@ -279,7 +320,9 @@ fn hold_all(rt: &HostRuntime, refused: &mut u32) -> Result<(), Fail> {
     let named = "[[queue]]\nname = \"jobs\"\n[[queue]]\nname = \"dlq\"\n";
     for (config, texts) in [
         (named, [MADE, NAMES]),
-        (SMALL, [FULL, ""]),
+        (SMALL, [AT_LIMIT, ROOM]),
+        (SMALL, [AT_LIMIT, FULL]),
+        (SHORT, [RUN_OUT, GONE_SINCE]),
         (PAIR, [LEAVES, ARRIVED]),
         (PAIR, [LEAVES, ONCE]),
         (PAIR, [LEAVES, GONE]),

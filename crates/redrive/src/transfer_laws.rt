@@ -16,8 +16,18 @@ ghost use Rattle.redrive.specs.World.{World, new_world, queue_of_uid, arrive_ans
 ghost use Rattle.redrive.specs.Waiting.{waiting_in};
 ghost use Rattle.redrive.specs.History.{AllQueues};
 ghost use Rattle.redrive.specs.HistorySteps.{HistoryStep, Own, AreHistoryAnswers, after_history_steps};
+ghost use Rattle.redrive.specs.WholeSteps.{StandForWhole, whole_after_steps};
 ghost use Rattle.redrive.specs.WorldRun.{Answer, AreHouseAnswers, AreStepsTo, steps_of_move, world_after_all, history_after};
 ghost use Rattle.redrive.specs.Places.{first_history, EachAcceptedOnce, EachHasItsFate, EachHasOnePlace, NoRelayDeleted};
+
+/// Whatever the steps are, and wherever memory runs out, each queue that is there or was deleted stands for
+/// the queue with its whole journal: it has the same uid, name and clock, and its journal, of which a checkpoint
+/// may be the first entry, comes to the same.
+pub fn queues_stand_for_their_whole_journals()
+    ensures { (config : Configuration) (at : ℕ) (steps : List HistoryStep) (answers : List Answer)
+        → AreHistoryAnswers (first_history config at) steps answers
+        → StandForWhole (after_history_steps (first_history config at) steps answers) (whole_after_steps (first_history config at) steps answers) }
+{}
 
 /// A queue accepts a transfer once: whatever the steps are, and wherever memory runs out, no journal
 /// of a queue that is there or was deleted has two entries that accept the same message of the same
@@ -25,7 +35,7 @@ ghost use Rattle.redrive.specs.Places.{first_history, EachAcceptedOnce, EachHasI
 pub fn transfers_are_accepted_once()
     ensures { (config : Configuration) (at : ℕ) (steps : List HistoryStep) (answers : List Answer)
         → AreHistoryAnswers (first_history config at) steps answers
-        → EachAcceptedOnce (after_history_steps (first_history config at) steps answers) }
+        → EachAcceptedOnce (whole_after_steps (first_history config at) steps answers) }
 {}
 
 /// In each queue that is there, each message that left for a dead-letter queue waits for it still, or
@@ -35,7 +45,7 @@ pub fn transfers_are_accepted_once()
 pub fn each_departure_has_its_fate()
     ensures { (config : Configuration) (at : ℕ) (steps : List HistoryStep) (answers : List Answer)
         → AreHistoryAnswers (first_history config at) steps answers
-        → EachHasItsFate (after_history_steps (first_history config at) steps answers) }
+        → EachHasItsFate (whole_after_steps (first_history config at) steps answers) }
 {}
 
 /// Each message is in one place at most: live in one queue under one number, or in transit from one.
@@ -46,7 +56,7 @@ pub fn each_message_has_one_place()
     ensures { (config : Configuration) (at : ℕ) (steps : List HistoryStep) (answers : List Answer)
         → AreHistoryAnswers (first_history config at) steps answers
         → NoRelayDeleted (first_history config at) steps answers
-        → EachHasOnePlace (after_history_steps (first_history config at) steps answers) }
+        → EachHasOnePlace (whole_after_steps (first_history config at) steps answers) }
 {}
 
 /// The registry's own steps are steps of everything that it ever had: they are answered so, and leave

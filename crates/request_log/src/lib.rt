@@ -13,6 +13,7 @@ mod actions;
 mod burst;
 mod level;
 mod line;
+mod object;
 mod refusal;
 mod reply;
 #[cfg(test)]

@@ -1,15 +1,17 @@
 //! The line for a request.
 
-ghost use Rattle.std.specs.Prelude.{◌≡◌, Ok, Some, None, option_map, string_bytes};
+ghost use Rattle.std.specs.Prelude.{◌≡◌, IfErr, Ok, Some, None, option_map, string_bytes};
 ghost use Rattle.message.specs.Fault.{Meets};
+ghost use Rattle.message.specs.declared.fault.Fault.TheVariants.{OutOfMemory};
 ghost use Rattle.aws_json.specs.Steps.{result_map};
 ghost use Rattle.request_log.specs.Line.{queue_text, refusal_text, line_text};
 
 use crate::actions::{name_at, place_of};
+use crate::object::object_in;
 use crate::refusal::{Refusal, failed, refusal_of};
 use crate::reply::Reply;
 use crate::time::time_of_day;
-use aws_json::{explain, read_object};
+use aws_json::explain;
 use journal::Moment;
 use message::{Fault, QueueName};
 use serde_json::Value;
@@ -79,20 +81,25 @@ fn name_in(body: &Value) -> Option<&str> {
     }
 }
 
-/// The queue that a body names, where it does.
-fn queue_in(alloc: Global, body: &[u8]) -> Option<QueueName> {
-    let body = read_object(alloc, body).ok()?;
-    let name = name_in(&body)?;
-    QueueName::read(behind_slash(name)).ok()
+/// The queue that a JSON object names, where it does.
+fn queue_of(body: &Value) -> Option<QueueName> {
+    QueueName::read(behind_slash(name_in(body)?)).ok()
+}
+
+/// The queue that a body names, where it does. `OutOfMemory` is the only refusal.
+fn queue_in(alloc: Global, body: &[u8]) -> Result<Option<QueueName>, Fault>
+    ensures short { IfErr result (λ fault. fault ≡ OutOfMemory) }
+{
+    match object_in(alloc, body)? {
+        Some(body) => Ok(queue_of(&body)),
+        None => Ok(None),
+    }
 }
 
 /// What was wrong with a request that was refused by a fault.
-fn reason_of_fault(
-    alloc: Global,
-    action: &str,
-    body: &[u8],
-    fault: Fault,
-) -> Result<Reason, Fault> {
+fn reason_of_fault(alloc: Global, action: &str, body: &[u8], fault: Fault) -> Result<Reason, Fault>
+    ensures short { IfErr result (λ fault. fault ≡ OutOfMemory) }
+{
     Ok(Reason {
         name: fault.name(),
         words: explain(alloc, action, body, fault)?,
@@ -106,7 +113,9 @@ fn reason_of_entries(
     body: &[u8],
     count: usize,
     fault: Fault,
-) -> Result<Reason, Fault> {
+) -> Result<Reason, Fault>
+    ensures short { IfErr result (λ fault. fault ≡ OutOfMemory) }
+{
     let words = explain(alloc, action, body, fault)?;
     let entries = if count == 1 {
         "entry was"
@@ -125,8 +134,10 @@ fn reason_of(
     action: &str,
     body: &[u8],
     reply: &Reply<'_>,
-) -> Result<Option<Reason>, Fault> {
-    if let Some((count, fault)) = failed(alloc, reply) {
+) -> Result<Option<Reason>, Fault>
+    ensures short { IfErr result (λ fault. fault ≡ OutOfMemory) }
+{
+    if let Some((count, fault)) = failed(alloc, reply)? {
         return Ok(Some(reason_of_entries(alloc, action, body, count, fault)?));
     }
     match refusal_of(reply) {
@@ -148,8 +159,10 @@ pub fn line_for(
     action: &str,
     body: &[u8],
     reply: &Reply<'_>,
-) -> Result<String, Fault> {
-    let queue = queue_in(alloc, body);
+) -> Result<String, Fault>
+    ensures short { IfErr result (λ fault. fault ≡ OutOfMemory) }
+{
+    let queue = queue_in(alloc, body)?;
     let reason = reason_of(alloc, action, body, reply)?;
     let action = name_at(place_of(action));
     line_of(

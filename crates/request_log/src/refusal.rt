@@ -1,8 +1,10 @@
 //! Which refusal a reply is.
 
-ghost use Rattle.std.specs.Prelude.{◌≡◌, IfSome};
+ghost use Rattle.std.specs.Prelude.{◌≡◌, IfErr, IfSome};
 ghost use Rattle.aws_json.specs.FaultText.{fault_body};
+ghost use Rattle.message.specs.declared.fault.Fault.TheVariants.{OutOfMemory};
 
+use crate::object::object_in;
 use crate::reply::Reply;
 use aws_json::fault_text;
 use message::Fault;
@@ -93,14 +95,23 @@ fn fault_named(name: &str) -> Option<Fault> {
     None
 }
 
-/// How many entries a reply tells of that were refused, and the refusal of the first one; `None` where there are none,
-/// or no memory to read of them.
-pub(crate) fn failed(alloc: Global, reply: &Reply<'_>) -> Option<(usize, Fault)> {
-    if !has_failed(reply) {
-        return None;
-    }
-    let body = Value::from_slice(alloc, reply.body).ok()?;
+/// How many entries of a batch such an object tells of that were refused, and the refusal of the first one.
+fn first_failed(body: &Value) -> Option<(usize, Fault)> {
     let entries = body.get("Failed")?.as_array()?;
     let code = entries.first()?.get("Code")?.as_str()?;
     Some((entries.len(), fault_named(code)?))
+}
+
+/// How many entries a reply tells of that were refused, and the refusal of the first one; `None` where there are none.
+/// `OutOfMemory` is the only refusal.
+pub(crate) fn failed(alloc: Global, reply: &Reply<'_>) -> Result<Option<(usize, Fault)>, Fault>
+    ensures short { IfErr result (λ fault. fault ≡ OutOfMemory) }
+{
+    if !has_failed(reply) {
+        return Ok(None);
+    }
+    match object_in(alloc, reply.body)? {
+        Some(body) => Ok(first_failed(&body)),
+        None => Ok(None),
+    }
 }

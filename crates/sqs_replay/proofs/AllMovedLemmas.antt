@@ -3,18 +3,21 @@ use Rattle.std.proofs.Common.{◌≡◌, ℕ, zero, suc, ◌≤◌, Bool, true, 
 use Rattle.std.specs.Prelude.{◌⊎◌, option_and_then}
 use Rattle.std.specs.Option.{option_map_or, ForSome}
 use Rattle.std.proofs.lemmas.Bool.{false≢true}
+use Rattle.std.proofs.lemmas.Option.{same_Some}
 use Rattle.message.specs.declared.fault.Fault.{Fault}
 use Rattle.queue_core.specs.declared.parcel.Parcel.{Parcel}
 use Rattle.queue_core.specs.declared.reply.Reply.{Reply}
 use Rattle.queue_core.specs.Messages.{message_count, pending_transfers}
 use Rattle.queue_core.specs.Queue.{QueueHistory, first_parcel_of}
 use Rattle.queue_core.specs.Legal.{IsLegal}
+use Rattle.queue_core.proofs.SoundLemmas.{IsSound}
+use Rattle.queue_core.proofs.LegalSoundLemmas.{sound_legal}
 use Rattle.redrive.specs.declared.moved.Moved.{Moved}
 use Rattle.redrive.specs.declared.moved.Moved.TheVariants as moved
 use Rattle.redrive.specs.World.{World, queue_of_uid, first_parcel_in, delivery_of, arrive_answer, world_after_command, needs_confirmation, answer_of_halves, confirm_answer, move_answer, IsMoved}
 use Rattle.redrive.proofs.MovingLemmas.{needs-Ok, IsMoved-confirmed}
 use Rattle.redrive.proofs.AnswerLemmas.{meets-itself}
-use Rattle.redrive.proofs.WaitingLemmas.{AllAwait, await-legal, moved-fewer, waiting-count, none-handed, none-waiting}
+use Rattle.redrive.proofs.WaitingLemmas.{moved-fewer, waiting-count, none-handed, none-waiting}
 use Rattle.sqs_replay.specs.Moves.{world_between, world_after_move, goes_on, some_moves, message_count_in, all_moves, WasRefused}
 
 -- ---- one move that is answered exactly
@@ -23,26 +26,27 @@ module _ (w : World) (source at : ℕ) where
   abbrev half : Result Moved Fault
   half = arrive_answer w source at
 
-  -- whichever of its halves there are
-  exact-by : (x : Moved) (b : Bool) → needs_confirmation half ≡ b → move_answer w source at ≡ Ok x → IsMoved w source at (Ok x) (world_after_move w source at)
-  exact-by x false e is = record {
-    handed_over = half;
-    between = world_between w source at;
-    meets = meets-itself half;
-    first_half = inl (record { exact = λ h. refl; left = refl });
-    second_half = λ h. absurd (false≢true (sym e ∙ h));
-    no_second_half = λ h. (sym is ∙ rw e refl, rw e refl);
-  }
-  exact-by x true e is =
-      let yes = needs-Ok half e in
-      let between : World = world_between w source at in
-      let answered : move_answer w source at ≡ answer_of_halves half (confirm_answer between source at) = rw e refl in
-      IsMoved-confirmed w between (world_after_move w source at) source at half (meets-itself half) (inl (record { exact = λ h. refl; left = refl })) yes.0 (Ok x) (confirm_answer between source at) yes.1
-      (ap needs_confirmation (sym yes.1) ∙ e) (meets-itself (confirm_answer between source at)) (λ h. refl)
-      (sym is ∙ answered ∙ ap (λ (a : Result Moved Fault). answer_of_halves a (confirm_answer between source at)) yes.1) (rw e refl)
+  module _ (sound : (s : QueueHistory) → queue_of_uid w source ≡ Some s → IsSound s.lines s.clock) where
+    -- whichever of its halves there are
+    exact-by : (x : Moved) (b : Bool) → needs_confirmation half ≡ b → move_answer w source at ≡ Ok x → IsMoved w source at (Ok x) (world_after_move w source at)
+    exact-by x false e is = record {
+      handed_over = half;
+      between = world_between w source at;
+      meets = meets-itself half;
+      first_half = record { exact = λ h. refl; left = refl };
+      second_half = λ h. absurd (false≢true (sym e ∙ h));
+      no_second_half = λ h. (sym is ∙ rw e refl, rw e refl);
+    }
+    exact-by x true e is =
+        let yes = needs-Ok half e in
+        let between : World = world_between w source at in
+        let answered : move_answer w source at ≡ answer_of_halves half (confirm_answer between source at) = rw e refl in
+        IsMoved-confirmed w between (world_after_move w source at) source at sound half (meets-itself half) (record { exact = λ h. refl; left = refl }) yes.0 (Ok x) (confirm_answer between source at) yes.1
+        (ap needs_confirmation (sym yes.1) ∙ e) (meets-itself (confirm_answer between source at)) (λ h. refl)
+        (sym is ∙ answered ∙ ap (λ (a : Result Moved Fault). answer_of_halves a (confirm_answer between source at)) yes.1) (rw e refl)
 
-  exact : (x : Moved) → move_answer w source at ≡ Ok x → IsMoved w source at (Ok x) (world_after_move w source at)
-  exact x is = exact-by x (needs_confirmation half) refl is
+    exact : (x : Moved) → move_answer w source at ≡ Ok x → IsMoved w source at (Ok x) (world_after_move w source at)
+    exact x is = exact-by x (needs_confirmation half) refl is
 
   -- where it finds no parcel, no hand-over did
   none-half : (b : Bool) → needs_confirmation half ≡ b → move_answer w source at ≡ Ok moved.None → (half ≡ Ok moved.None) × (needs_confirmation half ≡ false)
@@ -79,33 +83,33 @@ module _ (source at : ℕ) where
 
   -- so many moves are enough
   abbrev Enough : ℕ → Type 0
-  Enough n = (w : World) (s : QueueHistory) → queue_of_uid w source ≡ Some s → AllAwait s.lines → length (pending_transfers s.lines) ≤ n → Ends w source at (some_moves n w source at)
+  Enough n = (w : World) (s : QueueHistory) → queue_of_uid w source ≡ Some s → IsSound s.lines s.clock → length (pending_transfers s.lines) ≤ n → Ends w source at (some_moves n w source at)
 
-  next : (n : ℕ) → Enough n → (w : World) (s : QueueHistory) → queue_of_uid w source ≡ Some s → AllAwait s.lines → length (pending_transfers s.lines) ≤ suc n
+  next : (n : ℕ) → Enough n → (w : World) (s : QueueHistory) → queue_of_uid w source ≡ Some s → IsSound s.lines s.clock → length (pending_transfers s.lines) ≤ suc n
       → (x : Moved) → move_answer w source at ≡ Ok x → goes_on (Ok x) ≡ true → (x ≡ moved.None → ⊥) → Ends w source at (some_moves (suc n) w source at)
-  next n rest w s here await few x is on some =
+  next n rest w s here sound few x is on some =
       let went : goes_on (move_answer w source at) ≡ true = ap goes_on is ∙ on in
-      let left = moved-fewer w source at s here await (world_after_move w source at) x (exact w source at x is) some in
+      let left = moved-fewer w source at s here sound (world_after_move w source at) x (exact w source at (λ s' there. subst (λ (r : QueueHistory). IsSound r.lines r.clock) (same_Some s s' (sym here ∙ there)) sound) x is) some in
       let less = left.less.fewer in
       subst (Ends w source at) (sym (rw went refl))
       (one-more w (some_moves n (world_after_move w source at) source at) went
-      (rest (world_after_move w source at) left.queue left.there left.less.await (omega arith)))
+      (rest (world_after_move w source at) left.queue left.there left.less.sound (omega arith)))
 
-  by_answer : (n : ℕ) → Enough n → (w : World) (s : QueueHistory) → queue_of_uid w source ≡ Some s → AllAwait s.lines → length (pending_transfers s.lines) ≤ suc n
+  by_answer : (n : ℕ) → Enough n → (w : World) (s : QueueHistory) → queue_of_uid w source ≡ Some s → IsSound s.lines s.clock → length (pending_transfers s.lines) ≤ suc n
       → (r : Result Moved Fault) → move_answer w source at ≡ r → Ends w source at (some_moves (suc n) w source at)
-  by_answer n rest w s here await few (Ok moved.None) is =
+  by_answer n rest w s here sound few (Ok moved.None) is =
       let ends : goes_on (move_answer w source at) ≡ false = ap goes_on is in
       inl (rw ends (none-left w source at s here is))
-  by_answer n rest w s here await few (Ok moved.Arrived) is = next n rest w s here await few moved.Arrived is refl (λ e. absurd cc)
-  by_answer n rest w s here await few (Ok moved.Again) is = next n rest w s here await few moved.Again is refl (λ e. absurd cc)
-  by_answer n rest w s here await few (Ok moved.Orphaned) is = next n rest w s here await few moved.Orphaned is refl (λ e. absurd cc)
-  by_answer n rest w s here await few (Err fault) is =
+  by_answer n rest w s here sound few (Ok moved.Arrived) is = next n rest w s here sound few moved.Arrived is refl (λ e. absurd cc)
+  by_answer n rest w s here sound few (Ok moved.Again) is = next n rest w s here sound few moved.Again is refl (λ e. absurd cc)
+  by_answer n rest w s here sound few (Ok moved.Orphaned) is = next n rest w s here sound few moved.Orphaned is refl (λ e. absurd cc)
+  by_answer n rest w s here sound few (Err fault) is =
       let ends : goes_on (move_answer w source at) ≡ false = ap goes_on is in
       inr (record { moved = 0; fault = fault; refused = is; last = rw ends refl })
 
   enough : (n : ℕ) → Enough n
-  enough zero w s here await few = inl (ap (λ (o : Option QueueHistory). option_and_then (λ q. first_parcel_of q) o) here ∙ none-waiting s few)
-  enough (suc n) w s here await few = by_answer n (enough n) w s here await few (move_answer w source at) refl
+  enough zero w s here sound few = inl (ap (λ (o : Option QueueHistory). option_and_then (λ q. first_parcel_of q) o) here ∙ none-waiting s few)
+  enough (suc n) w s here sound few = by_answer n (enough n) w s here sound few (move_answer w source at) refl
 
 pub all-moved : (w : World) (source at : ℕ) → ForSome (queue_of_uid w source) (λ q. IsLegal q) → Ends w source at (all_moves w source at)
 all-moved w source at legal = by_queue (queue_of_uid w source) refl where
@@ -115,5 +119,5 @@ all-moved w source at legal = by_queue (queue_of_uid w source) refl where
       inl (ap (λ (n : ℕ). first_parcel_in (some_moves n w source at) source) count ∙ ap (λ (o : Option QueueHistory). option_and_then (λ q. first_parcel_of q) o) is)
   by_queue (Some s) is =
       let count : message_count_in w source ≡ message_count s.lines = ap (λ (o : Option QueueHistory). option_map_or (λ q. message_count q.lines) o 0) is in
-      let all : Ends w source at (some_moves (message_count s.lines) w source at) = enough source at (message_count s.lines) w s is (await-legal s (legal s is)) (waiting-count s (legal s is)) in
+      let all : Ends w source at (some_moves (message_count s.lines) w source at) = enough source at (message_count s.lines) w s is (sound_legal s (legal s is)) (waiting-count s (legal s is)) in
       subst (λ (n : ℕ). Ends w source at (some_moves n w source at)) (sym count) all

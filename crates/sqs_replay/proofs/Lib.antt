@@ -9,6 +9,7 @@ pub mod Counts
 pub mod ReadFaults
 pub mod StepLemmas
 pub mod MoveLemmas
+pub mod CourseLemmas
 pub mod AllMovedLemmas
 pub mod SheetLemmas
 pub mod ByNameLemmas

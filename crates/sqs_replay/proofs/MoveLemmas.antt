@@ -54,8 +54,7 @@ module _ (w : World) (source at : ℕ) where
       let e : m.handed_over ≡ arrive_answer w source at = met m.handed_over (arrive_answer w source at) other m.meets in
       same_first answer new m e (between_at e m.first_half) (needs_confirmation (arrive_answer w source at)) refl where
         between_at : m.handed_over ≡ arrive_answer w source at → IsHandedOver w source at m.handed_over m.between → m.between ≡ world_between w source at
-        between_at e (inl h) = h.left ∙ ap (λ (a : Result Moved Fault). world_after_hand_over w source at a) e
-        between_at e (inr h) = absurd (let without : true ≡ false = sym h.no_memory ∙ other in cc)
+        between_at e h = h.left ∙ ap (λ (a : Result Moved Fault). world_after_hand_over w source at a) e
 
   pub moved_leaves : (answer : Result Moved Fault) (new : World) → IsMoved w source at answer new → Leaves answer new (world_after_move w source at)
   moved_leaves answer new m =

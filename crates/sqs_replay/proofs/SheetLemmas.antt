@@ -1,5 +1,5 @@
 -- Rows one minute on, and what a look leaves of a queue.
-use Rattle.std.proofs.Common.{◌≡◌, ℕ, true, Option, Some, None, Result, Ok, Err, refl, sym, ap, ◌∙◌}
+use Rattle.std.proofs.Common.{◌≡◌, ℕ, Bool, true, false, ◌&&◌, Option, Some, None, Result, Ok, Err, refl, sym, ap, ◌∙◌}
 use Rattle.std.specs.Option.{ForSome}
 use Rattle.std.proofs.lemmas.Cmp.{nat_eq_equiv}
 use Rattle.message.specs.declared.fault.Fault.{Fault}
@@ -7,12 +7,22 @@ use Rattle.message.specs.declared.fault.Fault.TheVariants.{QueueDoesNotExist}
 use Rattle.queue_core.specs.declared.command.Command.TheVariants.{Look}
 use Rattle.queue_core.specs.declared.reply.Reply.{Reply}
 use Rattle.queue_core.specs.declared.reply.Reply.TheVariants.{Looked}
-use Rattle.queue_core.specs.Queue.{QueueHistory, at_moment, look_of}
+use Rattle.queue_core.specs.Queue.{QueueHistory, is_at_limit, first_refusal, unless_some, at_moment, rebased_where, outcome_in, with_optional_event, after_answer, look_of}
 use Rattle.redrive.specs.World.{World, queue_of_uid, step_answer, world_after_step, with_queue_changed}
 use Rattle.redrive.proofs.RegistryLemmas.{changed-queue}
 use Rattle.sqs_replay.specs.Served.{command_served}
 
 -- ---- a look
+
+-- no checkpoint comes before it
+unwanted : (limit : Bool) (refusal : Option Fault) → unless_some refusal (false && limit) ≡ false
+unwanted limit None = refl
+unwanted limit (Some fault) = refl
+
+left-alone : (x : QueueHistory) (at : ℕ) (reply : Reply) → after_answer {T = Reply} x at Look (Ok reply) ≡ at_moment x at
+left-alone x at reply =
+    let r : QueueHistory = at_moment x at in
+    ap (λ (b : Bool). with_optional_event (rebased_where b r) (outcome_in (rebased_where b r) Look).event) (unwanted (is_at_limit r) (first_refusal r))
 
 module _ (w : World) (uid at : ℕ) where
   look-absent : queue_of_uid w uid ≡ None → (reply : Reply) → ◌≡◌ {A = Result Reply Fault} (Ok reply) (step_answer w uid at Look) → ⊥
@@ -22,10 +32,12 @@ module _ (w : World) (uid at : ℕ) where
 
   module _ (q : QueueHistory) (here : queue_of_uid w uid ≡ Some q) where
     look-answer : step_answer w uid at Look ≡ Ok (Looked (look_of (at_moment q at)))
-    look-answer = rw here refl
+    look-answer =
+        let r : QueueHistory = at_moment q at in
+        rw here (ap (λ (b : Bool). (outcome_in (rebased_where b r) Look).reply) (unwanted (is_at_limit r) (first_refusal r)))
 
     look-world : world_after_step {T = Reply} w uid at Look (Ok (Looked (look_of (at_moment q at)))) ≡ with_queue_changed w uid (λ x. at_moment x at)
-    look-world = rw here refl
+    look-world = rw here (λ i. with_queue_changed w uid (λ x. left-alone x at (Looked (look_of (at_moment q at))) i))
 
     -- a look moves the queue's clock
     pub look-left : (command_served w uid at Look).world ≡ with_queue_changed w uid (λ x. at_moment x at)

@@ -8,6 +8,7 @@ pub mod InputLine
 pub mod Moves
 pub mod Sheets
 pub mod Served
+pub mod Steps
 pub mod Replay
 pub mod LongLines
 pub mod Program

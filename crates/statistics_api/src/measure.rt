@@ -16,7 +16,7 @@ pub(crate) enum Measure {
     InFlight,
     /// The age of the oldest message that was received fewer than three times, in seconds.
     Age,
-    /// Entries of the journal.
+    /// The weight of the journal.
     Entries,
     /// Of the current minute, as the others below: messages sent.
     Sent,
@@ -81,7 +81,8 @@ impl Measure {
             Measure::InFlight =>
                 "Messages that were received and not deleted, while they are hidden.",
             Measure::Age => "Age of the oldest message that was received fewer than three times.",
-            Measure::Entries => "Entries of the journal.",
+            Measure::Entries =>
+                "Entries of the journal; a checkpoint counts 1, and 1 more for each message that it keeps.",
             Measure::Sent => "Messages sent in the current minute.",
             Measure::SentSize => "Size of the messages sent in the current minute.",
             Measure::Received => "Messages received in the current minute.",

@@ -294,7 +294,7 @@ function take(sheets) {
     names.add(sheet.name);
     if (!cards.has(sheet.name)) cards.set(sheet.name, begin(sheet));
     const card = cards.get(sheet.name);
-    // another queue has the name now
+    // another queue has the name now, or its journal has begun anew
     if (sheet.lines < card.sheet.lines || sheet.clock < card.sheet.clock) forget(card);
     card.sheet = sheet;
     remember(card);
@@ -453,7 +453,7 @@ function drawNumbers(card) {
   const empty = now.emptyReceives ? ", " + many(now.emptyReceives, "empty receive") : "";
   const letters = now.deadLettersArrived ? ", " + many(now.deadLettersArrived, "dead letter") : "";
   put(parts.minute, "This minute: " + whole(now.sent) + " sent" + size + ", " + whole(now.received) + " received, " + whole(now.deleted) + " deleted" + empty + letters);
-  put(parts.journal, many(sheet.lines, "entry", "entries") + " in the journal at " + time(sheet.clock));
+  put(parts.journal, "The journal weighs " + whole(sheet.lines) + " at " + time(sheet.clock));
   const rows = card.rows || [], before = sum(rows, (row) => row.refused);
   const earlier = rows.length ? ", " + whole(before) + " in the " + (rows.length === 1 ? "minute" : "minutes") + " before" : "";
   parts.refused.classList.toggle("some", now.refused + before > 0);

@@ -250,7 +250,7 @@ jutkariq_queue_messages_in_flight{queue="jobs"} 3
 # TYPE jutkariq_queue_oldest_message_age_seconds gauge
 jutkariq_queue_oldest_message_age_seconds{queue="a"} 1
 jutkariq_queue_oldest_message_age_seconds{queue="jobs"} 1
-# HELP jutkariq_queue_journal_entries Entries of the journal.
+# HELP jutkariq_queue_journal_entries Entries of the journal; a checkpoint counts 1, and 1 more for each message that it keeps.
 # TYPE jutkariq_queue_journal_entries gauge
 jutkariq_queue_journal_entries{queue="a"} 8
 jutkariq_queue_journal_entries{queue="jobs"} 6

@@ -1,4 +1,4 @@
-//! Talks with an index, by answers worked out by hand, and what it costs to put pairs in by falling moment.
+//! Talks with an index, by answers worked out by hand, and what it costs to put many pairs in.
 
 use super::*;
 use journal::Ticks;
@@ -108,6 +108,24 @@ fn falling_moments(rt: HostRuntime) -> Result<(), Fail> {
     assert!(rt; ticks.count() >= 999);
     for (place, wanted) in [(0, Some((0, 7))), (999, Some((999, 7))), (1000, None)] {
         assert_eq!(rt; index.get(place), wanted, "{place}");
+    }
+    Ok(())
+}
+
+/// The same by rising moment, and in mixed order: each moment once, as 617 and 1000 have no common factor.
+#[test]
+fn rising_and_mixed_moments(rt: HostRuntime) -> Result<(), Fail> {
+    let alloc = rt.alloc();
+    for factor in [1, 617] {
+        let (mut index, mut ticks) = (VisibleIndex::new(alloc), Ticks::new(&rt));
+        for number in 0..1000_u64 {
+            index.reserve(alloc, 1)?;
+            index.put(number.wrapping_mul(factor) % 1000, 7, &mut ticks);
+        }
+        assert!(rt; ticks.count() >= 999);
+        for (place, wanted) in [(0, Some((0, 7))), (999, Some((999, 7))), (1000, None)] {
+            assert_eq!(rt; index.get(place), wanted, "{place}");
+        }
     }
     Ok(())
 }

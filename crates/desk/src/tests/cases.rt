@@ -36,7 +36,8 @@ impl Press for Counting {
 }
 
 /// A desk with two passes: its first one, p, and q that is cut off from it. The text is what was told last. Of all
-/// turns that were told it adds up the marks. It counts the calls that found no memory, and the turns aside from the case.
+/// turns that were told it adds up the marks, but where the journal is so small that it begins anew. It counts the calls that
+/// found no memory, and the turns aside from the case.
 struct Talk {
     desk: Desk<Counting>,
     p: Pass<Counting>,
@@ -47,6 +48,7 @@ struct Talk {
     marks: u64,
     refused: u32,
     aside: u64,
+    is_small: bool,
     ghost first: { p.desk ≡ desk },
     ghost second: { q.desk ≡ desk },
 }
@@ -64,6 +66,7 @@ impl Drop for Talk {
             marks: _marks,
             refused: _refused,
             aside: _aside,
+            is_small: _is_small,
         } = self;
     }
 }
@@ -71,9 +74,14 @@ impl Drop for Talk {
 impl Talk {
     /// A desk to which no call was made.
     fn open(rt: &HostRuntime) -> Result<Talk, Fault> {
+        Talk::with_limits(rt, Limits::default(), false)
+    }
+
+    /// The same for a queue with these limits.
+    fn with_limits(rt: &HostRuntime, limits: Limits, is_small: bool) -> Result<Talk, Fault> {
         let (alloc, ticks, press) = (rt.alloc(), Ticks::new(rt), Counting { turns: 0 });
         let text = String::with_capacity(alloc, 200)?;
-        let (desk, mut p) = Desk::new(rt, alloc, open(alloc)?, press)?;
+        let (desk, mut p) = Desk::new(rt, alloc, open_with(alloc, limits)?, press)?;
         let q = desk.pass(&mut p);
         Ok(Talk {
             desk,
@@ -85,6 +93,7 @@ impl Talk {
             marks: 0,
             refused: 0,
             aside: 0,
+            is_small,
         })
     }
 
@@ -123,7 +132,7 @@ impl Talk {
     fn add_marks(&mut self, told: &Option<Shown>) -> Result<(), Fault> {
         if let Some((_, marks, entries, _)) = told {
             self.marks = self.marks.wrapping_add(*marks as u64);
-            if self.marks != *entries {
+            if self.marks != *entries && !self.is_small {
                 return Err(Fault::UnsupportedOperation);
             }
         }
@@ -252,6 +261,7 @@ impl Talk {
             marks: _marks,
             refused: _refused,
             aside: _aside,
+            is_small: _is_small,
         } = self;
         let queue = desk.close(rt, p)?;
         Ok(Left { queue, ticks, text })
@@ -386,6 +396,34 @@ fn cases(rt: HostRuntime) -> Result<(), Fail> {
     for case in CASES.split("\n\n") {
         Talk::open(&rt)?.hold(&rt, case, false)?;
     }
+    Ok(())
+}
+
+/// A journal that may weigh 4: a command that comes to it at its limit begins it anew, with a checkpoint that weighs 1 and 1
+/// more for each message. What is shown of a turn are its marks, what the journal weighs and the clock.
+const ANEW: &str =
+    "a checkpoint is shown once, before what is added behind it; what was added before it and not shown is not shown any more
+p shows 1000 send a => Some((1, 2, 2, 1000))
+p shows 1000 receive 1 => Some((2, 1, 3, 1000))
+p shows 1000 send b => None
+p shows 2000 receive 1 => Some((4, 2, 4, 2000))
+p shows 2500 look => Some((5, 0, 4, 2500))
+p shows 3000 parcel => None
+p shows 3000 send c => Some((6, 2, 4, 3000))
+p shows 4000 receive 1 => Some((7, 0, 4, 4000))
+p asks 4000 receive 1 => JournalFull
+p shows 5000 close => Some((9, 1, 5, 5000))
+--
+0 visible, 5 entries at 5000, closed; QueueDoesNotExist";
+
+/// A journal that begins anew at a desk.
+#[test]
+fn begun_anew(rt: HostRuntime) -> Result<(), Fail> {
+    let limits = Limits {
+        max_lines: 4,
+        in_flight: 10,
+    };
+    Talk::with_limits(&rt, limits, true)?.hold(&rt, ANEW, false)?;
     Ok(())
 }
 

@@ -10,9 +10,7 @@ use std::alloc::Global;
 /// The uid of each queue.
 pub(super) const UID: u64 = 2;
 
-/// The most entries of a journal, and the most messages in flight.
-pub(super) const MOST_LINES: usize = 150;
-
+/// The most messages in flight.
 pub(super) const MOST_IN_FLIGHT: u64 = 4;
 
 /// The first word of a text, and what stands behind it.
@@ -139,14 +137,14 @@ pub(super) fn rule() -> Result<AlarmRule, Fault> {
     })
 }
 
-/// The queue `jobs` that a line says: when it is opened, an attribute and its value. The dead-letter queue that
-/// a policy names has the uid 1.
-pub(super) fn open(alloc: Global, line: &str) -> Result<QueueState, Fault> {
+/// The queue `jobs` that a line says: when it is opened, an attribute and its value. Its journal may weigh so much.
+/// The dead-letter queue that a policy names has the uid 1.
+pub(super) fn open(alloc: Global, line: &str, most_lines: u32) -> Result<QueueState, Fault> {
     let (at, attribute) = first_word(line);
     let (name, value) = first_word(attribute);
     let settings = Settings::default().with(&wish(alloc, name, value)?, 1);
     let limits = Limits {
-        max_lines: MOST_LINES as u32,
+        max_lines: most_lines.clamp(1, 16_777_216),
         in_flight: MOST_IN_FLIGHT as u32,
     };
     let (at, name) = (moment(at)?, QueueName::read("jobs")?);

@@ -1,6 +1,6 @@
 //! What the entries of a journal say of a queue, and of the answer to a command.
 
-use super::commands::{MOST_IN_FLIGHT, MOST_LINES, UID};
+use super::commands::{MOST_IN_FLIGHT, UID};
 use crate::{
     Entries, awaits_transfer, content_of, created_time, first_receive_time, first_transfer,
     gauges_of, has_accepted, is_closed, is_in_state, last_receive_time, message_count,
@@ -15,6 +15,15 @@ use queue_core::{Arrival, Command, Look, Offer, Reply};
 use receipt_handle::Handle;
 use std::alloc::Global;
 
+/// How much the entries weigh: 1 each, and a checkpoint, which stands first, 1 more for each message that it keeps.
+fn weight_of(lines: &Entries<'_>) -> u64 {
+    let kept = match lines.get(0).map(|line| &line.event) {
+        Some(Event::Base(base)) => base.messages().len() as u64,
+        _ => 0,
+    };
+    kept.saturating_add(lines.len() as u64)
+}
+
 /// What a look tells.
 pub(super) fn look_of(lines: &Entries<'_>, clock: Moment) -> Look {
     Look {
@@ -22,7 +31,7 @@ pub(super) fn look_of(lines: &Entries<'_>, clock: Moment) -> Look {
         settings: settings_of(lines),
         created: created_time(lines),
         modified: modified_time(lines),
-        lines: lines.len() as u64,
+        lines: weight_of(lines),
         clock,
         closed: is_closed(lines),
     }
@@ -220,25 +229,45 @@ fn answer_text(alloc: Global, refusal: Option<Fault>, reply: Reply) -> Result<St
     }
 }
 
-/// What refuses a command before anything of it is asked.
-fn first_refusal(lines: &Entries<'_>) -> Option<Fault> {
+/// How many messages are live at a time or wait for their dead-letter queue.
+fn kept_count(lines: &Entries<'_>, clock: Moment) -> u64 {
+    let gauges = gauges_of(lines, clock);
+    let hidden = gauges.delayed.saturating_add(gauges.in_flight);
+    let mut count = gauges.visible.saturating_add(hidden);
+    for number in 0..message_count(lines) {
+        if waits(lines, number) {
+            count = count.saturating_add(1);
+        }
+    }
+    count
+}
+
+/// Whether a journal that may weigh so much is full: it weighs that, and so would a checkpoint.
+pub(super) fn is_full(lines: &Entries<'_>, clock: Moment, most_lines: u64) -> bool {
+    most_lines <= weight_of(lines) && most_lines <= kept_count(lines, clock).saturating_add(1)
+}
+
+/// What refuses a command at a time before anything of it is asked.
+fn first_refusal(lines: &Entries<'_>, clock: Moment, most_lines: u64) -> Option<Fault> {
     if is_closed(lines) {
         return Some(Fault::QueueDoesNotExist);
     }
-    if MOST_LINES <= lines.len() {
+    if is_full(lines, clock, most_lines) {
         return Some(Fault::JournalFull);
     }
     None
 }
 
-/// The text of the answer to a command at a time, where the functions of this crate foresee it.
+/// The text of the answer to a command at a time, where the functions of this crate foresee it and the journal may
+/// weigh so much.
 pub(super) fn foreseen(
     alloc: Global,
     lines: &Entries<'_>,
     clock: Moment,
     command: &Command,
+    most_lines: u32,
 ) -> Result<Option<String>, Fault> {
-    let refusal = first_refusal(lines);
+    let refusal = first_refusal(lines, clock, u64::from(most_lines));
     let (own, reply) = match command {
         Command::Receive { maximum, .. } if refusal.is_none() => {
             return Ok(Some(received(alloc, lines, clock, maximum.messages())?));

@@ -5,8 +5,8 @@ use std::alloc::Global;
 
 /// Delays and timeouts that run out at a millisecond, a policy by which messages leave, come back and are confirmed,
 /// arrivals that come again, changes of the retention, purges, older handles, the in-flight limit, twelve hours,
-/// three hours without an entry, and a queue that is closed.
-pub(super) const SCRIPTS: [&str; 5] = [
+/// three hours without an entry, a queue that is closed, and messages that wait in another order than that of their numbers, and expire there.
+pub(super) const SCRIPTS: [&str; 7] = [
     r#"0 DelaySeconds 5
 1000 send a
 1000 send b 0
@@ -123,6 +123,32 @@ pub(super) const SCRIPTS: [&str; 5] = [
 481000 orphan 1
 500000 look
 "#,
+    r#"0 RedrivePolicy {"deadLetterTargetArn":"arn:aws:sqs:elasticmq:000000000000:dead","maxReceiveCount":1}
+0 send a
+0 send b
+0 receive 2 1
+500 change 0.1 2
+5000 receive 2 1
+5000 parcel
+6000 settle 7
+6000 parcel
+7000 set MessageRetentionPeriod 60
+60000 set MessageRetentionPeriod 120
+61000 settle 1
+61000 parcel
+62000 orphan 1
+62000 look
+"#,
+    r#"0 DelaySeconds 0
+0 send a
+1000 receive 1 30
+1001 change 0.1 43200
+1002 change 0.1 43199
+1003 change 0.1 43199
+2000 change 0.1 43199
+2001 change 0.1 43199
+2002 delete 0.1
+"#,
 ];
 
 /// Numbers that follow one another without a pattern, by Knuth's linear congruential generator.
@@ -165,11 +191,11 @@ fn drawn_command(alloc: Global, draws: &mut Draws) -> Result<String, Fault> {
     })
 }
 
-/// A script of so many commands that are drawn, at most two seconds from one to the next.
-pub(super) fn drawn(alloc: Global, count: u64) -> Result<String, Fault> {
-    let mut draws = Draws { state: 7 };
+/// A script of so many commands that are drawn from a number on, at most two seconds from one to the next.
+pub(super) fn drawn(alloc: Global, from: u64, count: u64) -> Result<String, Fault> {
+    let mut draws = Draws { state: from };
     let mut text = String::new(alloc);
-    text.push_str("0 VisibilityTimeout 3")?;
+    text.push_str("0 MessageRetentionPeriod 60")?;
     let mut at: u64 = 0;
     for _ in 0..count {
         at = at.saturating_add(draws.below(2_001));

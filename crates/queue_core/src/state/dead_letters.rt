@@ -33,7 +33,8 @@ impl QueueState {
     ghost use Rattle.queue_core.specs.Spending.{HasCome};
     ghost use Rattle.queue_core.specs.declared.facts.Message.{Message};
     ghost use Rattle.queue_core.specs.Recorded.{IsRecordOf};
-    ghost use Rattle.queue_core.specs.Queue.{QueueHistory, first_refusal, outcome_of, outcome_at, reply_without_memory, IsExact, IsExactWithRoom, after_outcome, after_answer, as_reply, is_pending, waiting_count, origin_of, first_transfer, first_parcel_of};
+    ghost use Rattle.queue_core.specs.Legal.{IsLegal};
+    ghost use Rattle.queue_core.specs.Queue.{QueueHistory, is_at_limit, first_refusal, outcome_in, outcome_of, outcome_at, reply_without_memory, IsExact, IsExactWithRoom, after_outcome, after_answer, as_reply, is_pending, waiting_count, origin_of, first_transfer, first_parcel_of};
 
     /// Accepts a dead letter of another queue. It comes now, and keeps its id and the time at which it
     /// was first sent; it was received 0 times here. A transfer that this queue has accepted before is
@@ -53,6 +54,26 @@ impl QueueState {
         ensures cost { ticks.new ≤ ticks.old + most_ticks self.old self.new }
     {
         self.begin(at, ticks)?;
+        let replaced = self.make_way(alloc)?;
+        let answer = self.arrive_now(alloc, parcel, ticks);
+        self.put_back(replaced, answer)
+    }
+
+    /// The same at the queue's clock, in the journal as it stands, where nothing refuses it before anything of it is asked.
+    fn arrive_now(
+        &mut self,
+        alloc: Global,
+        parcel: Parcel,
+        ticks: &mut Ticks,
+    ) -> Result<Arrival, Fault>
+        requires open { first_refusal self.old ≡ None }
+        requires place { is_at_limit self.old ≡ false }
+        ensures answer { Meets (as_reply Reply.Arrived result) (outcome_in self.old (Command.Arrive parcel)).reply }
+        ensures exact { IsExact (outcome_in self.old (Command.Arrive parcel)) (as_reply Reply.Arrived result) }
+        ensures room { IsExactWithRoom self.old (outcome_in self.old (Command.Arrive parcel)) (as_reply Reply.Arrived result) }
+        ensures state { self.new ≡ after_outcome self.old (outcome_in self.old (Command.Arrive parcel)) result }
+        ensures cost { (p : QueueHistory) (before : ℕ) → HasCome before p ticks.old self.old → ticks.new ≤ before + most_ticks p self.new }
+    {
         if self.has_accepted(&parcel.origin) {
             return Ok(Arrival::Again);
         }
@@ -63,11 +84,12 @@ impl QueueState {
     /// before anything of it is asked.
     fn accept(&mut self, alloc: Global, parcel: Parcel, ticks: &mut Ticks) -> Result<Arrival, Fault>
         requires open { first_refusal self.old ≡ None }
+        requires place { is_at_limit self.old ≡ false }
         requires new { has_accepted self.old.lines parcel.origin.uid parcel.origin.number ≡ false }
-        ensures answer { Meets (as_reply Reply.Arrived result) (outcome_of self.old (Command.Arrive parcel)).reply }
-        ensures exact { IsExact (outcome_of self.old (Command.Arrive parcel)) (as_reply Reply.Arrived result) }
-        ensures room { IsExactWithRoom self.old (outcome_of self.old (Command.Arrive parcel)) (as_reply Reply.Arrived result) }
-        ensures state { self.new ≡ after_outcome self.old (outcome_of self.old (Command.Arrive parcel)) result }
+        ensures answer { Meets (as_reply Reply.Arrived result) (outcome_in self.old (Command.Arrive parcel)).reply }
+        ensures exact { IsExact (outcome_in self.old (Command.Arrive parcel)) (as_reply Reply.Arrived result) }
+        ensures room { IsExactWithRoom self.old (outcome_in self.old (Command.Arrive parcel)) (as_reply Reply.Arrived result) }
+        ensures state { self.new ≡ after_outcome self.old (outcome_in self.old (Command.Arrive parcel)) result }
         ensures cost { (p : QueueHistory) (before : ℕ) → HasCome before p ticks.old self.old → ticks.new ≤ before + most_ticks p self.new }
     {
         keep_parcel(&parcel);
@@ -94,6 +116,26 @@ impl QueueState {
         ensures cost { ticks.new ≤ ticks.old + most_ticks self.old self.new }
     {
         self.begin(at, ticks)?;
+        let replaced = self.make_way(alloc)?;
+        let answer = self.arrive_shared_now(alloc, parcel, ticks);
+        self.put_back(replaced, answer)
+    }
+
+    /// The same at the queue's clock, in the journal as it stands, where nothing refuses it before anything of it is asked.
+    fn arrive_shared_now(
+        &mut self,
+        alloc: Global,
+        parcel: &Parcel,
+        ticks: &mut Ticks,
+    ) -> Result<Arrival, Fault>
+        requires open { first_refusal self.old ≡ None }
+        requires place { is_at_limit self.old ≡ false }
+        ensures answer { Meets (as_reply Reply.Arrived result) (outcome_in self.old (Command.Arrive parcel.now)).reply }
+        ensures exact { IsExact (outcome_in self.old (Command.Arrive parcel.now)) (as_reply Reply.Arrived result) }
+        ensures room { IsExactWithRoom self.old (outcome_in self.old (Command.Arrive parcel.now)) (as_reply Reply.Arrived result) }
+        ensures state { self.new ≡ after_outcome self.old (outcome_in self.old (Command.Arrive parcel.now)) result }
+        ensures cost { (p : QueueHistory) (before : ℕ) → HasCome before p ticks.old self.old → ticks.new ≤ before + most_ticks p self.new }
+    {
         if self.has_accepted(&parcel.origin) {
             return Ok(Arrival::Again);
         }
@@ -105,15 +147,18 @@ impl QueueState {
         self.accept(alloc, parcel, ticks)
     }
 
-    /// What a parcel from this origin is answered, at whatever moment it comes, where that adds no entry:
-    /// what refuses it, or `Again`. It is none where the parcel is one to accept. So whoever has the parcel
-    /// still to make, which takes memory, can know before whether this queue has an entry to add for it.
+    /// What a parcel from this origin is answered at the queue's clock, where that takes no memory: what
+    /// refuses it, or `Again`. It is none where the parcel is one to accept, or a checkpoint comes first. So whoever has the parcel
+    /// still to make, which takes memory, can know before whether this queue wants memory for its answer.
     pub fn arrival_answer(&self, origin: &Origin) -> Option<Result<Arrival, Fault>>
-        ensures { (parcel : Parcel) (at : ℕ) → parcel.origin ≡ origin.now
-            → option_map (λ answer. as_reply Reply.Arrived answer) result ≡ reply_without_memory (outcome_at self.now at (Command.Arrive parcel)) }
+        ensures { (parcel : Parcel) → parcel.origin ≡ origin.now
+            → option_map (λ answer. as_reply Reply.Arrived answer) result ≡ reply_without_memory (outcome_of self.now (Command.Arrive parcel)) }
     {
         if let Some(fault) = self.first_refusal() {
             return Some(Err(fault));
+        }
+        if self.is_at_limit() {
+            return None;
         }
         if self.has_accepted(origin) {
             return Some(Ok(Arrival::Again));
@@ -138,6 +183,21 @@ impl QueueState {
         ensures cost { ticks.new ≤ ticks.old + most_ticks self.old self.new }
     {
         self.begin(at, ticks)?;
+        let replaced = self.make_way(alloc)?;
+        let answer = self.settle_now(alloc, number, ticks);
+        self.put_back(replaced, answer)
+    }
+
+    /// The same at the queue's clock, in the journal as it stands, where nothing refuses it before anything of it is asked.
+    fn settle_now(&mut self, alloc: Global, number: u64, ticks: &mut Ticks) -> Result<bool, Fault>
+        requires open { first_refusal self.old ≡ None }
+        requires place { is_at_limit self.old ≡ false }
+        ensures answer { Meets (as_reply Reply.Settled result) (outcome_in self.old (Command.Settle number)).reply }
+        ensures exact { IsExact (outcome_in self.old (Command.Settle number)) (as_reply Reply.Settled result) }
+        ensures room { IsExactWithRoom self.old (outcome_in self.old (Command.Settle number)) (as_reply Reply.Settled result) }
+        ensures state { self.new ≡ after_outcome self.old (outcome_in self.old (Command.Settle number)) result }
+        ensures cost { (p : QueueHistory) (before : ℕ) → HasCome before p ticks.old self.old → ticks.new ≤ before + most_ticks p self.new }
+    {
         if !self.is_pending(number) {
             return Ok(false);
         }
@@ -164,6 +224,21 @@ impl QueueState {
         ensures cost { ticks.new ≤ ticks.old + most_ticks self.old self.new }
     {
         self.begin(at, ticks)?;
+        let replaced = self.make_way(alloc)?;
+        let answer = self.orphan_now(alloc, target, ticks);
+        self.put_back(replaced, answer)
+    }
+
+    /// The same at the queue's clock, in the journal as it stands, where nothing refuses it before anything of it is asked.
+    fn orphan_now(&mut self, alloc: Global, target: u64, ticks: &mut Ticks) -> Result<u64, Fault>
+        requires open { first_refusal self.old ≡ None }
+        requires place { is_at_limit self.old ≡ false }
+        ensures answer { Meets (as_reply Reply.Orphaned result) (outcome_in self.old (Command.Orphan target)).reply }
+        ensures exact { IsExact (outcome_in self.old (Command.Orphan target)) (as_reply Reply.Orphaned result) }
+        ensures room { IsExactWithRoom self.old (outcome_in self.old (Command.Orphan target)) (as_reply Reply.Orphaned result) }
+        ensures state { self.new ≡ after_outcome self.old (outcome_in self.old (Command.Orphan target)) result }
+        ensures cost { (p : QueueHistory) (before : ℕ) → HasCome before p ticks.old self.old → ticks.new ≤ before + most_ticks p self.new }
+    {
         let count = self.waiting_count(target);
         self.add(alloc, Event::Orphaned { target }, ticks)?;
         Ok(count)
@@ -191,7 +266,8 @@ impl QueueState {
     /// Where the dead letter comes from that has waited longest, and the uid of the queue that it is for:
     /// [`first_parcel`](QueueState::first_parcel) without the content, which takes no memory.
     pub fn first_waiting(&self) -> Option<(Origin, u64)>
-        ensures { result ≡ option_map (λ p. (p.origin, p.target)) (first_parcel_of self.now) }
+        ensures first { result ≡ option_map (λ p. (p.origin, p.target)) (first_parcel_of self.now) }
+        ensures legal { IsLegal self.now }
     {
         let (number, target) = self.first_left()?;
         match self.index.records.get(&number) {
@@ -202,7 +278,8 @@ impl QueueState {
 
     /// The number of the message that has waited longest for its dead-letter queue, and that queue's uid.
     fn first_left(&self) -> Option<(u64, u64)>
-        ensures { result ≡ option_map (λ t. (t.number, t.target)) (first_transfer self.now) }
+        ensures first { result ≡ option_map (λ t. (t.number, t.target)) (first_transfer self.now) }
+        ensures legal { IsLegal self.now }
     {
         let number = *self.index.leaving.front()?;
         match self.index.slot_of(number)?.stay {

@@ -22,10 +22,13 @@ pub(super) fn known_moment(text: &str) -> Result<Moment, Fault> {
     moment(text).ok_or(Fault::UnsupportedOperation)
 }
 
-/// A request of one attribute.
-fn wish(alloc: Global, name: &str, value: &str) -> Result<Wish, Fault> {
+/// A request of attributes, each with its value behind it, and between them `; `.
+fn wish(alloc: Global, text: &str) -> Result<Wish, Fault> {
     let mut wish = Wish::new();
-    wish.put(alloc, name, value)?;
+    for one in text.split("; ") {
+        let (name, value) = first_word(one);
+        wish.put(alloc, name, value)?;
+    }
     Ok(wish)
 }
 
@@ -82,7 +85,7 @@ fn maximum(text: &str) -> Option<Maximum> {
 
 /// The command that a text says: `send` so many times a text, after a delay or the queue's own, `receive` so
 /// many for a timeout or the queue's own, `change` a handle to a timeout, `delete` a handle, `purge`, `set`
-/// an attribute to a value, `arrive` a dead letter sent at a time, `settle` a number, `orphan` a uid,
+/// attributes to values, `arrive` a dead letter sent at a time, `settle` a number, `orphan` a uid,
 /// `close`, `look`, or the first `parcel`.
 fn command(alloc: Global, text: &str) -> Result<Command, Fault> {
     let (verb, rest) = first_word(text);
@@ -104,7 +107,7 @@ fn command(alloc: Global, text: &str) -> Result<Command, Fault> {
             Ok(Command::Change { handle, timeout })
         }
         "set" => {
-            let (wish, target) = (wish(alloc, first, second)?, 0);
+            let (wish, target) = (wish(alloc, rest)?, 0);
             Ok(Command::Set { wish, target })
         }
         "arrive" => {
@@ -146,26 +149,28 @@ fn deep() -> Result<AlarmRule, Fault> {
     })
 }
 
-/// The limits of a journal of at most so many entries.
-fn limits(lines: &str) -> Limits {
+/// The limits that a text says: how much a journal may weigh, and, behind a stroke, how many messages may be in flight.
+fn limits(text: &str) -> Limits {
+    let default = Limits::default();
+    let (lines, in_flight) = text.split_once("/").unwrap_or((text, ""));
     let lines = lines.parse::<u32>().unwrap_or(1);
+    let in_flight = in_flight.parse::<u32>().unwrap_or(default.in_flight);
     Limits {
         max_lines: lines.clamp(1, 16_777_216),
-        ..Limits::default()
+        in_flight: in_flight.clamp(1, 120_000),
     }
 }
 
-/// The queue `jobs` of uid 2 with the alarm `deep` that a text says: how many entries it may have, when
-/// it is opened, an attribute and its value. The dead-letter queue that a policy names has the uid 1.
+/// The queue `jobs` of uid 2 with the alarm `deep` that a text says: its limits, when it is opened, and attributes
+/// with their values. The dead-letter queue that a policy names has the uid 1.
 fn open(alloc: Global, text: &str) -> Result<QueueState, Fault> {
-    let (lines, rest) = first_word(text);
-    let (at, attribute) = first_word(rest);
-    let (name, value) = first_word(attribute);
-    let settings = Settings::default().with(&wish(alloc, name, value)?, 1);
+    let (most, rest) = first_word(text);
+    let (at, attributes) = first_word(rest);
+    let settings = Settings::default().with(&wish(alloc, attributes)?, 1);
     let (at, name, rule) = (known_moment(at)?, QueueName::read("jobs")?, deep()?);
     let mut rules = Vec::new(alloc);
     rules.push(rule)?;
-    QueueState::open(alloc, 2, name, settings, limits(lines), rules, at)
+    QueueState::open(alloc, 2, name, settings, limits(most), rules, at)
 }
 
 /// Tells a value as it prints itself.
@@ -475,7 +480,27 @@ impl Talk {
         Ok(())
     }
 
-    /// The same, where no call may find no memory.
+    /// Has a conversation in three parts.
+    fn hold_parts(&mut self, rt: &HostRuntime, parts: [&str; 3]) -> Result<(), Fail> {
+        for part in parts {
+            self.hold(rt, part)?;
+        }
+        Ok(())
+    }
+
+    /// The same, and once more where a call found no memory. Behind that no conversation is begun.
+    pub(super) fn hold_or_again(&mut self, rt: &HostRuntime, parts: [&str; 3]) -> Result<(), Fail> {
+        if 0 < self.refused {
+            return Ok(());
+        }
+        self.hold_parts(rt, parts)?;
+        if self.refused == 0 {
+            return Ok(());
+        }
+        self.hold_parts(rt, parts)
+    }
+
+    /// Has a conversation where no call may find no memory.
     pub(super) fn hold_with_room(&mut self, rt: &HostRuntime, text: &str) -> Result<(), Fail> {
         let before = self.refused;
         self.hold(rt, text)?;

@@ -1,18 +1,12 @@
 -- What is answered where no memory is wanting meets what is wanted.
-use Rattle.std.proofs.Common.{List, [], ◌∷◌, Ok, refl}
-use Rattle.redrive.specs.declared.steps.HouseReply.TheVariants as replies
+use Rattle.std.proofs.Common.{List, [], ◌∷◌, refl}
 use Rattle.redrive.specs.History.{AllQueues}
-use Rattle.redrive.specs.WorldRun.{Answer, MeetsAnswer}
 use Rattle.redrive.specs.HistorySteps.{HistoryStep, Own, Settle, answer_in_history, IsHistoryAnswer, after_history_step, AreHistoryAnswers}
 use Rattle.redrive.specs.TransferExamples.{answers_to}
 use Rattle.redrive.proofs.AnswerLemmas.{meets-itself}
 
-answer-meets_itself : (answer : Answer) → MeetsAnswer answer answer
-answer-meets_itself (Ok (replies.HandedOver answer)) = meets-itself answer
-answer-meets_itself answer = meets-itself answer
-
 wanted : (all : AllQueues) (step : HistoryStep) → IsHistoryAnswer all step (answer_in_history all step)
-wanted all (Own step) = record { meets = answer-meets_itself (answer_in_history all (Own step)); exact = λ h. refl }
+wanted all (Own step) = record { meets = meets-itself (answer_in_history all (Own step)); exact = λ h. refl }
 wanted all (Settle at source) = meets-itself (answer_in_history all (Settle at source))
 
 pub answered : (all : AllQueues) (steps : List HistoryStep) → AreHistoryAnswers all steps (answers_to all steps)

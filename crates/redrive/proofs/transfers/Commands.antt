@@ -8,7 +8,7 @@ use Rattle.message.specs.declared.fault.Fault.{Fault}
 use Rattle.message.specs.Content.{ContentText}
 use Rattle.message.specs.Fault.{is_out_of_memory}
 use Rattle.journal.specs.declared.entry.Event.{Event}
-use Rattle.journal.specs.declared.entry.Event.TheVariants.{Opened, Sent, Arrived, Received, Changed, Deleted, DeletedAgain, Purged, Set, Settled, Orphaned, Refused, Closed}
+use Rattle.journal.specs.declared.entry.Event.TheVariants.{Opened, Arrived, Received, Set, Settled, Orphaned, Closed, Base}
 use Rattle.queue_core.specs.declared.command.Command.{Command}
 use Rattle.queue_core.specs.declared.command.Command.TheVariants as commands
 use Rattle.queue_core.specs.declared.facts.Message.{Message}
@@ -16,7 +16,9 @@ use Rattle.queue_core.specs.declared.facts.Transfer.{Transfer}
 use Rattle.queue_core.specs.declared.parcel.Parcel.{Parcel}
 use Rattle.queue_core.specs.Messages.{course_of, pending_transfers, content_of, has_accepted, message_id}
 use Rattle.queue_core.specs.States.{message_numbered}
-use Rattle.queue_core.specs.Queue.{QueueHistory, at_moment, first_refusal, leaving_candidates, numbers_of, arrive_outcome, is_pending, settle_outcome, orphan_outcome, outcome_of, leaves_clock, reached, outcome_at, with_optional_event, after_answer, parcel_of, transferred_parcel, first_parcel_of}
+use Rattle.queue_core.specs.Queue.{QueueHistory, at_moment, first_refusal, leaving_candidates, numbers_of, arrive_outcome, is_pending, settle_outcome, orphan_outcome, rebased_where, outcome_in, leaves_clock, reached, outcome_at, with_optional_event, after_answer, parcel_of, transferred_parcel, first_parcel_of}
+use Rattle.queue_core.specs.Whole.{without_limit, is_journal_full, whole_after}
+use Rattle.queue_core.proofs.WholeLemmas.{whole_step}
 use Rattle.redrive.specs.World.{is_internal}
 use Rattle.queue_core.proofs.CauseLemmas.{IsSoOfAdded, added-unless_refused, added-cond, added, about-received}
 use Rattle.queue_core.proofs.PushLemmas.{numbered-number}
@@ -41,6 +43,7 @@ IsOwn lines (Received timeout offered leaving target) = ArePresent lines leaving
 IsOwn lines (Settled number) = ⊥
 IsOwn lines (Orphaned target) = ⊥
 IsOwn lines Closed = ⊥
+IsOwn lines (Base base) = ⊥
 IsOwn lines event = ⊤
 
 pub if_some-at : (P : Event ContentText → Type 0) (o : Option (Event ContentText)) (event : Event ContentText) → IfSome o P → o ≡ Some event → P event
@@ -56,7 +59,7 @@ own-each q (commands.Orphan target) h = absurd cc
 own-each q commands.Close h = absurd cc
 own-each q command h = tt
 
-own : (q : QueueHistory) (command : Command) → is_internal command ≡ false → IfSome (outcome_of q command).event (IsOwn q.lines)
+own : (q : QueueHistory) (command : Command) → is_internal command ≡ false → IfSome (outcome_in q command).event (IsOwn q.lines)
 own q command h = added (IsOwn q.lines) q (λ fault. tt) command (own-each q command h)
 
 -- a parcel that is accepted was not before
@@ -64,17 +67,17 @@ pub record IsAcceptance (lines : Lines) (p : Parcel) (event : Event ContentText)
   pub first : has_accepted lines p.origin.uid p.origin.number ≡ false
   pub is : event ≡ Arrived p.origin p.content
 
-arrived : (q : QueueHistory) (p : Parcel) → IfSome (outcome_of q (commands.Arrive p)).event (IsAcceptance q.lines p)
+arrived : (q : QueueHistory) (p : Parcel) → IfSome (outcome_in q (commands.Arrive p)).event (IsAcceptance q.lines p)
 arrived q p =
     added-unless_refused (IsAcceptance q.lines p) (first_refusal q) (arrive_outcome q p)
     (added-cond (IsAcceptance q.lines p) (has_accepted q.lines p.origin.uid p.origin.number) _ _ (λ again. tt) (λ first. record { first = first; is = refl }))
 
-settled : (q : QueueHistory) (number : ℕ) → IfSome (outcome_of q (commands.Settle number)).event (λ event. event ≡ Settled number)
+settled : (q : QueueHistory) (number : ℕ) → IfSome (outcome_in q (commands.Settle number)).event (λ event. event ≡ Settled number)
 settled q number =
     added-unless_refused (λ event. event ≡ Settled number) (first_refusal q) (settle_outcome q number)
     (added-cond (λ event. event ≡ Settled number) (is_pending q number) _ _ (λ pending. refl) (λ none. tt))
 
-orphaned : (q : QueueHistory) (target : ℕ) → IfSome (outcome_of q (commands.Orphan target)).event (λ event. event ≡ Orphaned target)
+orphaned : (q : QueueHistory) (target : ℕ) → IfSome (outcome_in q (commands.Orphan target)).event (λ event. event ≡ Orphaned target)
 orphaned q target = added-unless_refused (λ event. event ≡ Orphaned target) (first_refusal q) (orphan_outcome q target) refl
 
 -- ---- what a command leaves of its queue
@@ -92,68 +95,107 @@ pub record IsAdded (event : Option (Event ContentText)) (before after : Lines) :
   pub added : event ≡ Some line.event
   pub is : after ≡ more before line
 
-added-optional : (q : QueueHistory) (event : Option (Event ContentText)) → ((with_optional_event q event).lines ≡ q.lines) ⊎ IsAdded event q.lines (with_optional_event q event).lines
+pub added-optional : (q : QueueHistory) (event : Option (Event ContentText)) → ((with_optional_event q event).lines ≡ q.lines) ⊎ IsAdded event q.lines (with_optional_event q event).lines
 added-optional q None = inl refl
 added-optional q (Some event) = inr (record { line = record { at = q.clock; event = event }; added = refl; is = refl })
 
-added-either : (b : Bool) (q : QueueHistory) (event : Option (Event ContentText)) → let r : QueueHistory = cond b q (with_optional_event q event) in (r.lines ≡ q.lines) ⊎ IsAdded event q.lines r.lines
-added-either true q event = inl refl
-added-either false q event = added-optional q event
+-- the queue that a command comes to where its journal has no limit, and what it adds there
+abbrev pub come_to : QueueHistory → ℕ → Command → QueueHistory
+come_to q at command = reached (without_limit q) at command
 
-pub after_answer-lines : {T : Type 0} (q : QueueHistory) (at : ℕ) (command : Command) (answer : Result T Fault)
-    → ((after_answer q at command answer).lines ≡ q.lines) ⊎ IsAdded (outcome_at q at command).event q.lines (after_answer q at command answer).lines
-after_answer-lines q at command answer =
-    subst (λ (ls : Lines). ((after_answer q at command answer).lines ≡ ls) ⊎ IsAdded (outcome_at q at command).event ls (after_answer q at command answer).lines) (reached-lines q at command)
-    (added-either (is_out_of_memory answer) (reached q at command) (outcome_at q at command).event)
+abbrev pub whole_event : QueueHistory → ℕ → Command → Option (Event ContentText)
+whole_event q at command = (outcome_in (come_to q at command) command).event
+
+added-either : (full failed : Bool) (p q : QueueHistory) (event : Option (Event ContentText)) → p.lines ≡ q.lines
+    → let r : QueueHistory = cond full p (cond failed q (with_optional_event q event)) in (r.lines ≡ q.lines) ⊎ IsAdded event q.lines r.lines
+added-either true failed p q event same = inl same
+added-either false true p q event same = inl refl
+added-either false false p q event same = added-optional q event
+
+come-lines : (q : QueueHistory) (at : ℕ) (command : Command) → (come_to q at command).lines ≡ q.lines
+come-lines q at command = reached-lines (without_limit q) at command
+
+pub whole_after-lines : {T : Type 0} (q : QueueHistory) (at : ℕ) (command : Command) (answer : Result T Fault)
+    → ((whole_after q at command answer).lines ≡ q.lines) ⊎ IsAdded (whole_event q at command) q.lines (whole_after q at command answer).lines
+whole_after-lines q at command answer =
+    let whole : Lines = (whole_after q at command answer).lines in
+    subst (λ (ls : Lines). (whole ≡ ls) ⊎ IsAdded (whole_event q at command) ls whole) (come-lines q at command)
+    (subst (λ (r : QueueHistory). (r.lines ≡ (come_to q at command).lines) ⊎ IsAdded (whole_event q at command) (come_to q at command).lines r.lines) (sym (whole_step q at command answer))
+    (added-either (is_journal_full answer) (is_out_of_memory answer) (reached q at command) (come_to q at command) (whole_event q at command) (reached-lines q at command ∙ sym (come-lines q at command))))
 
 module _ (q : QueueHistory) (at : ℕ) (event : Event ContentText) where
-  pub own-at : (command : Command) → is_internal command ≡ false → (outcome_at q at command).event ≡ Some event → IsOwn q.lines event
+  pub own-at : (command : Command) → is_internal command ≡ false → whole_event q at command ≡ Some event → IsOwn q.lines event
   own-at command h e =
-      subst (λ (ls : Lines). IsOwn ls event) (reached-lines q at command)
-      (if_some-at (IsOwn (reached q at command).lines) (outcome_at q at command).event event (own (reached q at command) command h) e)
+      subst (λ (ls : Lines). IsOwn ls event) (come-lines q at command)
+      (if_some-at (IsOwn (come_to q at command).lines) (whole_event q at command) event (own (come_to q at command) command h) e)
 
-  pub arrived-at : (p : Parcel) → (outcome_at q at (commands.Arrive p)).event ≡ Some event → IsAcceptance q.lines p event
-  arrived-at p e = if_some-at (IsAcceptance q.lines p) (outcome_at q at (commands.Arrive p)).event event (arrived (at_moment q at) p) e
+  pub arrived-at : (p : Parcel) → whole_event q at (commands.Arrive p) ≡ Some event → IsAcceptance q.lines p event
+  arrived-at p e = if_some-at (IsAcceptance q.lines p) (whole_event q at (commands.Arrive p)) event (arrived (at_moment (without_limit q) at) p) e
 
-  pub settled-at : (number : ℕ) → (outcome_at q at (commands.Settle number)).event ≡ Some event → event ≡ Settled number
-  settled-at number e = if_some-at (λ event. event ≡ Settled number) (outcome_at q at (commands.Settle number)).event event (settled (at_moment q at) number) e
+  pub settled-at : (number : ℕ) → whole_event q at (commands.Settle number) ≡ Some event → event ≡ Settled number
+  settled-at number e = if_some-at (λ event. event ≡ Settled number) (whole_event q at (commands.Settle number)) event (settled (at_moment (without_limit q) at) number) e
 
-  pub orphaned-at : (target : ℕ) → (outcome_at q at (commands.Orphan target)).event ≡ Some event → event ≡ Orphaned target
-  orphaned-at target e = if_some-at (λ event. event ≡ Orphaned target) (outcome_at q at (commands.Orphan target)).event event (orphaned (at_moment q at) target) e
+  pub orphaned-at : (target : ℕ) → whole_event q at (commands.Orphan target) ≡ Some event → event ≡ Orphaned target
+  orphaned-at target e = if_some-at (λ event. event ≡ Orphaned target) (whole_event q at (commands.Orphan target)) event (orphaned (at_moment (without_limit q) at) target) e
+
+-- a command under a limit: the journal that it comes to, or a checkpoint in its place, as it was or with the command's entry
+abbrev pub acting : QueueHistory → ℕ → Command → QueueHistory
+acting q at command = rebased_where (outcome_at q at command).rebases (reached q at command)
+
+under_limit-either : (failed : Bool) (p q : QueueHistory) (event : Option (Event ContentText))
+    → let r : QueueHistory = cond failed p (with_optional_event q event) in (r.lines ≡ p.lines) ⊎ ((r.lines ≡ q.lines) ⊎ IsAdded event q.lines r.lines)
+under_limit-either true p q event = inl refl
+under_limit-either false p q event = inr (added-optional q event)
+
+pub after_answer-lines : {T : Type 0} (q : QueueHistory) (at : ℕ) (command : Command) (answer : Result T Fault)
+    → ((after_answer q at command answer).lines ≡ q.lines)
+    ⊎ (((after_answer q at command answer).lines ≡ (acting q at command).lines) ⊎ IsAdded (outcome_at q at command).event (acting q at command).lines (after_answer q at command answer).lines)
+after_answer-lines q at command answer =
+    let after : Lines = (after_answer q at command answer).lines in
+    subst (λ (ls : Lines). (after ≡ ls) ⊎ ((after ≡ (acting q at command).lines) ⊎ IsAdded (outcome_at q at command).event (acting q at command).lines after)) (reached-lines q at command)
+    (under_limit-either (is_out_of_memory answer) (reached q at command) (acting q at command) (outcome_at q at command).event)
 
 -- ---- the first parcel of a queue
 
--- it is that of a pending transfer
+-- a first transfer is one of those that are pending
+pub some_first : (lines : Lines) (t : Transfer) → slice_get (pending_transfers lines) 0 ≡ Some t → Contains (pending_transfers lines) t
+some_first lines t first = at_first (pending_transfers lines) first where
+  at_first : (ts : List Transfer) → slice_get ts 0 ≡ Some t → Contains ts t
+  at_first [] h = absurd (none-some t h)
+  at_first (x ∷ xs) h = subst (λ (y : Transfer). Contains (x ∷ xs) y) (same_Some x t h) (Contains-append_left (x ∷ []) xs x (Contains-push [] x))
+
+-- it is that of the first pending transfer
 pub record IsHandedBy (q : QueueHistory) (p : Parcel) : Type 0 where
-  pub pending : Contains (pending_transfers q.lines) (record { number = p.origin.number; target = p.target })
+  pub first : slice_get (pending_transfers q.lines) 0 ≡ Some (record { number = p.origin.number; target = p.target })
   pub message : Message
   pub numbered : message_numbered q.lines p.origin.number ≡ Some message
   pub named : message_id q.uid message ≡ p.origin.id
   pub uid : p.origin.uid ≡ q.uid
 
-handed-content : (q : QueueHistory) (t : Transfer) (m : Message) (o : Option ContentText) (p : Parcel) → Contains (pending_transfers q.lines) t → message_numbered q.lines t.number ≡ Some m
-    → option_map (λ content. parcel_of q t m content) o ≡ Some p → IsHandedBy q p
-handed-content q t m None p among is h = absurd (none-some p h)
-handed-content q t m (Some content) p among is h =
-    let same : parcel_of q t m content ≡ p = same_Some (parcel_of q t m content) p h in
-    let number : m.number ≡ t.number = numbered-number q.lines t.number m is in
-    subst (IsHandedBy q) same
-    (record {
-      pending = subst (λ (n : ℕ). Contains (pending_transfers q.lines) (record { number = n; target = t.target })) (sym number) among;
-      message = m;
-      numbered = subst (λ (n : ℕ). message_numbered q.lines n ≡ Some m) (sym number) is;
-      named = refl;
-      uid = refl;
-    })
+module _ (q : QueueHistory) (p : Parcel) where
+  handed-content : (t : Transfer) (m : Message) (o : Option ContentText) → slice_get (pending_transfers q.lines) 0 ≡ Some t → message_numbered q.lines t.number ≡ Some m
+      → option_map (λ content. parcel_of q t m content) o ≡ Some p → IsHandedBy q p
+  handed-content t m None first is h = absurd (none-some p h)
+  handed-content t m (Some content) first is h =
+      let same : parcel_of q t m content ≡ p = same_Some (parcel_of q t m content) p h in
+      let number : m.number ≡ t.number = numbered-number q.lines t.number m is in
+      subst (IsHandedBy q) same
+      (record {
+        first = subst (λ (n : ℕ). slice_get (pending_transfers q.lines) 0 ≡ Some (record { number = n; target = t.target })) (sym number) first;
+        message = m;
+        numbered = subst (λ (n : ℕ). message_numbered q.lines n ≡ Some m) (sym number) is;
+        named = refl;
+        uid = refl;
+      })
 
-handed-message : (q : QueueHistory) (t : Transfer) (o : Option Message) (p : Parcel) → Contains (pending_transfers q.lines) t → message_numbered q.lines t.number ≡ o
-    → option_and_then (λ m. option_map (λ content. parcel_of q t m content) (content_of q.lines m)) o ≡ Some p → IsHandedBy q p
-handed-message q t None p among is h = absurd (none-some p h)
-handed-message q t (Some m) p among is h = handed-content q t m (content_of q.lines m) p among is h
+  handed-message : (t : Transfer) (o : Option Message) → slice_get (pending_transfers q.lines) 0 ≡ Some t → message_numbered q.lines t.number ≡ o
+      → option_and_then (λ m. option_map (λ content. parcel_of q t m content) (content_of q.lines m)) o ≡ Some p → IsHandedBy q p
+  handed-message t None first is h = absurd (none-some p h)
+  handed-message t (Some m) first is h = handed-content t m (content_of q.lines m) first is h
 
-handed-first : (q : QueueHistory) (ts : List Transfer) (p : Parcel) → pending_transfers q.lines ≡ ts → option_and_then (λ t. transferred_parcel q t) (slice_get ts 0) ≡ Some p → IsHandedBy q p
-handed-first q [] p e h = absurd (none-some p h)
-handed-first q (t ∷ ts) p e h = handed-message q t (message_numbered q.lines t.number) p (subst (λ (ts : List Transfer). Contains ts t) (sym e) (Contains-append_left (t ∷ []) ts t (Contains-push [] t))) refl h
+  handed-transfer : (o : Option Transfer) → slice_get (pending_transfers q.lines) 0 ≡ o → option_and_then (λ t. transferred_parcel q t) o ≡ Some p → IsHandedBy q p
+  handed-transfer None first h = absurd (none-some p h)
+  handed-transfer (Some t) first h = handed-message t (message_numbered q.lines t.number) first refl h
 
-pub handed : (q : QueueHistory) (p : Parcel) → first_parcel_of q ≡ Some p → IsHandedBy q p
-handed q p h = handed-first q (pending_transfers q.lines) p refl h
+  pub handed : first_parcel_of q ≡ Some p → IsHandedBy q p
+  handed h = handed-transfer (slice_get (pending_transfers q.lines) 0) refl h

@@ -1,5 +1,5 @@
 -- Each departure from an open queue has its fate, and what is among the pending transfers waits.
-use Rattle.std.proofs.Common.{◌≡◌, ℕ, zero, suc, ◌<◌, ◌≤◌, Bool, true, false, not, ◌||◌, cond, [], ◌∷◌, length, drop, Option, Some, None, refl, sym, ap, subst, inl, inr, ◌∙◌, arith, eqb-true}
+use Rattle.std.proofs.Common.{◌≡◌, ℕ, zero, suc, ◌<◌, ◌≤◌, Bool, true, false, not, ◌||◌, cond, [], ◌∷◌, length, drop, Option, Some, None, refl, sym, ap, subst, inl, inr, ◌∙◌, arith, eqb-true, List}
 use Rattle.std.specs.Prelude.{◌⊎◌, ◌-◌, nat_lt, slice_get, filter}
 use Rattle.std.specs.Option.{option_map_or, option_or}
 use Rattle.std.specs.List.{list_any, Contains}
@@ -23,7 +23,9 @@ use Rattle.queue_core.proofs.PushLemmas.{slice_get-append, slice_get-only, numbe
 use Rattle.queue_core.proofs.OfferLemmas.{Contains-from_filter}
 use Rattle.queue_core.proofs.PendingLemmas.{Contains-nil, departed, status-leaving, status-kept}
 use Rattle.redrive.proofs.transfers.Journals.{Line, Lines, more, stands_from, stands_gives, stands_once, stands_kept, accepted_kept}
-use Rattle.redrive.proofs.transfers.Views.{View, IsSettling, IsStep, Grows, IsOpened, Change, Stays, Steps, Opens, Closes, by_uid, by_growth}
+use Rattle.queue_core.proofs.Scans.{StandsAlone, StandAlone}
+use Rattle.queue_core.proofs.AloneLemmas.{alone-push, departures-alone}
+use Rattle.redrive.proofs.transfers.Views.{View, IsSettling, IsStep, step_alone, Grows, IsOpened, Change, Stays, Steps, Opens, Closes, by_uid, by_growth}
 
 -- ---- fates in one journal
 
@@ -38,9 +40,9 @@ pub record WasConfirmed (accepted : ℕ → ℕ → Bool) (lines : Lines) (t : T
 abbrev pub Fate : (ℕ → ℕ → Bool) → Lines → Transfer → Lines → Type 0
 Fate accepted lines t later = StillWaits lines t later ⊎ (WasConfirmed accepted lines t later ⊎ CameBack lines t later)
 
--- each departure has its fate, where it is known which queue has accepted which number
+-- no entry is a checkpoint, and each departure has its fate, where it is known which queue has accepted which number
 abbrev pub AreFates : (ℕ → ℕ → Bool) → Lines → Type 0
-AreFates accepted lines = (place : ℕ) (t : Transfer) → IsDeparture lines place t → Fate accepted lines t (drop (suc place) lines)
+AreFates accepted lines = StandAlone lines × ((place : ℕ) (t : Transfer) → IsDeparture lines place t → Fate accepted lines t (drop (suc place) lines))
 
 -- more may be accepted
 fate-weaker : (a b : ℕ → ℕ → Bool) → ((target n : ℕ) → a target n ≡ true → b target n ≡ true) → (lines : Lines) (t : Transfer) (later : Lines) → Fate a lines t later → Fate b lines t later
@@ -63,15 +65,15 @@ pub record IsPendingAt (lines : Lines) (t : Transfer) : Type 0 where
   pub departure : IsDeparture lines place t
   pub unended : end_of t (drop (suc place) lines) ≡ None
 
-pub pending_at : (lines : Lines) (t : Transfer) → Contains (pending_transfers lines) t → IsPendingAt lines t
-pending_at [] t h = absurd (Contains-nil t h)
-pending_at (e ∷ es) t h = pending_in (Contains-append_cases (filter (λ t. not (list_any (λ later. ends_transfer t later.event) es)) (departures e.event)) (pending_transfers es) t h) (pending_at es t)
+pub pending_at : (lines : Lines) (t : Transfer) → StandAlone lines → Contains (pending_transfers lines) t → IsPendingAt lines t
+pending_at [] t alone h = absurd (Contains-nil t h)
+pending_at (e ∷ es) t alone h = pending_in (Contains-append_cases (filter (λ t. not (list_any (λ later. ends_transfer t later.event) es)) (departures e.event)) (pending_transfers es) t h) (pending_at es t alone.1)
   where
     pending_in : Contains (filter (λ t. not (list_any (λ later. ends_transfer t later.event) es)) (departures e.event)) t ⊎ Contains (pending_transfers es) t
         → (Contains (pending_transfers es) t → IsPendingAt es t) → IsPendingAt (e ∷ es) t
     pending_in (inl k) f =
         let x = Contains-from_filter (λ t. not (list_any (λ later. ends_transfer t later.event) es)) (departures e.event) t k in
-        let y = departed e.event t x.0 in
+        let y = departed e.event t (subst (λ (ts : List Transfer). Contains ts t) (departures-alone e.event alone.0) x.0) in
         record {
           place = 0;
           departure = record { entry = e; stands = refl; leaves = y.0; target = sym y.1 };
@@ -88,8 +90,8 @@ pending_at (e ∷ es) t h = pending_in (Contains-append_cases (filter (λ t. not
 -- what is pending waits
 pub pending-waits : (accepted : ℕ → ℕ → Bool) (lines : Lines) (t : Transfer) → AreFates accepted lines → Contains (pending_transfers lines) t → status_numbered lines t.number ≡ Some (Waiting t.target)
 pending-waits accepted lines t fates h =
-    let p = pending_at lines t h in
-    by_fate p.unended (fates p.place t p.departure)
+    let p = pending_at lines t fates.0 h in
+    by_fate p.unended (fates.1 p.place t p.departure)
   where
     by_fate : {later : Lines} → end_of t later ≡ None → Fate accepted lines t later → status_numbered lines t.number ≡ Some (Waiting t.target)
     by_fate none (inl k) = k.waits
@@ -227,7 +229,7 @@ module _ (v : View) (u : ℕ) (e : Line) (step : IsStep v u e.event) (fates : Ar
   fates-at place t entry leaves target true before stands =
       let within : place < length (v.lines u) = slice_get_within (v.lines u) place entry stands in
       subst (Fate (accepted_from v u) (more (v.lines u) e) t) (sym (drop-append-le (suc place) (v.lines u) (e ∷ []) within))
-      (fate-more t (drop (suc place) (v.lines u)) (fates place t (record { entry = entry; stands = stands; leaves = leaves; target = target })))
+      (fate-more t (drop (suc place) (v.lines u)) (fates.1 place t (record { entry = entry; stands = stands; leaves = leaves; target = target })))
   fates-at place t entry leaves target false behind same =
       let only = slice_get-only e entry (place - length (v.lines u)) same in
       let is : entry ≡ e = sym only.1 in
@@ -237,12 +239,12 @@ module _ (v : View) (u : ℕ) (e : Line) (step : IsStep v u e.event) (fates : Ar
       (fate-new t (subst (λ (x : Line). contains_number t.number (effect_of x.event).departures ≡ true) is leaves) (subst (λ (x : Line). (effect_of x.event).target ≡ t.target) is target))
 
   fates-more : AreFates (accepted_from v u) (more (v.lines u) e)
-  fates-more place t d = fates-at place t d.entry d.leaves d.target (nat_lt place (length (v.lines u))) refl (sym (slice_get-append (v.lines u) (e ∷ []) place) ∙ d.stands)
+  fates-more = (alone-push (v.lines u) e fates.0 (step_alone v u e.event step), λ place t d. fates-at place t d.entry d.leaves d.target (nat_lt place (length (v.lines u))) refl (sym (slice_get-append (v.lines u) (e ∷ []) place) ∙ d.stands))
 
 -- ---- fates after a step
 
 fates-weaker : (a b : ℕ → ℕ → Bool) → ((target n : ℕ) → a target n ≡ true → b target n ≡ true) → (lines : Lines) → AreFates a lines → AreFates b lines
-fates-weaker a b f lines h place t d = fate-weaker a b f lines t (drop (suc place) lines) (h place t d)
+fates-weaker a b f lines h = (h.0, λ place t d. fate-weaker a b f lines t (drop (suc place) lines) (h.1 place t d))
 
 -- what was accepted stays accepted
 abbrev pub Keeps : View → View → Type 0
@@ -261,17 +263,20 @@ fates-same v v' u keeps same h =
 no-departures : (event opening : Event ContentText) (n : ℕ) → event ≡ opening → contains_number n (effect_of opening).departures ≡ false → contains_number n (effect_of event).departures ≡ false
 no-departures event opening n e h = ap (λ (x : Event ContentText). contains_number n (effect_of x).departures) e ∙ h
 
-fates-first : (accepted : ℕ → ℕ → Bool) (e : Line) → ((n : ℕ) → contains_number n (effect_of e.event).departures ≡ false) → AreFates accepted (e ∷ [])
-fates-first accepted e none zero t d =
-    absurd (false≢true (sym (none t.number) ∙ subst (λ (x : Line). contains_number t.number (effect_of x.event).departures ≡ true) (sym (same_Some e d.entry d.stands)) d.leaves))
-fates-first accepted e none (suc place) t d = absurd (none-some d.entry d.stands)
+fates-first : (accepted : ℕ → ℕ → Bool) (e : Line) → StandsAlone e.event → ((n : ℕ) → contains_number n (effect_of e.event).departures ≡ false) → AreFates accepted (e ∷ [])
+fates-first accepted e alone none = ((alone, tt), at)
+  where
+    at : (place : ℕ) (t : Transfer) → IsDeparture (e ∷ []) place t → Fate accepted (e ∷ []) t (drop (suc place) (e ∷ []))
+    at zero t d =
+        absurd (false≢true (sym (none t.number) ∙ subst (λ (x : Line). contains_number t.number (effect_of x.event).departures ≡ true) (sym (same_Some e d.entry d.stands)) d.leaves))
+    at (suc place) t d = absurd (none-some d.entry d.stands)
 
 module _ (v v' : View) where
   pub fates-opened : (u : ℕ) (e : Line) → Grows v v' u e → IsOpened v v' u e → HasFates v → HasFates v'
   fates-opened u e g o fates w there =
       by_uid w u (λ i. AreFates (accepted_from v' i) (v'.lines i))
       (subst (AreFates (accepted_from v' u)) (sym (g.here ∙ ap (λ (ls : Lines). more ls e) o.unused))
-      (fates-first (accepted_from v' u) e (λ n. no-departures e.event (Opened u o.settings) n o.opening refl)))
+      (fates-first (accepted_from v' u) e (ap (λ (x : Event ContentText). (effect_of x).since) o.opening) (λ n. no-departures e.event (Opened u o.settings) n o.opening refl)))
       (λ differs. fates-same v v' w (keeps-grown v v' u e g) (g.others w differs) (fates w (sym (o.others w differs) ∙ there)))
 
   pub fates-after : {ending : ℕ → Type 0} → Change ending v v' → HasFates v → HasFates v'

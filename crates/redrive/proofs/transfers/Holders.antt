@@ -7,7 +7,7 @@ use Rattle.std.proofs.lemmas.Option.{none-some, same_Some}
 use Rattle.message.specs.declared.id.MessageId.{MessageId}
 use Rattle.message.specs.Content.{ContentText}
 use Rattle.journal.specs.declared.entry.Event.{Event}
-use Rattle.journal.specs.declared.entry.Event.TheVariants.{Opened, Sent, Arrived, Orphaned, Closed}
+use Rattle.journal.specs.declared.entry.Event.TheVariants.{Opened, Sent, Arrived, Orphaned, Closed, Base}
 use Rattle.journal.specs.declared.entry.Origin.{Origin}
 use Rattle.queue_core.specs.declared.facts.Message.{Message}
 use Rattle.queue_core.specs.declared.facts.Status.{Status}
@@ -17,7 +17,8 @@ use Rattle.queue_core.specs.States.{message_numbered}
 use Rattle.redrive.specs.Places.{status_numbered, came_from}
 use Rattle.queue_core.proofs.PushLemmas.{slice_get-only, IsNew, numbered-below, numbered-cases, numbered-kept, count-push, accepted-push}
 use Rattle.redrive.proofs.transfers.Journals.{Line, Lines, more, Stands, stands_from, stands_gives, stands_once, stands_kept, Stood, Before, New, stood, Came, accepted_came, Begins, begun, unbegun}
-use Rattle.redrive.proofs.transfers.Views.{View, IsArrival, IsSettling, IsStep, Grows, IsOpened, IsClosed, Change, Stays, Steps, Opens, Closes, by_uid, by_growth}
+use Rattle.queue_core.proofs.Scans.{StandsAlone}
+use Rattle.redrive.proofs.transfers.Views.{View, IsArrival, IsSettling, IsStep, step_alone, Grows, IsOpened, IsClosed, Change, Stays, Steps, Opens, Closes, by_uid, by_growth}
 use Rattle.redrive.proofs.transfers.Fates.{open_stays, confirmed-settling, HasFates, accepted_from, Keeps, keeps-same, keeps-grown, pending-waits, fates-opened, fates-after}
 
 -- ---- messages that begin with a step
@@ -43,6 +44,7 @@ pub record Continues (v v' : View) : Type 0 where
 beginning-step : (v : View) (u : ℕ) (event : Event ContentText) (b : Birth ContentText) (m : Message) → IsStep v u event → Begins event b → m.origin ≡ b.origin → Beginning v u m
 beginning-step v u (Sent delay content) b m step h o = WasSent (o ∙ sym (ap (λ (x : Birth ContentText). x.origin) (slice_get-only _ b h.0 h.1).1))
 beginning-step v u (Arrived origin content) b m step h o = HasCome origin (o ∙ sym (ap (λ (x : Birth ContentText). x.origin) (slice_get-only _ b h.0 h.1).1)) step
+beginning-step v u (Base base) b m step h o = absurd step
 beginning-step v u event b m step h o = absurd (unbegun event b refl h)
 
 module _ (v v' : View) where
@@ -61,12 +63,12 @@ module _ (v v' : View) where
     count-grown w = by_growth v v' u e g (λ one other. message_count one ≤ message_count other) (omega (arith, count-push (v.lines u) e)) (λ ls. omega arith) w
 
     -- where it is known how what the entry begins comes to be
-    module _ (says : (b : Birth ContentText) (m : Message) → Begins e.event b → m.origin ≡ b.origin → Beginning v u m) where
+    module _ (says : (b : Birth ContentText) (m : Message) → Begins e.event b → m.origin ≡ b.origin → Beginning v u m) (alone : StandsAlone e.event) where
       born-cases : (n : ℕ) (m : Message) → message_numbered (v'.lines u) n ≡ Some m → (message_numbered (v.lines u) n ≡ Some m) ⊎ IsNew (v.lines u) e n m
           → (message_numbered (v.lines u) n ≡ Some m) ⊎ IsBorn v v' u n m
       born-cases n m is (inl h) = inl h
       born-cases n m is (inr h) =
-          let b = begun (v.lines u) e n m h in
+          let b = begun (v.lines u) e n m alone h in
           inr (record {
             its_number = b.its_number;
             last = b.last;
@@ -89,13 +91,13 @@ module _ (v v' : View) where
   no-birth event other e h u b m k o = absurd (unbegun event b (ap (λ (x : Event ContentText). (effect_of x).births) e ∙ h) k)
 
   pub continues-opened : (u : ℕ) (e : Line) → Grows v v' u e → IsOpened v v' u e → Continues v v'
-  continues-opened u e g o = continues-grown u e g (no-birth e.event (Opened u o.settings) o.opening refl u)
+  continues-opened u e g o = continues-grown u e g (no-birth e.event (Opened u o.settings) o.opening refl u) (ap (λ (x : Event ContentText). (effect_of x).since) o.opening)
 
   pub continues-after : {ending : ℕ → Type 0} → Change ending v v' → Continues v v'
   continues-after (Stays lines gates) = continues-same lines
-  continues-after (Steps u e g gates here step) = continues-grown u e g (λ b m h o. beginning-step v u e.event b m step h o)
+  continues-after (Steps u e g gates here step) = continues-grown u e g (λ b m h o. beginning-step v u e.event b m step h o) (step_alone v u e.event step)
   continues-after (Opens u e g o) = continues-opened u e g o
-  continues-after (Closes u e g c ends) = continues-grown u e g (no-birth e.event Closed c.closing refl u)
+  continues-after (Closes u e g c ends) = continues-grown u e g (no-birth e.event Closed c.closing refl u) (ap (λ (x : Event ContentText). (effect_of x).since) c.closing)
 
 -- ---- what is so of all ids, and of where messages come from
 
@@ -197,17 +199,18 @@ module _ (v v' : View) where
   taken-same : Keeps v v' → AreTaken v → (u n : ℕ) (m : Message) → v'.lines u ≡ v.lines u → v.is_open u ≡ true → Stands (v'.lines u) n m Transferred → WasTaken v' u n
   taken-same keeps taken u n m same here s = taken-kept keeps u n (taken u n m here (subst (λ (ls : Lines). Stands ls n m Transferred) same s))
 
-  nothing-stands : (e : Line) (lines : Lines) (n : ℕ) (m : Message) (s : Status) → lines ≡ [] → (effect_of e.event).births ≡ [] → Stands (more lines e) n m s → ⊥
-  nothing-stands e lines n m s empty none h =
+  nothing-stands : (e : Line) (lines : Lines) (n : ℕ) (m : Message) (s : Status) → lines ≡ [] → (effect_of e.event).births ≡ [] → StandsAlone e.event → Stands (more lines e) n m s → ⊥
+  nothing-stands e lines n m s empty none alone h =
       no_message (numbered-cases [] e n m (subst (λ (ls : Lines). message_numbered (more ls e) n ≡ Some m) empty h.numbered))
     where
       no_message : (message_numbered {C = ContentText} [] n ≡ Some m) ⊎ IsNew [] e n m → ⊥
       no_message (inl k) = none-some m k
-      no_message (inr k) = let b = begun [] e n m k in unbegun e.event b.birth none b.begins
+      no_message (inr k) = let b = begun [] e n m alone k in unbegun e.event b.birth none b.begins
 
   opened-empty : (u : ℕ) (e : Line) → Grows v v' u e → IsOpened v v' u e → (n : ℕ) (m : Message) (s : Status) → Stands (v'.lines u) n m s → ⊥
   opened-empty u e g o n m s h =
-      nothing-stands e (v.lines u) n m s o.unused (ap (λ (x : Event ContentText). (effect_of x).births) o.opening) (subst (λ (ls : Lines). Stands ls n m s) g.here h)
+      nothing-stands e (v.lines u) n m s o.unused (ap (λ (x : Event ContentText). (effect_of x).births) o.opening) (ap (λ (x : Event ContentText). (effect_of x).since) o.opening)
+      (subst (λ (ls : Lines). Stands ls n m s) g.here h)
 
   pub taken-opened : (u : ℕ) (e : Line) → Grows v v' u e → IsOpened v v' u e → AreTaken v → AreTaken v'
   taken-opened u e g o taken w n m there =
@@ -219,7 +222,7 @@ module _ (v v' : View) where
   taken-after (Steps u e g gates here step) taken = λ w n m there.
       by_uid w u (λ i. Stands (v'.lines i) n m Transferred → WasTaken v' i n)
       (λ s. taken-kept (keeps-grown v v' u e g) u n
-      (taken-by v u n e step taken here m (stood (v.lines u) e n m Transferred (subst (λ (ls : Lines). Stands ls n m Transferred) g.here s))))
+      (taken-by v u n e step taken here m (stood (v.lines u) e n m Transferred (step_alone v u e.event step) (subst (λ (ls : Lines). Stands ls n m Transferred) g.here s))))
       (λ differs s. taken-same (keeps-grown v v' u e g) taken w n m (g.others w differs) (sym (gates w) ∙ there) s)
   taken-after (Opens u e g o) taken = taken-opened u e g o taken
   taken-after (Closes u e g c ends) taken = λ w n m.
@@ -314,14 +317,16 @@ lost-shut v u target event step h = absurd (false≢true h)
 waits_at_birth : (n target : ℕ) (event : Event ContentText) (b : Birth ContentText) → Begins event b → status_after n (Waiting target) event ≡ Waiting target
 waits_at_birth n target (Sent delay content) b h = refl
 waits_at_birth n target (Arrived origin content) b h = refl
+waits_at_birth n target (Base base) b h = refl
 waits_at_birth n target event b h = absurd (unbegun event b refl h)
 
-accepts_its_origin : (event : Event ContentText) (b : Birth ContentText) (o : Origin) → Begins event b → b.origin ≡ Some o → accepts o.uid o.number event ≡ true
-accepts_its_origin (Sent delay content) b o h k = absurd (none-some o (ap (λ (x : Birth ContentText). x.origin) (slice_get-only _ b h.0 h.1).1 ∙ k))
-accepts_its_origin (Arrived origin content) b o h k =
+accepts_its_origin : (event : Event ContentText) (b : Birth ContentText) (o : Origin) → StandsAlone event → Begins event b → b.origin ≡ Some o → accepts o.uid o.number event ≡ true
+accepts_its_origin (Base base) b o alone h k = absurd cc
+accepts_its_origin (Sent delay content) b o alone h k = absurd (none-some o (ap (λ (x : Birth ContentText). x.origin) (slice_get-only _ b h.0 h.1).1 ∙ k))
+accepts_its_origin (Arrived origin content) b o alone h k =
     let same : origin ≡ o = same_Some origin o (ap (λ (x : Birth ContentText). x.origin) (slice_get-only _ b h.0 h.1).1 ∙ k) in
     rw (eq-eqb origin.uid o.uid (ap (λ (x : Origin). x.uid) same), eq-eqb origin.number o.number (ap (λ (x : Origin). x.number) same)) refl
-accepts_its_origin event b o h k = absurd (unbegun event b refl h)
+accepts_its_origin event b o alone h k = absurd (unbegun event b refl h)
 
 module _ (v v' : View) (u : ℕ) (e : Line) (g : Grows v v' u e) (gates : (w : ℕ) → v'.is_open w ≡ v.is_open w) (here : v.is_open u ≡ true) (step : IsStep v u e.event) (sound : IsSound v) where
   keeps : Keeps v v'
@@ -379,13 +384,13 @@ module _ (v v' : View) (u : ℕ) (e : Line) (g : Grows v v' u e) (gates : (w : �
       })
       w.0 (stays-waiting o b birth w.0 w.1)
       (ap (λ (ls : Lines). has_accepted ls o.uid o.number) g.here
-      ∙ (accepted-push (v.lines u) e o.uid o.number ∙ or_right (has_accepted (v.lines u) o.uid o.number) (accepts o.uid o.number e.event) (accepts_its_origin e.event b o birth (sym origin ∙ h))))
+      ∙ (accepted-push (v.lines u) e o.uid o.number ∙ or_right (has_accepted (v.lines u) o.uid o.number) (accepts o.uid o.number e.event) (accepts_its_origin e.event b o (step_alone v u e.event step) birth (sym origin ∙ h))))
 
   ancestor-here : (id : MessageId) (n : ℕ) (m : Message) (s : Status) → message_id u m ≡ id → Holds v' u n s → Stood (v.lines u) e n m s → Ancestor v v' u id u n
   ancestor-here id n m s named holds (Before was stands is) =
       Same (record { there = here; message = m; status = was; stands = stands; named = named; holds = holds-was n was (subst (Holds v' u n) (sym is) holds) })
   ancestor-here id n m s named holds (New new is) =
-      let b = begun (v.lines u) e n m new in
+      let b = begun (v.lines u) e n m (step_alone v u e.event step) new in
       Newly refl b.last (newcomer id n m b.birth b.begins b.origin (b.its_number ∙ b.last) named (beginning-step v u e.event b.birth m step b.begins b.origin))
 
   ancestor : (id : MessageId) (w n : ℕ) → Holder v' id w n → Ancestor v v' u id w n
@@ -393,7 +398,7 @@ module _ (v v' : View) (u : ℕ) (e : Line) (g : Grows v v' u e) (gates : (w : �
       elim (cases_eq w u) [
         | inl same ↦ subst (λ (i : ℕ). Ancestor v v' u id i n) (sym same)
             (ancestor-here id n h.message h.status (subst (λ (i : ℕ). message_id i h.message ≡ id) same h.named) (subst (λ (i : ℕ). Holds v' i n h.status) same h.holds)
-            (stood (v.lines u) e n h.message h.status (subst (λ (ls : Lines). Stands ls n h.message h.status) g.here (subst (λ (i : ℕ). Stands (v'.lines i) n h.message h.status) same h.stands))))
+            (stood (v.lines u) e n h.message h.status (step_alone v u e.event step) (subst (λ (ls : Lines). Stands ls n h.message h.status) g.here (subst (λ (i : ℕ). Stands (v'.lines i) n h.message h.status) same h.stands))))
         | inr differs ↦ Same (holder-same v v' keeps w n shut-before id (g.others w differs) (sym (gates w) ∙ h.there) h)
       ]
 
@@ -514,7 +519,7 @@ module _ (v v' : View) (u : ℕ) (e : Line) (g : Grows v v' u e) (c : IsClosed v
     as-before s stands holds = SameAs (record { there = there; message = m; status = s; stands = stands; named = named; holds = holds })
 
     waited-for : (b : Bool) → has_accepted (v.lines u) w n ≡ b → Stands (v.lines w) n m (Waiting u) → LastAncestor v u id w n
-    waited-for true h stands = taken-over id w n m there stands named (accepted_came (v.lines u) w n h)
+    waited-for true h stands = taken-over id w n m there stands named (accepted_came (v.lines u) w n (sound.fates u c.was_open).0 h)
     waited-for false h stands = as-before (Waiting u) stands (inr h)
 
     waited-other : (target : ℕ) → (target ≡ u → ⊥) → Stands (v.lines w) n m (Waiting target) → Holds v' w n (Waiting target) → LastAncestor v u id w n

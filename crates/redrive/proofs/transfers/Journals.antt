@@ -8,7 +8,7 @@ use Rattle.std.proofs.lemmas.Option.{none-some, same_Some}
 use Rattle.message.specs.Content.{ContentText}
 use Rattle.journal.specs.declared.entry.Entry.{Entry}
 use Rattle.journal.specs.declared.entry.Event.{Event}
-use Rattle.journal.specs.declared.entry.Event.TheVariants.{Arrived}
+use Rattle.journal.specs.declared.entry.Event.TheVariants.{Arrived, Base}
 use Rattle.queue_core.specs.declared.facts.Message.{Message}
 use Rattle.queue_core.specs.declared.facts.Course.{Course}
 use Rattle.queue_core.specs.declared.facts.Status.{Status}
@@ -16,7 +16,8 @@ use Rattle.queue_core.specs.declared.facts.Status.TheVariants.{Present}
 use Rattle.queue_core.specs.Tally.{births}
 use Rattle.queue_core.specs.Messages.{Birth, effect_of, message_in, messages_in, messages_from, messages, message_count, status_after, course_of, accepts, has_accepted}
 use Rattle.queue_core.specs.States.{message_numbered}
-use Rattle.queue_core.proofs.PushLemmas.{or_false, slice_get-prefix, slice_get-behind, numbered_in, IsNew, numbered-cases, numbered-kept, new_birth, new_number, new_course, accepted-push}
+use Rattle.queue_core.proofs.PushLemmas.{or_false, slice_get-prefix, slice_get-behind, numbered_in, IsNew, numbered-cases, numbered-kept, new_birth, new_number, new_course, new_begun, accepted-push}
+use Rattle.queue_core.proofs.Scans.{StandsAlone, StandAlone}
 use Rattle.queue_core.proofs.PendingLemmas.{status-push}
 use Rattle.redrive.specs.Places.{status_numbered, came_from}
 pub use Rattle.queue_core.proofs.PushLemmas.{Line}
@@ -60,13 +61,13 @@ module _ (lines : Lines) (e : Line) (n : ℕ) (m : Message) where
     Before : (was : Status) → Stands lines n m was → status_after n was e.event ≡ s → Stood s
     New : IsNew lines e n m → s ≡ Present → Stood s
 
-  stood_by : (s : Status) → Stands (more lines e) n m s → (message_numbered lines n ≡ Some m) ⊎ IsNew lines e n m → Stood s
-  stood_by s h (inl old) =
+  stood_by : (s : Status) → StandsAlone e.event → Stands (more lines e) n m s → (message_numbered lines n ≡ Some m) ⊎ IsNew lines e n m → Stood s
+  stood_by s alone h (inl old) =
       Before (course_of lines m).status (record { numbered = old; status = refl }) (sym (status-push lines e n m old) ∙ h.status)
-  stood_by s h (inr new) = New new (sym h.status ∙ ap (λ (c : Course). c.status) (new_course lines e n m new))
+  stood_by s alone h (inr new) = New new (sym h.status ∙ ap (λ (c : Course). c.status) (new_course lines e n m new) ∙ new_begun lines e n m alone new)
 
-  pub stood : (s : Status) → Stands (more lines e) n m s → Stood s
-  stood s h = stood_by s h (numbered-cases lines e n m h.numbered)
+  pub stood : (s : Status) → StandsAlone e.event → Stands (more lines e) n m s → Stood s
+  stood s alone h = stood_by s alone h (numbered-cases lines e n m h.numbered)
 
 -- ---- what was accepted
 
@@ -84,14 +85,15 @@ pub record Came (ms : List Message) (u n : ℕ) : Type 0 where
 abbrev pub Begins : Event ContentText → Birth ContentText → Type 0
 Begins event b = (i : ℕ) × (slice_get (effect_of event).births i ≡ Some b)
 
--- an accepted transfer brings a message
-brought : (event : Event ContentText) (u n : ℕ) → accepts u n event ≡ true → (b : Birth ContentText) × Begins event b × (option_map_or (λ o. nat_eq o.uid u && nat_eq o.number n) b.origin false ≡ true)
-brought (Arrived origin content) u n h = (record { content = content; delay = 0; origin = Some origin }, (0, refl), sym (or_false (nat_eq origin.uid u && nat_eq origin.number n)) ∙ h)
-brought event u n h = absurd (false≢true h)
+-- a transfer that is accepted with an event which is no checkpoint brings a message
+brought : (event : Event ContentText) (u n : ℕ) → StandsAlone event → accepts u n event ≡ true → (b : Birth ContentText) × Begins event b × (option_map_or (λ o. nat_eq o.uid u && nat_eq o.number n) b.origin false ≡ true)
+brought (Base base) u n alone h = absurd cc
+brought (Arrived origin content) u n alone h = (record { content = Some content; delay = 0; origin = Some origin; past = None }, (0, refl), sym (or_false (nat_eq origin.uid u && nat_eq origin.number n)) ∙ h)
+brought event u n alone h = absurd (false≢true h)
 
-came_here : (place number u n : ℕ) (x : Line) (rest : List Message) → accepts u n x.event ≡ true → Came (messages_in place number x.at (effect_of x.event).births ++ rest) u n
-came_here place number u n x rest h =
-    let p = brought x.event u n h in
+came_here : (place number u n : ℕ) (x : Line) (rest : List Message) → StandsAlone x.event → accepts u n x.event ≡ true → Came (messages_in place number x.at (effect_of x.event).births ++ rest) u n
+came_here place number u n x rest alone h =
+    let p = brought x.event u n alone h in
     let i = p.1.0 in
     let bs = (effect_of x.event).births in
     record {
@@ -110,19 +112,19 @@ came_later u n ms rest h = record {
   came = h.came;
 }
 
-came_at : (place number u n : ℕ) (b : Bool) (x : Line) (xs : Lines) → accepts u n x.event ≡ b → (b || list_any (λ e. accepts u n e.event) xs) ≡ true
+came_at : (place number u n : ℕ) (b : Bool) (x : Line) (xs : Lines) → StandsAlone x.event → accepts u n x.event ≡ b → (b || list_any (λ e. accepts u n e.event) xs) ≡ true
     → (list_any (λ e. accepts u n e.event) xs ≡ true → (i k : ℕ) → Came (messages_from i k xs) u n) → Came (messages_from place number (x ∷ xs)) u n
-came_at place number u n true x xs e h f = came_here place number u n x (messages_from (suc place) (number + births x.event) xs) e
-came_at place number u n false x xs e h f =
+came_at place number u n true x xs alone e h f = came_here place number u n x (messages_from (suc place) (number + births x.event) xs) alone e
+came_at place number u n false x xs alone e h f =
     came_later u n (messages_in place number x.at (effect_of x.event).births) (messages_from (suc place) (number + births x.event) xs) (f h (suc place) (number + births x.event))
 
-came_from_entries : (u n : ℕ) (xs : Lines) → list_any (λ e. accepts u n e.event) xs ≡ true → (place number : ℕ) → Came (messages_from place number xs) u n
-came_from_entries u n [] h place number = absurd (false≢true h)
-came_from_entries u n (x ∷ xs) h place number = came_at place number u n (accepts u n x.event) x xs refl h (λ k. came_from_entries u n xs k)
+came_from_entries : (u n : ℕ) (xs : Lines) → StandAlone xs → list_any (λ e. accepts u n e.event) xs ≡ true → (place number : ℕ) → Came (messages_from place number xs) u n
+came_from_entries u n [] alone h place number = absurd (false≢true h)
+came_from_entries u n (x ∷ xs) alone h place number = came_at place number u n (accepts u n x.event) x xs alone.0 refl h (λ k. came_from_entries u n xs alone.1 k)
 
 -- an accepted transfer brought a message
-pub accepted_came : (lines : Lines) (u n : ℕ) → has_accepted lines u n ≡ true → Came (messages lines) u n
-accepted_came lines u n h = came_from_entries u n lines h 0 0
+pub accepted_came : (lines : Lines) (u n : ℕ) → StandAlone lines → has_accepted lines u n ≡ true → Came (messages lines) u n
+accepted_came lines u n alone h = came_from_entries u n lines alone h 0 0
 
 -- ---- a message that an entry begins
 
@@ -133,15 +135,15 @@ pub record IsBegun (lines : Lines) (e : Line) (n : ℕ) (m : Message) : Type 0 w
   pub its_number : m.number ≡ n
   pub last : n ≡ message_count lines
 
-pub begun : (lines : Lines) (e : Line) (n : ℕ) (m : Message) → IsNew lines e n m → IsBegun lines e n m
-begun lines e n m new =
+pub begun : (lines : Lines) (e : Line) (n : ℕ) (m : Message) → StandsAlone e.event → IsNew lines e n m → IsBegun lines e n m
+begun lines e n m alone new =
     let b = new_birth lines e n m new in
     record {
       birth = b.0;
       begins = (n - message_count lines, b.1);
       origin = ap (λ (x : Message). x.origin) (sym b.2);
       its_number = ap (λ (x : Message). x.number) (sym b.2);
-      last = new_number lines e n m new;
+      last = new_number lines e n m alone new;
     }
 
 pub unbegun : (event : Event ContentText) (b : Birth ContentText) → (effect_of event).births ≡ [] → Begins event b → ⊥

@@ -18,7 +18,8 @@ use Rattle.redrive.specs.declared.steps.HouseStep.TheVariants as steps
 use Rattle.redrive.specs.World.{new_world, queue_of_uid}
 use Rattle.redrive.specs.History.{AllQueues, journal_of}
 use Rattle.redrive.specs.WorldRun.{Answer, all_after, AreHouseAnswers, history_after}
-use Rattle.redrive.specs.HistorySteps.{HistoryStep, Own, AreHistoryAnswers, after_history_step, after_history_steps}
+use Rattle.redrive.specs.HistorySteps.{HistoryStep, Own, AreHistoryAnswers, after_history_steps}
+use Rattle.redrive.specs.WholeSteps.{whole_after_step, whole_after_steps}
 use Rattle.redrive.specs.Places.{first_history, acceptance_count, EachAcceptedOnce, HasFate, EachHasItsFate, status_numbered, IsNumbered, IsStanding, IsInTransit, Standing, InTransit, EachHasOnePlace, came_from, IsRelay, IsSpared, NoRelayDeleted}
 use Rattle.queue_core.proofs.PendingLemmas.{live-present}
 use Rattle.redrive.proofs.transfers.Journals.{Lines, Stands, stands_gives}
@@ -27,16 +28,16 @@ use Rattle.redrive.proofs.transfers.Worlds.{IsEnding, uid_of_open, lines_there, 
 use Rattle.redrive.proofs.transfers.Fates.{Fate, AreFates, accepted_from, HasFates, fates-opened, fates-after}
 use Rattle.redrive.proofs.transfers.Holders.{IsSound, sound-opened, sound-after, Holds, Holder, HasOneHolder, Relays, one-opened, one-after}
 use Rattle.redrive.proofs.transfers.Once.{IsOnce, once-opened, once-after}
-use Rattle.redrive.proofs.transfers.Runs.{Begins, begins, through, through_spared}
+use Rattle.redrive.proofs.transfers.Runs.{AreEnding, Begins, begins, through, through_spared}
 
 journal-lines : (all : AllQueues) (uid : ℕ) (lines : Lines) → journal_of all uid ≡ Some lines → (view_of all).lines uid ≡ lines
 journal-lines all uid lines h = ap (λ (o : Option Lines). unwrap_or o []) h
 
-pub accepted_once : (config : Configuration) (at : ℕ) (steps : List HistoryStep) (answers : List Answer) → AreHistoryAnswers (first_history config at) steps answers
-    → EachAcceptedOnce (after_history_steps (first_history config at) steps answers)
+pub accepted_once : (config : Configuration) (at : ℕ) (steps : List HistoryStep) (answers : List Answer) → AreEnding (first_history config at) steps answers
+    → EachAcceptedOnce (whole_after_steps (first_history config at) steps answers)
 accepted_once config at steps answers are uid source number lines is =
     let b : Begins IsOnce (new_world config at) = begins IsOnce (λ v v' u e g o h. once-opened v v' u e g o h) (λ u s n. omega arith) config at in
-    let all : AllQueues = after_history_steps (first_history config at) steps answers in
+    let all : AllQueues = whole_after_steps (first_history config at) steps answers in
     let once : IsOnce (view_of all) =
     through IsOnce (λ all step answer change h. once-after _ _ change h) (first_history config at) steps answers are b.fresh b.so in
     subst (λ (ls : Lines). acceptance_count ls source number ≤ 1) (journal-lines all uid lines is) (once uid source number)
@@ -59,15 +60,15 @@ module _ (all : AllQueues) (uid : ℕ) (q : QueueHistory) (here : queue_of_uid a
       }))
   fate-told (inr (inr h)) = inr (inr h)
 
-pub each_has_its_fate : (config : Configuration) (at : ℕ) (steps : List HistoryStep) (answers : List Answer) → AreHistoryAnswers (first_history config at) steps answers
-    → EachHasItsFate (after_history_steps (first_history config at) steps answers)
+pub each_has_its_fate : (config : Configuration) (at : ℕ) (steps : List HistoryStep) (answers : List Answer) → AreEnding (first_history config at) steps answers
+    → EachHasItsFate (whole_after_steps (first_history config at) steps answers)
 each_has_its_fate config at steps answers are uid place t q here d =
     let b : Begins HasFates (new_world config at) = begins HasFates (λ v v' u e g o h. fates-opened v v' u e g o h) (λ u h. absurd (false≢true h)) config at in
-    let all : AllQueues = after_history_steps (first_history config at) steps answers in
+    let all : AllQueues = whole_after_steps (first_history config at) steps answers in
     let fates : HasFates (view_of all) =
     through HasFates (λ all step answer change h. fates-after _ _ change h) (first_history config at) steps answers are b.fresh b.so in
     fate-told all uid q here t (drop (suc place) q.lines)
-    (subst (AreFates (accepted_from (view_of all) uid)) (lines_there all uid q here) (fates uid (open_there all uid q here)) place t d)
+    ((subst (AreFates (accepted_from (view_of all) uid)) (lines_there all uid q here) (fates uid (open_there all uid q here))).1 place t d)
 
 -- ---- one place
 
@@ -113,10 +114,10 @@ record IsHeld (all : AllQueues) : Type 0 where
   sound : IsSound (view_of all)
   one : HasOneHolder (view_of all)
 
-held-after : (all : AllQueues) (step : HistoryStep) (answer : Answer) → Change (IsEnding step answer) (view_of all) (view_of (after_history_step all step answer)) → IsSpared all step answer → IsHeld all → IsHeld (after_history_step all step answer)
+held-after : (all : AllQueues) (step : HistoryStep) (answer : Answer) → Change (IsEnding step answer) (view_of all) (view_of (whole_after_step all step answer)) → IsSpared all step answer → IsHeld all → IsHeld (whole_after_step all step answer)
 held-after all step answer change spared h = record {
-  sound = sound-after (view_of all) (view_of (after_history_step all step answer)) change h.sound;
-  one = one-after (view_of all) (view_of (after_history_step all step answer)) change h.sound (spared_told all step answer spared) h.one;
+  sound = sound-after (view_of all) (view_of (whole_after_step all step answer)) change h.sound;
+  one = one-after (view_of all) (view_of (whole_after_step all step answer)) change h.sound (spared_told all step answer spared) h.one;
 }
 
 holder_of : (all : AllQueues) (id : MessageId) (uid n : ℕ) (q : QueueHistory) (m : Message) (s : Status) → IsNumbered all id uid n q m → (course_of q.lines m).status ≡ s → Holds (view_of all) uid n s → Holder (view_of all) id uid n
@@ -162,8 +163,8 @@ one_place all one id (InTransit u n) (InTransit w k) h h' =
 abbrev IsWell : View → Type 0
 IsWell v = IsSound v × HasOneHolder v
 
-pub each_has_one_place : (config : Configuration) (at : ℕ) (steps : List HistoryStep) (answers : List Answer) → AreHistoryAnswers (first_history config at) steps answers
-    → NoRelayDeleted (first_history config at) steps answers → EachHasOnePlace (after_history_steps (first_history config at) steps answers)
+pub each_has_one_place : (config : Configuration) (at : ℕ) (steps : List HistoryStep) (answers : List Answer) → AreEnding (first_history config at) steps answers
+    → NoRelayDeleted (first_history config at) steps answers → EachHasOnePlace (whole_after_steps (first_history config at) steps answers)
 each_has_one_place config at steps answers are spared =
     let nothing : IsSound (record { is_open = λ u. false; lines = λ u. [] }) = record {
       fates = λ u h. absurd (false≢true h);
@@ -173,9 +174,9 @@ each_has_one_place config at steps answers are spared =
     } in
     let b : Begins IsWell (new_world config at) =
     begins IsWell (λ v v' u e g o h. (sound-opened v v' u e g o h.0, one-opened v v' u e g o h.1)) (nothing, λ id u n w k h h'. absurd (false≢true h.there)) config at in
-    let held : IsHeld (after_history_steps (first_history config at) steps answers) =
+    let held : IsHeld (whole_after_steps (first_history config at) steps answers) =
     through_spared IsHeld held-after (first_history config at) steps answers are spared b.fresh (record { sound = b.so.0; one = b.so.1 }) in
-    one_place (after_history_steps (first_history config at) steps answers) held.one
+    one_place (whole_after_steps (first_history config at) steps answers) held.one
 
 -- ---- the registry's own steps
 

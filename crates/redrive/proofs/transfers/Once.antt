@@ -6,7 +6,7 @@ use Rattle.std.proofs.lemmas.Bool.{and_parts, or_parts, false≢true}
 use Rattle.std.proofs.lemmas.List.Sums.{sum_by_push, sum_by-cons}
 use Rattle.message.specs.Content.{ContentText}
 use Rattle.journal.specs.declared.entry.Event.{Event}
-use Rattle.journal.specs.declared.entry.Event.TheVariants.{Opened, Arrived, Closed}
+use Rattle.journal.specs.declared.entry.Event.TheVariants.{Opened, Arrived, Closed, Base}
 use Rattle.queue_core.specs.Messages.{accepts, has_accepted}
 use Rattle.queue_core.proofs.PushLemmas.{or_false}
 use Rattle.redrive.specs.Places.{acceptance_count}
@@ -47,6 +47,7 @@ accept-first v u (Arrived origin content) s n step h =
     let k = and_parts (nat_eq origin.uid s) (nat_eq origin.number n) (sym (or_false (nat_eq origin.uid s && nat_eq origin.number n)) ∙ h) in
     subst (λ (i : ℕ). has_accepted (v.lines u) i n ≡ false) (eqb-true origin.uid s k.0)
     (subst (λ (i : ℕ). has_accepted (v.lines u) origin.uid i ≡ false) (eqb-true origin.number n k.1) step.unaccepted)
+accept-first v u (Base base) s n step h = absurd step
 accept-first v u event s n step h = absurd (false≢true h)
 
 never-accepts : (event opening : Event ContentText) (s n : ℕ) (b : Bool) → event ≡ opening → accepts s n opening ≡ b → accepts s n event ≡ b

@@ -1,17 +1,24 @@
 -- What every step keeps is so after each list of steps, and what every opening keeps is so at the beginning.
 use Rattle.std.proofs.Common.{ℕ, false, List, [], ◌∷◌, refl}
-use Rattle.std.specs.Prelude.{fold}
+use Rattle.std.specs.Prelude.{⊤, fold}
 use Rattle.queue_config.specs.Config.{Configuration, rules_of}
 use Rattle.queue_config.specs.declared.config.ConfiguredAlarm.{ConfiguredAlarm}
 use Rattle.queue_config.specs.declared.config.ConfiguredQueue.{ConfiguredQueue}
 use Rattle.redrive.specs.World.{World, empty_world, with_queue, next_queue, new_world}
 use Rattle.redrive.specs.History.{AllQueues}
 use Rattle.redrive.specs.WorldRun.{Answer}
-use Rattle.redrive.specs.HistorySteps.{HistoryStep, AreHistoryAnswers, after_history_step, after_history_steps}
+use Rattle.redrive.specs.HistorySteps.{HistoryStep}
+use Rattle.redrive.specs.WholeSteps.{whole_after_step, whole_after_steps}
 use Rattle.redrive.specs.Places.{IsSpared, NoRelayDeleted}
 use Rattle.redrive.proofs.transfers.Journals.{Line}
 use Rattle.redrive.proofs.transfers.Views.{View, view_of, Grows, IsOpened, Change}
-use Rattle.redrive.proofs.transfers.Worlds.{IsFresh, LeadsTo, IsEnding, history-led, opening, opened-grows, opened-is, opened-fresh}
+use Rattle.redrive.proofs.transfers.Worlds.{IsFresh, LeadsTo, IsEnding, Ends, history-led, opening, opened-grows, opened-is, opened-fresh}
+
+-- each deletion of a list is answered as it is done
+abbrev pub AreEnding : AllQueues → List HistoryStep → List Answer → Type 0
+AreEnding all [] answers = ⊤
+AreEnding all (step ∷ steps) [] = ⊤
+AreEnding all (step ∷ steps) (answer ∷ answers) = Ends all step answer × AreEnding (whole_after_step all step answer) steps answers
 
 module _ (P : View → Type 0) where
   -- what is so of the beginning
@@ -36,22 +43,20 @@ module _ (P : View → Type 0) where
   begins f h config at =
       begins-with f at config.alarms config.queues (empty_world config.limits) (record { fresh = record { none_there = λ u l. refl; none_deleted = λ u l. refl }; so = h })
 
-  pub through : ((all : AllQueues) (step : HistoryStep) (answer : Answer) → Change (IsEnding step answer) (view_of all) (view_of (after_history_step all step answer)) → P (view_of all) → P (view_of (after_history_step all step answer)))
-      → (all : AllQueues) (steps : List HistoryStep) (answers : List Answer) → AreHistoryAnswers all steps answers → IsFresh all → P (view_of all) → P (view_of (after_history_steps all steps answers))
-  through f all [] [] are fresh h = h
-  through f all [] (answer ∷ answers) are fresh h = absurd are
-  through f all (step ∷ steps) [] are fresh h = absurd are
+  pub through : ((all : AllQueues) (step : HistoryStep) (answer : Answer) → Change (IsEnding step answer) (view_of all) (view_of (whole_after_step all step answer)) → P (view_of all) → P (view_of (whole_after_step all step answer)))
+      → (all : AllQueues) (steps : List HistoryStep) (answers : List Answer) → AreEnding all steps answers → IsFresh all → P (view_of all) → P (view_of (whole_after_steps all steps answers))
+  through f all [] answers are fresh h = h
+  through f all (step ∷ steps) [] are fresh h = h
   through f all (step ∷ steps) (answer ∷ answers) are fresh h =
-      let led : LeadsTo (IsEnding step answer) all (after_history_step all step answer) = history-led all step answer fresh are.0 in
-      through f (after_history_step all step answer) steps answers are.1 led.fresh (f all step answer led.change h)
+      let led : LeadsTo (IsEnding step answer) all (whole_after_step all step answer) = history-led all step answer fresh are.0 in
+      through f (whole_after_step all step answer) steps answers are.1 led.fresh (f all step answer led.change h)
 
 -- what every step keeps that spares relays is so after each list of such steps
 pub through_spared : (P : AllQueues → Type 0)
-    → ((all : AllQueues) (step : HistoryStep) (answer : Answer) → Change (IsEnding step answer) (view_of all) (view_of (after_history_step all step answer)) → IsSpared all step answer → P all → P (after_history_step all step answer))
-    → (all : AllQueues) (steps : List HistoryStep) (answers : List Answer) → AreHistoryAnswers all steps answers → NoRelayDeleted all steps answers → IsFresh all → P all → P (after_history_steps all steps answers)
-through_spared P f all [] [] are spared fresh h = h
-through_spared P f all [] (answer ∷ answers) are spared fresh h = absurd are
-through_spared P f all (step ∷ steps) [] are spared fresh h = absurd are
+    → ((all : AllQueues) (step : HistoryStep) (answer : Answer) → Change (IsEnding step answer) (view_of all) (view_of (whole_after_step all step answer)) → IsSpared all step answer → P all → P (whole_after_step all step answer))
+    → (all : AllQueues) (steps : List HistoryStep) (answers : List Answer) → AreEnding all steps answers → NoRelayDeleted all steps answers → IsFresh all → P all → P (whole_after_steps all steps answers)
+through_spared P f all [] answers are spared fresh h = h
+through_spared P f all (step ∷ steps) [] are spared fresh h = h
 through_spared P f all (step ∷ steps) (answer ∷ answers) are spared fresh h =
-    let led : LeadsTo (IsEnding step answer) all (after_history_step all step answer) = history-led all step answer fresh are.0 in
-    through_spared P f (after_history_step all step answer) steps answers are.1 spared.1 led.fresh (f all step answer led.change spared.0 h)
+    let led : LeadsTo (IsEnding step answer) all (whole_after_step all step answer) = history-led all step answer fresh are.0 in
+    through_spared P f (whole_after_step all step answer) steps answers are.1 spared.1 led.fresh (f all step answer led.change spared.0 h)

@@ -1,6 +1,6 @@
 -- No queue is its own dead-letter queue.
 use Rattle.std.proofs.Common.{◌≡◌, ℕ, ◌+◌, ◌<◌, arith, Bool, true, false, not, ◌&&◌, cond, List, [], ◌∷◌, ◌++◌, length, get_or, append_assoc, Option, Some, None, unwrap_or, Result, Ok, refl, sym, ap, subst, inl, inr, ◌∙◌, eqb-true}
-use Rattle.std.specs.Prelude.{nat_eq, is_some, option_map, IfSome, fold}
+use Rattle.std.specs.Prelude.{⊤, nat_eq, is_some, option_map, IfSome, fold}
 use Rattle.std.specs.List.{position, All}
 use Rattle.std.specs.Option.{option_map_or, ForSome}
 use Rattle.std.specs.Str.{bytes_eq}
@@ -14,7 +14,7 @@ use Rattle.message.specs.declared.fault.Fault.TheVariants.{QueueDoesNotExist, Un
 use Rattle.message.specs.Content.{ContentText}
 use Rattle.message.specs.Fault.{is_out_of_memory}
 use Rattle.queue_config.specs.Config.{Configuration, names_of, HasTarget, AreConfigured, rules_of}
-use Rattle.queue_config.specs.Settings.{QueueSettings, RequestedAttributes, default_settings, policy_without, policy_with}
+use Rattle.queue_config.specs.Settings.{QueueSettings, RequestedAttributes, default_settings, settings_with, policy_without, policy_with}
 use Rattle.queue_config.specs.declared.config.ConfiguredAlarm.{ConfiguredAlarm}
 use Rattle.queue_config.specs.declared.config.ConfiguredQueue.{ConfiguredQueue}
 use Rattle.queue_config.specs.declared.policy.RedrivePolicy.{RedrivePolicy}
@@ -24,18 +24,18 @@ use Rattle.queue_core.specs.declared.command.Command.{Command}
 use Rattle.queue_core.specs.declared.command.Command.TheVariants as commands
 use Rattle.queue_core.specs.declared.parcel.Parcel.{Parcel}
 use Rattle.queue_core.specs.Messages.{settings_after, settings_of}
-use Rattle.queue_core.specs.Queue.{QueueHistory, at_moment, outcome_of, reached, outcome_at, after_answer}
+use Rattle.queue_core.specs.Queue.{QueueHistory, at_moment, outcome_in, reached, outcome_at, after_answer, rebased_where}
 use Rattle.redrive.specs.declared.steps.HouseReply.TheVariants as replies
 use Rattle.redrive.specs.declared.steps.HouseStep.{HouseStep}
 use Rattle.redrive.specs.declared.steps.HouseStep.TheVariants as steps
-use Rattle.redrive.specs.World.{World, empty_world, with_queue, next_queue, new_world, queue_named, found_uid, has_queue, new_queue, may_name_target, may_set, opens_queue, is_internal, step_refusal, has_target, with_queue_changed, world_after_command, without_queue, first_parcel_in, Delivery, delivery_of, accepted_number}
-use Rattle.redrive.specs.WorldRun.{Answer, world_after, world_after_all}
+use Rattle.redrive.specs.World.{World, empty_world, with_queue, next_queue, new_world, queue_named, found_uid, has_queue, target_uid, may_name_target, may_set, is_internal, step_refusal, has_target, with_queue_changed, world_after_command, without_queue, first_parcel_in, Delivery, accepted_number}
+use Rattle.redrive.specs.WorldRun.{Answer, WorldChange, Nothing, Performs, Opens, Closes, Passes, perform_act, hand_over_act, confirm_act, act_of, world_changed, world_after, world_after_all}
 use Rattle.queue_core.proofs.CauseLemmas.{IsSoOfAdded, added}
 use Rattle.queue_core.proofs.PushLemmas.{settings_from-push}
 use Rattle.redrive.proofs.KeyedLemmas.{find-holds}
 use Rattle.redrive.proofs.RegistryLemmas.{after_answer-uid}
 use Rattle.redrive.proofs.transfers.Journals.{Lines}
-use Rattle.redrive.proofs.transfers.Commands.{if_some-at, reached-lines, after_answer-lines}
+use Rattle.redrive.proofs.transfers.Commands.{if_some-at, reached-lines, after_answer-lines, acting}
 
 -- whether the policy names the queue of a uid
 abbrev names_uid : ℕ → Option RedrivePolicy → Bool
@@ -63,10 +63,10 @@ without-policy u lost (Some p) h = by_test (nat_eq p.target lost)
 
 module _ (q : QueueHistory) (u : ℕ) (h : names_uid u (settings_of q.lines).redrive_policy ≡ false) where
   -- an event after which the policy does not name the queue of the uid
-  abbrev Aims : Event ContentText → Type 0
-  Aims event = names_uid u (settings_after (settings_of q.lines) event).redrive_policy ≡ false
+  abbrev AimsBy : Event ContentText → Type 0
+  AimsBy event = names_uid u (settings_after (settings_of q.lines) event).redrive_policy ≡ false
 
-  aims-each : (command : Command) → Sets u command → IsSoOfAdded q Aims command
+  aims-each : (command : Command) → Sets u command → IsSoOfAdded q AimsBy command
   aims-each (commands.Change handle timeout) sets = λ unrefused. h
   aims-each (commands.Delete handle) sets = (h, h)
   aims-each (commands.Set wish target) sets = sets (settings_of q.lines).redrive_policy wish target refl h
@@ -77,23 +77,30 @@ module _ (q : QueueHistory) (u : ℕ) (h : names_uid u (settings_of q.lines).red
   aims-each commands.Look sets = tt
   aims-each command sets = h
 
-  aims : (command : Command) → Sets u command → IfSome (outcome_of q command).event Aims
-  aims command sets = added Aims q (λ fault. h) command (aims-each command sets)
+  aims : (command : Command) → Sets u command → IfSome (outcome_in q command).event AimsBy
+  aims command sets = added AimsBy q (λ fault. h) command (aims-each command sets)
 
-aims-at : (q : QueueHistory) (u : ℕ) → names_uid u (settings_of q.lines).redrive_policy ≡ false → (at : ℕ) (command : Command) → Sets u command
-    → IfSome (outcome_at q at command).event (λ event. names_uid u (settings_after (settings_of q.lines) event).redrive_policy ≡ false)
-aims-at q u h at command sets =
-    let r : QueueHistory = reached q at command in
-    subst (λ (ls : Lines). IfSome (outcome_at q at command).event (λ event. names_uid u (settings_after (settings_of ls) event).redrive_policy ≡ false)) (reached-lines q at command)
-    (aims r u (subst (λ (ls : Lines). names_uid u (settings_of ls).redrive_policy ≡ false) (sym (reached-lines q at command)) h) command sets)
+-- a checkpoint keeps the settings
+acting-settings : (q : QueueHistory) (at : ℕ) (command : Command) → settings_of (acting q at command).lines ≡ settings_of q.lines
+acting-settings q at command = by_place (outcome_at q at command).rebases (reached q at command) ∙ ap (λ (ls : Lines). settings_of ls) (reached-lines q at command)
+  where
+    by_place : (b : Bool) (r : QueueHistory) → settings_of (rebased_where b r).lines ≡ settings_of r.lines
+    by_place true r = refl
+    by_place false r = refl
 
 left-aims : {T : Type 0} → (q : QueueHistory) (u at : ℕ) (command : Command) (answer : Result T Fault) → Sets u command → has_target u q ≡ false → has_target u (after_answer q at command answer) ≡ false
 left-aims q u at command answer sets h =
+    let there : names_uid u (settings_of (acting q at command).lines).redrive_policy ≡ false =
+    subst (λ (s : QueueSettings). names_uid u s.redrive_policy ≡ false) (sym (acting-settings q at command)) h in
     elim (after_answer-lines q at command answer) [
       | inl same ↦ subst (λ (ls : Lines). names_uid u (settings_of ls).redrive_policy ≡ false) (sym same) h
-      | inr a ↦ subst (λ (ls : Lines). names_uid u (settings_of ls).redrive_policy ≡ false) (sym a.is)
-          (subst (λ (s : QueueSettings). names_uid u s.redrive_policy ≡ false) (sym (settings_from-push default_settings q.lines a.line))
-          (if_some-at (λ event. names_uid u (settings_after (settings_of q.lines) event).redrive_policy ≡ false) (outcome_at q at command).event a.line.event (aims-at q u h at command sets) a.added))
+      | inr rest ↦ elim rest [
+        | inl same ↦ subst (λ (ls : Lines). names_uid u (settings_of ls).redrive_policy ≡ false) (sym same) there
+        | inr a ↦ subst (λ (ls : Lines). names_uid u (settings_of ls).redrive_policy ≡ false) (sym a.is)
+            (subst (λ (s : QueueSettings). names_uid u s.redrive_policy ≡ false) (sym (settings_from-push default_settings (acting q at command).lines a.line))
+            (if_some-at (λ event. names_uid u (settings_after (settings_of (acting q at command).lines) event).redrive_policy ≡ false) (outcome_at q at command).event a.line.event
+            (aims (acting q at command) u there command sets) a.added))
+      ]
     ]
 
 -- ---- the queues of a registry
@@ -129,19 +136,6 @@ module _ {T : Type 0} (w : World) (at : ℕ) (answer : Result T Fault) (h : AreA
             (left-aims q q.uid at command answer (subst (λ (i : ℕ). Sets i command) (sym is) sets) k.1),
       )) h
 
-  delivered : (source : ℕ) (p : Parcel) (b : Bool) → let d : Delivery = cond b (record { uid = p.target; command = commands.Arrive p }) (record { uid = source; command = commands.Orphan p.target }) in
-      AreAimed (world_after_command w d.uid at d.command answer)
-  delivered source p true = commanded p.target (commands.Arrive p) (λ policy wish target is k. absurd cc)
-  delivered source p false = commanded source (commands.Orphan p.target) (λ policy wish target is k. absurd cc)
-
-  handed : (source : ℕ) (o : Option Parcel) → AreAimed (option_map_or (λ p. world_after_command w (delivery_of w source p).uid at (delivery_of w source p).command answer) o w)
-  handed source None = h
-  handed source (Some p) = delivered source p (has_queue w p.target)
-
-  confirmed : (source : ℕ) (o : Option ℕ) → AreAimed (option_map_or (λ number. world_after_command w source at (commands.Settle number) answer) o w)
-  confirmed source None = h
-  confirmed source (Some number) = commanded source (commands.Settle number) (λ policy wish target is k. absurd cc)
-
 -- ---- settings that are asked for
 
 asked-other : (u target : ℕ) (policy : Option RedrivePolicy) (asked : Asked) (found : List ℕ → Bool) → names_uid u policy ≡ false
@@ -161,11 +155,6 @@ performed-sets w uid command e policy wish target is h =
     let may : may_set w uid command ≡ true = may_be_set (has_queue w uid) (is_internal command) (may_set w uid command) UnsupportedOperation InvalidAttributeValue QueueDoesNotExist e in
     asked-other uid target policy wish.redrive_policy (λ name. option_map_or (λ u. nat_eq u target) (found_uid w name) false) h
     (subst (λ (c : Command). may_set w uid c ≡ true) is may)
-
-performed : {T : Type 0} → (w : World) (uid at : ℕ) (command : Command) (answer : Result T Fault) → AreAimed w → (r : Option Fault) → step_refusal w uid command ≡ r
-    → AreAimed (option_map_or (λ fault. w) r (world_after_command w uid at command answer))
-performed w uid at command answer h (Some fault) e = h
-performed w uid at command answer h None e = commanded w at answer h uid command (performed-sets w uid command e)
 
 -- ---- opening
 
@@ -189,26 +178,59 @@ module _ (w : World) (at : ℕ) (h : AreAimed w) where
   created-other own (Some (Some asked)) may =
       found-other (queue_named w asked.name) asked.name refl (and_parts (not (bytes_eq asked.name own)) (is_some (queue_named w asked.name)) may).1
 
-  created : (name : List ℕ) (wish : RequestedAttributes) (may place : Bool) → may_name_target w name wish ≡ may → AreAimed (cond (may && place) (with_queue w (new_queue w at name wish)) w)
-  created name wish false place e = h
-  created name wish true false e = h
-  created name wish true true e = opened (new_queue w at name wish) refl (created-other name wish.redrive_policy e)
-
 -- ---- every step
 
+-- a command sets no policy that names its queue, and a queue opens with none
+abbrev Aims : World → WorldChange → Type 0
+Aims w (Performs uid command) = Sets uid command
+Aims w (Opens name settings) = names_uid w.next_uid settings.redrive_policy ≡ false
+Aims w change = ⊤
+
+module _ (w : World) (at : ℕ) (h : AreAimed w) where
+  after_change : (change : WorldChange) (answer : Answer) → Aims w change → AreAimed (world_changed w at change answer)
+  after_change Nothing answer aims = h
+  after_change (Performs uid command) answer aims = commanded w at answer h uid command aims
+  after_change (Opens name settings) answer aims =
+      either-aimed (is_out_of_memory answer) w (with_queue w (next_queue w at name settings [])) h (opened w at h (next_queue w at name settings []) refl aims)
+  after_change (Closes uid) answer aims =
+      either-aimed (is_out_of_memory answer) (with_queue_changed w uid (λ q. at_moment q at)) (without_queue w uid) (changed-aimed w uid (λ q. at_moment q at) (λ q is k. k) h)
+      (All-filter (λ q. not (nat_eq q.uid uid)) (λ q. IsAimed w.next_uid q) w.queues h)
+  after_change Passes answer aims =
+      All-map (λ q. IsAimed w.next_uid q) (λ q. at_moment q at) w.queues (All-weaker (λ q. IsAimed w.next_uid q) (λ q. IsAimed w.next_uid (at_moment q at)) (λ q k. k) w.queues h)
+
+  created-aims : (name : List ℕ) (wish : RequestedAttributes) (may place : Bool) → may_name_target w name wish ≡ may
+      → Aims w (cond (may && place) (Opens name (settings_with default_settings wish (target_uid w wish))) Nothing)
+  created-aims name wish false place e = tt
+  created-aims name wish true false e = tt
+  created-aims name wish true true e = created-other w at h name wish.redrive_policy e
+
+module _ (w : World) (at : ℕ) where
+  performed-aims : (uid : ℕ) (command : Command) (o : Option Fault) → step_refusal w uid command ≡ o → Aims w (perform_act at uid command o).change
+  performed-aims uid command (Some fault) e = tt
+  performed-aims uid command None e = performed-sets w uid command e
+
+  delivered-aims : (source : ℕ) (p : Parcel) (b : Bool) → let d : Delivery = cond b (record { uid = p.target; command = commands.Arrive p }) (record { uid = source; command = commands.Orphan p.target }) in Sets d.uid d.command
+  delivered-aims source p true = λ policy wish target is k. absurd cc
+  delivered-aims source p false = λ policy wish target is k. absurd cc
+
+  handed-aims : (source : ℕ) (o : Option Parcel) → Aims w (hand_over_act w at source o).change
+  handed-aims source None = tt
+  handed-aims source (Some p) = delivered-aims source p (has_queue w p.target)
+
+  confirmed-aims : (source : ℕ) (o : Option ℕ) → Aims w (confirm_act at source o).change
+  confirmed-aims source None = tt
+  confirmed-aims source (Some n) = λ policy wish target is k. absurd cc
+
+step-aims : (w : World) (step : HouseStep) → AreAimed w → Aims w (act_of w step).change
+step-aims w (steps.Create at name wish) h = created-aims w at h name wish (may_name_target w name wish) _ refl
+step-aims w (steps.Delete at uid) h = tt
+step-aims w (steps.Perform at uid command) h = performed-aims w at uid command (step_refusal w uid command) refl
+step-aims w (steps.HandOver at source) h = handed-aims w at source (first_parcel_in w source)
+step-aims w (steps.Confirm at source) h = confirmed-aims w at source (accepted_number w source)
+step-aims w (steps.Advance at) h = tt
+
 after_step : (w : World) (step : HouseStep) (answer : Answer) → AreAimed w → AreAimed (world_after w step answer)
-after_step w (steps.Create at name wish) answer h =
-    either-aimed (is_out_of_memory answer) w (cond (opens_queue w name wish) (with_queue w (new_queue w at name wish)) w) h
-    (created w at h name wish (may_name_target w name wish) _ refl)
-after_step w (steps.Delete at uid) answer h =
-    either-aimed (is_out_of_memory answer) (with_queue_changed w uid (λ q. at_moment q at)) (without_queue w uid) (changed-aimed w uid (λ q. at_moment q at) (λ q is k. k) h)
-    (All-filter (λ q. not (nat_eq q.uid uid)) (λ q. IsAimed w.next_uid q) w.queues h)
-after_step w (steps.Perform at uid command) answer h = performed w uid at command answer h (step_refusal w uid command) refl
-after_step w (steps.HandOver at source) (Ok (replies.HandedOver answer)) h = handed w at answer h source (first_parcel_in w source)
-after_step w (steps.HandOver at source) answer h = h
-after_step w (steps.Confirm at source) answer h = confirmed w at answer h source (accepted_number w source)
-after_step w (steps.Advance at) answer h =
-    All-map (λ q. IsAimed w.next_uid q) (λ q. at_moment q at) w.queues (All-weaker (λ q. IsAimed w.next_uid q) (λ q. IsAimed w.next_uid (at_moment q at)) (λ q k. k) w.queues h)
+after_step w step answer h = after_change w (act_of w step).at h (act_of w step).change answer (step-aims w step h)
 
 after_all : (w : World) (steps : List HouseStep) (answers : List Answer) → AreAimed w → AreAimed (world_after_all w steps answers)
 after_all w [] answers h = h

@@ -1,17 +1,18 @@
 -- A registry as the laws of dead letters see it, and what a step does to it: at most one journal gets one entry more.
-use Rattle.std.proofs.Common.{◌≡◌, ℕ, Bool, true, false, List, [], Some, unwrap_or, sym, subst, inl, inr}
+use Rattle.std.proofs.Common.{◌≡◌, ℕ, Bool, true, false, List, [], Some, unwrap_or, refl, sym, subst, inl, inr}
 use Rattle.std.specs.Prelude.{⊤}
 use Rattle.std.specs.List.{Contains}
 use Rattle.std.proofs.lemmas.Bool.{cases_eq}
 use Rattle.message.specs.Content.{ContentText}
 use Rattle.queue_config.specs.Settings.{QueueSettings}
 use Rattle.journal.specs.declared.entry.Event.{Event}
-use Rattle.journal.specs.declared.entry.Event.TheVariants.{Opened, Sent, Arrived, Received, Changed, Deleted, DeletedAgain, Purged, Set, Settled, Orphaned, Refused, Closed}
+use Rattle.journal.specs.declared.entry.Event.TheVariants.{Opened, Arrived, Received, Settled, Orphaned, Closed, Base}
 use Rattle.journal.specs.declared.entry.Origin.{Origin}
 use Rattle.queue_core.specs.declared.facts.Message.{Message}
 use Rattle.queue_core.specs.declared.facts.Status.TheVariants.{Present}
 use Rattle.queue_core.specs.Messages.{contains_number, message_id, pending_transfers, has_accepted}
 use Rattle.queue_core.specs.States.{message_numbered}
+use Rattle.queue_core.proofs.Scans.{StandsAlone}
 use Rattle.redrive.specs.World.{has_queue}
 use Rattle.redrive.specs.History.{AllQueues, journal_of}
 use Rattle.redrive.specs.Places.{status_numbered}
@@ -52,7 +53,13 @@ IsStep v u (Received timeout offered leaving target) = ArePresent (v.lines u) le
 IsStep v u (Settled number) = IsSettling v u number
 IsStep v u (Orphaned target) = v.is_open target ≡ false
 IsStep v u Closed = ⊥
+IsStep v u (Base base) = ⊥
 IsStep v u event = ⊤
+
+-- it is no checkpoint
+pub step_alone : (v : View) (u : ℕ) (event : Event ContentText) → IsStep v u event → StandsAlone event
+step_alone v u (Base base) step = absurd step
+step_alone v u event step = refl
 
 -- the journal of a uid gets an entry more
 pub record Grows (v v' : View) (u : ℕ) (e : Line) : Type 0 where

@@ -4,8 +4,7 @@ use Rattle.std.specs.Prelude.{⊤, ◌⊎◌, MatchBool, nat_eq, is_some, option
 use Rattle.std.specs.List.{find, Contains}
 use Rattle.std.specs.Option.{option_map, option_map_or, option_or}
 use Rattle.std.proofs.lemmas.Bool.{ne_eqb, false≢true, eq-eqb}
-use Rattle.std.proofs.lemmas.List.Folds.{find-append}
-use Rattle.std.proofs.lemmas.Option.{none-some}
+use Rattle.std.proofs.lemmas.Option.{none-some, same_Some, option_and_then_some}
 use Rattle.message.specs.declared.fault.Fault.{Fault}
 use Rattle.message.specs.declared.fault.Fault.TheVariants.{QueueDoesNotExist, InvalidAttributeValue, UnsupportedOperation}
 use Rattle.message.specs.Content.{ContentText}
@@ -13,30 +12,32 @@ use Rattle.message.specs.Fault.{Meets, is_out_of_memory}
 use Rattle.queue_config.specs.AlarmRules.{Rule}
 use Rattle.queue_config.specs.Settings.{QueueSettings, default_settings, settings_with}
 use Rattle.journal.specs.declared.entry.Event.{Event}
-use Rattle.journal.specs.declared.entry.Event.TheVariants.{Opened, Sent, Arrived, Received, Changed, Deleted, DeletedAgain, Purged, Set, Settled, Orphaned, Refused, Closed}
+use Rattle.journal.specs.declared.entry.Event.TheVariants.{Opened, Arrived, Received, Deleted, Set, Settled, Orphaned, Closed, Base}
 use Rattle.queue_core.specs.declared.command.Command.{Command}
 use Rattle.queue_core.specs.declared.command.Command.TheVariants as commands
 use Rattle.queue_core.specs.declared.facts.Message.{Message}
 use Rattle.queue_core.specs.declared.parcel.Parcel.{Parcel}
 use Rattle.queue_core.specs.Messages.{message_id, pending_transfers, has_accepted}
 use Rattle.queue_core.specs.States.{message_numbered}
-use Rattle.queue_core.specs.Queue.{QueueHistory, at_moment, outcome_at, after_answer, first_parcel_of}
+use Rattle.queue_core.specs.Queue.{QueueHistory, at_moment, first_parcel_of}
+use Rattle.queue_core.specs.Whole.{whole_after}
 use Rattle.queue_core.specs.Kept.{opened_queue}
-use Rattle.redrive.specs.declared.moved.Moved.{Moved}
-use Rattle.redrive.specs.declared.steps.HouseReply.{HouseReply}
 use Rattle.redrive.specs.declared.steps.HouseReply.TheVariants as replies
 use Rattle.redrive.specs.declared.steps.HouseStep.{HouseStep}
 use Rattle.redrive.specs.declared.steps.HouseStep.TheVariants as steps
-use Rattle.redrive.specs.World.{World, queue_of_uid, has_queue, with_queue, with_queue_changed, world_after_command, without_queue, closed_queue, is_internal, may_set, step_refusal, step_answer, first_parcel_in, Delivery, delivery_of, hand_over_answer, is_accepted, confirm_answer, target_uid, opens_queue, new_queue, create_answer, take_answer, world_at_moment}
+use Rattle.redrive.specs.World.{World, queue_of_uid, has_queue, with_queue, next_queue, with_queue_changed, without_queue, closed_queue, taken_alone, is_internal, may_set, step_refusal, first_parcel_in, Delivery, is_accepted, accepted_number, target_uid, opens_queue, world_at_moment}
 use Rattle.redrive.specs.History.{AllQueues, journal_of, was_accepted}
-use Rattle.redrive.specs.WorldRun.{Answer, as_house_reply, answer_of_step, if_there, with_deleted, all_after, MeetsAnswer}
-use Rattle.redrive.specs.HistorySteps.{HistoryStep, Own, Settle, IsHistoryAnswer, after_history_step}
+use Rattle.redrive.specs.WorldRun.{Answer, as_house_reply, WorldChange, Act, perform_act, hand_over_act, confirm_act, act_of}
+use Rattle.redrive.specs.WorldRun as run
+use Rattle.redrive.specs.HistorySteps.{HistoryStep, Own, Settle, settled_number}
+use Rattle.redrive.specs.WholeSteps.{with_command, whole_changed, whole_after_step}
 use Rattle.redrive.proofs.transfers.Journals.{Line, Lines, more}
-use Rattle.redrive.proofs.transfers.Views.{View, view_of, IsStep, Grows, IsOpened, Change, Stays, Steps, Opens, Closes, by_uid}
+use Rattle.redrive.proofs.transfers.Views.{View, view_of, IsSettling, IsStep, Grows, IsOpened, Change, Stays, Steps, Opens, Closes, by_uid}
 use Rattle.redrive.proofs.KeyedLemmas.{find-map, find-passes, find-without, find-without_other}
-use Rattle.redrive.proofs.RegistryLemmas.{after_answer-uid}
-use Rattle.redrive.proofs.StepLemmas.{or-none}
-use Rattle.redrive.proofs.transfers.Commands.{IsAdded, after_answer-lines, IsOwn, own-at, arrived-at, settled-at, orphaned-at, handed}
+use Rattle.redrive.proofs.RegistryLemmas.{whole_after-uid, changed-queue, changed-none, without-none}
+use Rattle.redrive.proofs.AnswerLemmas.{no_queue}
+use Rattle.redrive.proofs.StepLemmas.{opened-queue}
+use Rattle.redrive.proofs.transfers.Commands.{IsAdded, whole_event, whole_after-lines, IsOwn, own-at, arrived-at, settled-at, orphaned-at, some_first, handed}
 
 -- ---- finding queues
 
@@ -53,38 +54,22 @@ module _ (all : AllQueues) (uid : ℕ) (change : QueueHistory → QueueHistory) 
   abbrev changed : AllQueues
   changed = record { world = with_queue_changed all.world uid change; deleted = all.deleted }
 
-  abbrev at_uid : QueueHistory → QueueHistory
-  at_uid q = cond (nat_eq q.uid uid) (change q) q
+  found-here : (q : QueueHistory) → queue_of_uid all.world uid ≡ Some q → queue_of_uid changed.world uid ≡ Some (change q)
+  found-here q h = changed-queue all.world uid uid change true keeps (eq-eqb uid uid refl) ∙ ap (option_map change) h
 
-  at_uid-uid : (b : Bool) (q : QueueHistory) → (cond b (change q) q).uid ≡ q.uid
-  at_uid-uid true q = keeps q
-  at_uid-uid false q = refl
+  found-other : (u : ℕ) → (u ≡ uid → ⊥) → queue_of_uid changed.world u ≡ queue_of_uid all.world u
+  found-other u differs = changed-queue all.world uid u change false keeps (ne_eqb uid u (λ e. differs (sym e)))
 
-  found-changed : (u : ℕ) → queue_of_uid changed.world u ≡ option_map at_uid (queue_of_uid all.world u)
-  found-changed u = find-map (λ q. nat_eq q.uid u) at_uid (λ q. ap (λ (k : ℕ). nat_eq k u) (at_uid-uid (nat_eq q.uid uid) q)) all.world.queues
-
-  open-map : (o : Option QueueHistory) → is_some (option_map at_uid o) ≡ is_some o
-  open-map None = refl
-  open-map (Some q) = refl
+  open-if : (b : Bool) (o : Option QueueHistory) → is_some (cond b (option_map change o) o) ≡ is_some o
+  open-if true None = refl
+  open-if true (Some q) = refl
+  open-if false o = refl
 
   open-changed : (u : ℕ) → has_queue changed.world u ≡ has_queue all.world u
-  open-changed u = ap is_some (found-changed u) ∙ open-map (queue_of_uid all.world u)
-
-  other-found : (u : ℕ) → (u ≡ uid → ⊥) → (o : Option QueueHistory) → queue_of_uid all.world u ≡ o → option_map at_uid o ≡ o
-  other-found u differs None h = refl
-  other-found u differs (Some q) h = rw (ne_eqb q.uid uid (λ e. differs (sym (uid_of_open all.world u q h) ∙ e))) refl
+  open-changed u = ap is_some (changed-queue all.world uid u change (nat_eq uid u) keeps refl) ∙ open-if (nat_eq uid u) (queue_of_uid all.world u)
 
   lines-other : (u : ℕ) → (u ≡ uid → ⊥) → (view_of changed).lines u ≡ (view_of all).lines u
-  lines-other u differs =
-      ap (λ (o : Option QueueHistory). journal_found o (find (λ q. nat_eq q.uid u) all.deleted)) (found-changed u ∙ other-found u differs (queue_of_uid all.world u) refl)
-
-  found-here : (q : QueueHistory) → queue_of_uid all.world uid ≡ Some q → queue_of_uid changed.world uid ≡ Some (change q)
-  found-here q h = found-changed uid ∙ (ap (option_map at_uid) h ∙ ap (λ b. Some (cond b (change q) q)) (eq-eqb q.uid uid (uid_of_open all.world uid q h)))
-
-  found-absent : queue_of_uid all.world uid ≡ None → (u : ℕ) → queue_of_uid changed.world u ≡ queue_of_uid all.world u
-  found-absent h u =
-      by_uid u uid (λ w. queue_of_uid changed.world w ≡ queue_of_uid all.world w) (found-changed uid ∙ (ap (option_map at_uid) h ∙ sym h))
-      (λ differs. found-changed u ∙ other-found u differs (queue_of_uid all.world u) refl)
+  lines-other u differs = ap (λ (o : Option QueueHistory). journal_found o (find (λ q. nat_eq q.uid u) all.deleted)) (found-other u differs)
 
 pub lines_there : (all : AllQueues) (u : ℕ) (q : QueueHistory) → queue_of_uid all.world u ≡ Some q → (view_of all).lines u ≡ q.lines
 lines_there all u q h = ap (λ (o : Option QueueHistory). journal_found o (find (λ q. nat_eq q.uid u) all.deleted)) h
@@ -102,30 +87,20 @@ pub record LeadsTo (ending : ℕ → Type 0) (all after : AllQueues) : Type 0 wh
   pub change : Change ending (view_of all) (view_of after)
   pub fresh : IsFresh after
 
--- every queue is found with the journal that it had
-stays-found : {ending : ℕ → Type 0} → (all : AllQueues) (w : World) → ((u : ℕ) → queue_of_uid w u ≡ queue_of_uid all.world u) → Change ending (view_of all) (view_of (record { world = w; deleted = all.deleted }))
-stays-found all w h =
-    Stays (λ u. ap (λ (o : Option QueueHistory). journal_found o (find (λ q. nat_eq q.uid u) all.deleted)) (h u)) (λ u. ap is_some (h u))
-
 nothing-led : {ending : ℕ → Type 0} → (all : AllQueues) → IsFresh all → LeadsTo ending all all
 nothing-led all fresh = record { change = Stays (λ u. refl) (λ u. refl); fresh = fresh }
 
-either-led : {ending : ℕ → Type 0} → (all : AllQueues) (b : Bool) (x y : World) (deleted : List QueueHistory) → LeadsTo ending all (record { world = x; deleted = deleted }) → LeadsTo ending all (record { world = y; deleted = deleted })
-    → LeadsTo ending all (record { world = cond b x y; deleted = deleted })
-either-led all true x y deleted h k = h
-either-led all false x y deleted h k = k
+same-led : {ending : ℕ → Type 0} → (all : AllQueues) (w : World) → w ≡ all.world → IsFresh all → LeadsTo ending all (record { world = w; deleted = all.deleted })
+same-led {ending} all w same fresh = subst (λ (w : World). LeadsTo ending all (record { world = w; deleted = all.deleted })) (sym same) (nothing-led all fresh)
 
 -- ---- a queue that is changed
 
 module _ (all : AllQueues) (uid : ℕ) (change : QueueHistory → QueueHistory) (keeps : (q : QueueHistory) → (change q).uid ≡ q.uid) (fresh : IsFresh all) where
   fresh-changed : IsFresh (changed all uid change keeps)
   fresh-changed = record {
-    none_there = λ u l. found-changed all uid change keeps u ∙ ap (option_map (at_uid all uid change keeps)) (fresh.none_there u l);
+    none_there = λ u l. no_queue (queue_of_uid (with_queue_changed all.world uid change) u) (open-changed all uid change keeps u ∙ ap is_some (fresh.none_there u l));
     none_deleted = fresh.none_deleted;
   }
-
-  led-absent : {ending : ℕ → Type 0} → queue_of_uid all.world uid ≡ None → LeadsTo ending all (changed all uid change keeps)
-  led-absent h = record { change = stays-found all (with_queue_changed all.world uid change) (found-absent all uid change keeps h); fresh = fresh-changed }
 
   lines-changed : (q : QueueHistory) → queue_of_uid all.world uid ≡ Some q → (view_of (changed all uid change keeps)).lines uid ≡ (change q).lines
   lines-changed q h = ap (λ (o : Option QueueHistory). journal_found o (find (λ q. nat_eq q.uid uid) all.deleted)) (found-here all uid change keeps q h)
@@ -144,20 +119,24 @@ module _ (all : AllQueues) (uid : ℕ) (change : QueueHistory → QueueHistory) 
     fresh = fresh-changed;
   }
 
+-- what a command adds to the journal of the queue of a uid is a step
+abbrev Says : AllQueues → ℕ → ℕ → Command → Type 0
+Says all at uid command =
+    (q : QueueHistory) (event : Event ContentText) → queue_of_uid all.world uid ≡ Some q → whole_event q at command ≡ Some event → IsStep (view_of all) uid event
+
 -- a command comes to the queue of a uid, if there is one
-module _ {T : Type 0} (all : AllQueues) (uid at : ℕ) (command : Command) (answer : Result T Fault) (fresh : IsFresh all)
-    (says : (q : QueueHistory) (event : Event ContentText) → queue_of_uid all.world uid ≡ Some q → (outcome_at q at command).event ≡ Some event → IsStep (view_of all) uid event) where
+module _ {T : Type 0} (all : AllQueues) (uid at : ℕ) (command : Command) (answer : Result T Fault) (fresh : IsFresh all) (says : Says all at uid command) where
   command-added : {ending : ℕ → Type 0} → (q : QueueHistory) → queue_of_uid all.world uid ≡ Some q
-      → ((after_answer q at command answer).lines ≡ q.lines) ⊎ IsAdded (outcome_at q at command).event q.lines (after_answer q at command answer).lines
-      → LeadsTo ending all (record { world = world_after_command all.world uid at command answer; deleted = all.deleted })
-  command-added q h (inl same) = led-same all uid (λ q. after_answer q at command answer) (after_answer-uid at command answer) fresh q h same
-  command-added q h (inr a) = led-more all uid (λ q. after_answer q at command answer) (after_answer-uid at command answer) fresh q a.line h a.is (says q a.line.event h a.added)
+      → ((whole_after q at command answer).lines ≡ q.lines) ⊎ IsAdded (whole_event q at command) q.lines (whole_after q at command answer).lines
+      → LeadsTo ending all (with_command all uid at command answer)
+  command-added q h (inl same) = led-same all uid (λ q. whole_after q at command answer) (whole_after-uid at command answer) fresh q h same
+  command-added q h (inr a) = led-more all uid (λ q. whole_after q at command answer) (whole_after-uid at command answer) fresh q a.line h a.is (says q a.line.event h a.added)
 
-  command-found : {ending : ℕ → Type 0} → (o : Option QueueHistory) → queue_of_uid all.world uid ≡ o → LeadsTo ending all (record { world = world_after_command all.world uid at command answer; deleted = all.deleted })
-  command-found None h = led-absent all uid (λ q. after_answer q at command answer) (after_answer-uid at command answer) fresh h
-  command-found (Some q) h = command-added q h (after_answer-lines q at command answer)
+  command-found : {ending : ℕ → Type 0} → (o : Option QueueHistory) → queue_of_uid all.world uid ≡ o → LeadsTo ending all (with_command all uid at command answer)
+  command-found None h = same-led all (with_queue_changed all.world uid (λ q. whole_after q at command answer)) (changed-none all.world uid (λ q. whole_after q at command answer) h) fresh
+  command-found (Some q) h = command-added q h (whole_after-lines q at command answer)
 
-  command-led : {ending : ℕ → Type 0} → LeadsTo ending all (record { world = world_after_command all.world uid at command answer; deleted = all.deleted })
+  command-led : {ending : ℕ → Type 0} → LeadsTo ending all (with_command all uid at command answer)
   command-led = command-found (queue_of_uid all.world uid) refl
 
 -- ---- performing a command
@@ -174,16 +153,13 @@ own-step v u (Received timeout offered leaving target) h = h
 own-step v u (Settled number) h = absurd h
 own-step v u (Orphaned target) h = absurd h
 own-step v u Closed h = h
+own-step v u (Base base) h = h
 own-step v u event h = h
 
-module _ {T : Type 0} (all : AllQueues) (uid at : ℕ) (command : Command) (answer : Result T Fault) (fresh : IsFresh all) where
-  performed-refused : {ending : ℕ → Type 0} → (r : Option Fault) → step_refusal all.world uid command ≡ r
-      → LeadsTo ending all (record { world = option_map_or (λ fault. all.world) r (world_after_command all.world uid at command answer); deleted = all.deleted })
-  performed-refused (Some fault) e = nothing-led all fresh
-  performed-refused None e =
-      let external : is_internal command ≡ false = same-not_internal (has_queue all.world uid) (is_internal command) (may_set all.world uid command) UnsupportedOperation InvalidAttributeValue QueueDoesNotExist e in
-      command-led all uid at command answer fresh (λ q event h added.
-      own-step (view_of all) uid event (subst (λ (ls : Lines). IsOwn ls event) (sym (lines_there all uid q h)) (own-at q at event command external added)))
+performed-says : (all : AllQueues) (uid at : ℕ) (command : Command) → step_refusal all.world uid command ≡ None → Says all at uid command
+performed-says all uid at command e q event h added =
+    let external : is_internal command ≡ false = same-not_internal (has_queue all.world uid) (is_internal command) (may_set all.world uid command) UnsupportedOperation InvalidAttributeValue QueueDoesNotExist e in
+    own-step (view_of all) uid event (subst (λ (ls : Lines). IsOwn ls event) (sym (lines_there all uid q h)) (own-at q at event command external added))
 
 -- ---- handing over, and confirming
 
@@ -208,12 +184,12 @@ parcel_of_found all source (Some q) p e h =
       message = x.message;
       numbered = subst (λ (l : Lines). message_numbered l p.origin.number ≡ Some x.message) ls x.numbered;
       named = subst (λ (k : ℕ). message_id k x.message ≡ p.origin.id) u x.named;
-      pending = subst (λ (l : Lines). Contains (pending_transfers l) (record { number = p.origin.number; target = p.target })) ls x.pending;
+      pending = subst (λ (l : Lines). Contains (pending_transfers l) (record { number = p.origin.number; target = p.target })) ls (some_first q.lines (record { number = p.origin.number; target = p.target }) x.first);
     }
 
-module _ {T : Type 0} (all : AllQueues) (source at : ℕ) (answer : Result T Fault) (fresh : IsFresh all) (p : Parcel) (its : IsParcelOf all source p) where
-  arrival-step : (q : QueueHistory) (event : Event ContentText) → queue_of_uid all.world p.target ≡ Some q → (outcome_at q at (commands.Arrive p)).event ≡ Some event → IsStep (view_of all) p.target event
-  arrival-step q event h added =
+module _ (all : AllQueues) (source at : ℕ) (p : Parcel) (its : IsParcelOf all source p) where
+  arrival-says : Says all at p.target (commands.Arrive p)
+  arrival-says q event h added =
       let a = arrived-at q at event p added in
       let back : source ≡ p.origin.uid = sym its.uid in
       subst (IsStep (view_of all) p.target) (sym a.is)
@@ -226,11 +202,10 @@ module _ {T : Type 0} (all : AllQueues) (source at : ℕ) (answer : Result T Fau
         unaccepted = ap (λ (ls : Lines). has_accepted ls p.origin.uid p.origin.number) (lines_there all p.target q h) ∙ a.first;
       })
 
-  delivered-led : {ending : ℕ → Type 0} → (b : Bool) → has_queue all.world p.target ≡ b → let d : Delivery = cond b (record { uid = p.target; command = commands.Arrive p }) (record { uid = source; command = commands.Orphan p.target }) in
-      LeadsTo ending all (record { world = world_after_command all.world d.uid at d.command answer; deleted = all.deleted })
-  delivered-led true e = command-led all p.target at (commands.Arrive p) answer fresh arrival-step
-  delivered-led false e =
-      command-led all source at (commands.Orphan p.target) answer fresh (λ q event h added. subst (IsStep (view_of all) source) (sym (orphaned-at q at event p.target added)) e)
+  delivered-says : (b : Bool) → has_queue all.world p.target ≡ b → let d : Delivery = cond b (record { uid = p.target; command = commands.Arrive p }) (record { uid = source; command = commands.Orphan p.target }) in
+      Says all at d.uid d.command
+  delivered-says true e = arrival-says
+  delivered-says false e = λ q event h added. subst (IsStep (view_of all) source) (sym (orphaned-at q at event p.target added)) e
 
   accepted-there : (o : Option QueueHistory) → queue_of_uid all.world p.target ≡ o → option_map_or (λ q. has_accepted q.lines p.origin.uid p.origin.number) o false ≡ true
       → has_accepted ((view_of all).lines p.target) source p.origin.number ≡ true
@@ -238,51 +213,25 @@ module _ {T : Type 0} (all : AllQueues) (source at : ℕ) (answer : Result T Fau
   accepted-there (Some q) e h =
       ap (λ (ls : Lines). has_accepted ls source p.origin.number) (lines_there all p.target q e) ∙ subst (λ (u : ℕ). has_accepted q.lines u p.origin.number ≡ true) its.uid h
 
-  settled-led : {ending : ℕ → Type 0} → (b : Bool) → (b ≡ true → has_accepted ((view_of all).lines p.target) source p.origin.number ≡ true)
-      → LeadsTo ending all (record { world = option_map_or (λ number. world_after_command all.world source at (commands.Settle number) answer) (cond b (Some p.origin.number) None) all.world; deleted = all.deleted })
-  settled-led false e = nothing-led all fresh
-  settled-led true e =
-      command-led all source at (commands.Settle p.origin.number) answer fresh (λ q event h added.
-      subst (IsStep (view_of all) source) (sym (settled-at q at event p.origin.number added))
-      (record { target = p.target; pending = its.pending; accepted = e refl }))
-
 accepted-ever : (o : Option Lines) (u n : ℕ) → option_map_or (λ lines. has_accepted lines u n) o false ≡ true → has_accepted (unwrap_or o []) u n ≡ true
 accepted-ever None u n h = h
 accepted-ever (Some lines) u n h = h
 
-module _ {T : Type 0} (all : AllQueues) (source at : ℕ) (answer : Result T Fault) (fresh : IsFresh all) where
-  handed_over-led : {ending : ℕ → Type 0} → (o : Option Parcel) → first_parcel_in all.world source ≡ o
-      → LeadsTo ending all (record { world = option_map_or (λ p. world_after_command all.world (delivery_of all.world source p).uid at (delivery_of all.world source p).command answer) o all.world; deleted = all.deleted })
-  handed_over-led None e = nothing-led all fresh
-  handed_over-led (Some p) e = delivered-led all source at answer fresh p (parcel_of_found all source (queue_of_uid all.world source) p refl e) (has_queue all.world p.target) refl
-
-  confirmation-led : {ending : ℕ → Type 0} → (o : Option Parcel) → first_parcel_in all.world source ≡ o
-      → LeadsTo ending all (record {
-        world = option_map_or (λ number. world_after_command all.world source at (commands.Settle number) answer) (option_and_then (λ p. cond (is_accepted all.world p) (Some p.origin.number) None) o) all.world;
-        deleted = all.deleted;
-      })
-  confirmation-led None e = nothing-led all fresh
-  confirmation-led (Some p) e =
-      let its : IsParcelOf all source p = parcel_of_found all source (queue_of_uid all.world source) p refl e in
-      settled-led all source at answer fresh p its (is_accepted all.world p) (accepted-there all source at answer fresh p its (queue_of_uid all.world p.target) refl)
-
-  -- the same, where deleted queues are asked too
-  late-led : {ending : ℕ → Type 0} → (o : Option Parcel) → first_parcel_in all.world source ≡ o
-      → LeadsTo ending all (record {
-        world = option_map_or (λ number. world_after_command all.world source at (commands.Settle number) answer)
-            (option_and_then (λ p. cond (was_accepted all p.target p.origin.uid p.origin.number) (Some p.origin.number) None) o) all.world;
-        deleted = all.deleted;
-      })
-  late-led None e = nothing-led all fresh
-  late-led (Some p) e =
-      let its : IsParcelOf all source p = parcel_of_found all source (queue_of_uid all.world source) p refl e in
-      settled-led all source at answer fresh p its (was_accepted all p.target p.origin.uid p.origin.number)
-      (λ h. subst (λ (u : ℕ). has_accepted ((view_of all).lines p.target) u p.origin.number ≡ true) its.uid (accepted-ever (journal_of all p.target) p.origin.uid p.origin.number h))
+-- the number of the first parcel, where its queue has accepted it
+module _ (all : AllQueues) (source at : ℕ) (accepted : Parcel → Bool)
+    (known : (p : Parcel) → IsParcelOf all source p → accepted p ≡ true → has_accepted ((view_of all).lines p.target) source p.origin.number ≡ true) where
+  settled-says : (n : ℕ) → option_and_then (λ p. cond (accepted p) (Some p.origin.number) None) (first_parcel_in all.world source) ≡ Some n → Says all at source (commands.Settle n)
+  settled-says n h =
+      option_and_then_some (λ p. cond (accepted p) (Some p.origin.number) None) (first_parcel_in all.world source) n h
+      (λ p first k. by_test p (parcel_of_found all source (queue_of_uid all.world source) p refl first) (accepted p) refl k)
+    where
+      by_test : (p : Parcel) → IsParcelOf all source p → (b : Bool) → accepted p ≡ b → cond b (Some p.origin.number) None ≡ Some n → Says all at source (commands.Settle n)
+      by_test p its true e is q event h added =
+          subst (IsStep (view_of all) source) (sym (settled-at q at event n added))
+          (subst (λ (k : ℕ). IsSettling (view_of all) source k) (same_Some p.origin.number n is) (record { target = p.target; pending = its.pending; accepted = known p its e }))
+      by_test p its false e is q event h added = absurd (none-some n is)
 
 -- ---- opening a queue
-
-found-no_last : (u : ℕ) (q : QueueHistory) → (u ≡ q.uid → ⊥) → find (λ q. nat_eq q.uid u) (q ∷ []) ≡ None
-found-no_last u q h = ap (λ b. cond b (Some q) None) (ne_eqb q.uid u (λ e. h (sym e)))
 
 module _ (all : AllQueues) (at : ℕ) (name : List ℕ) (settings : QueueSettings) (rules : List Rule) (fresh : IsFresh all) where
   abbrev pub opened : QueueHistory
@@ -295,15 +244,10 @@ module _ (all : AllQueues) (at : ℕ) (name : List ℕ) (settings : QueueSetting
   with_opened = record { world = with_queue all.world opened; deleted = all.deleted }
 
   found-others : (u : ℕ) → (u ≡ all.world.next_uid → ⊥) → queue_of_uid with_opened.world u ≡ queue_of_uid all.world u
-  found-others u differs =
-      find-append (λ q. nat_eq q.uid u) all.world.queues (opened ∷ [])
-      ∙ (ap (λ (o : Option QueueHistory). option_or (queue_of_uid all.world u) o) (found-no_last u opened differs) ∙ or-none (queue_of_uid all.world u))
+  found-others u differs = opened-queue all.world u opened false (ne_eqb all.world.next_uid u (λ e. differs (sym e))) (fresh.none_there all.world.next_uid (omega arith))
 
   found-opened : queue_of_uid with_opened.world all.world.next_uid ≡ Some opened
-  found-opened =
-      find-append (λ q. nat_eq q.uid all.world.next_uid) all.world.queues (opened ∷ [])
-      ∙ (ap (λ (o : Option QueueHistory). option_or o (find (λ q. nat_eq q.uid all.world.next_uid) (opened ∷ []))) (fresh.none_there all.world.next_uid (omega arith))
-      ∙ ap (λ b. cond b (Some opened) None) (eq-eqb all.world.next_uid all.world.next_uid refl))
+  found-opened = opened-queue all.world all.world.next_uid opened true (eq-eqb all.world.next_uid all.world.next_uid refl) (fresh.none_there all.world.next_uid (omega arith))
 
   unused : (view_of all).lines all.world.next_uid ≡ []
   unused =
@@ -341,12 +285,6 @@ module _ (all : AllQueues) (uid at : ℕ) (fresh : IsFresh all) where
   none-left u h =
       by_uid u uid (λ w. queue_of_uid (without_queue all.world uid) w ≡ None) found-out (λ differs. found-left u differs ∙ h)
 
-  absent-led : {ending : ℕ → Type 0} → queue_of_uid all.world uid ≡ None → LeadsTo ending all (record { world = without_queue all.world uid; deleted = all.deleted })
-  absent-led h = record {
-    change = stays-found all (without_queue all.world uid) (λ u. by_uid u uid (λ w. queue_of_uid (without_queue all.world uid) w ≡ queue_of_uid all.world w) (found-out ∙ sym h) (λ differs. found-left u differs));
-    fresh = record { none_there = λ u l. none-left u (fresh.none_there u l); none_deleted = fresh.none_deleted };
-  }
-
   module _ (q : QueueHistory) (here : queue_of_uid all.world uid ≡ Some q) where
     abbrev closed : AllQueues
     closed = record { world = without_queue all.world uid; deleted = closed_queue q at ∷ all.deleted }
@@ -383,60 +321,7 @@ module _ (all : AllQueues) (uid at : ℕ) (fresh : IsFresh all) where
       };
     }
 
--- ---- every step
-
--- the answer wanted is no deletion
-not_deleted : (answer wanted : Answer) (deleted : List QueueHistory) → MeetsAnswer answer wanted → ((q : QueueHistory) → wanted ≡ Ok (replies.Deleted q) → ⊥) → with_deleted answer deleted ≡ deleted
-not_deleted (Err fault) wanted deleted h f = refl
-not_deleted (Ok (replies.Created uid)) wanted deleted h f = refl
-not_deleted (Ok (replies.Deleted q)) wanted deleted h f = absurd (f q (sym h))
-not_deleted (Ok (replies.Performed reply)) wanted deleted h f = refl
-not_deleted (Ok (replies.HandedOver answer)) wanted deleted h f = refl
-not_deleted (Ok (replies.Confirmed reply)) wanted deleted h f = refl
-not_deleted (Ok replies.Advanced) wanted deleted h f = refl
-
--- what meets an answer that is no handing over is the answer, or want of memory
-plain : (answer wanted : Answer) → MeetsAnswer answer wanted → ((a : Result Moved Fault) → wanted ≡ Ok (replies.HandedOver a) → ⊥) → Meets answer wanted
-plain (Ok (replies.HandedOver a)) (Ok (replies.HandedOver b)) h f = absurd (f b refl)
-plain answer wanted h f = h
-
-with_same : {ending : ℕ → Type 0} → (all : AllQueues) (w : World) (answer : Answer) → with_deleted answer all.deleted ≡ all.deleted → LeadsTo ending all (record { world = w; deleted = all.deleted })
-    → LeadsTo ending all (record { world = w; deleted = with_deleted answer all.deleted })
-with_same all w answer same h = rw same h
-
-other_kind : {T : Type 0} (reply : T → HouseReply) (r : Result T Fault) → ((x : T) (q : QueueHistory) → reply x ≡ replies.Deleted q → ⊥) → (q : QueueHistory) → as_house_reply reply r ≡ Ok (replies.Deleted q) → ⊥
-other_kind reply (Ok x) f q e = f x q (let same : reply x ≡ replies.Deleted q = cc in same)
-other_kind reply (Err fault) f q e = absurd cc
-
-not_there : (b : Bool) (answer : Answer) → ((q : QueueHistory) → answer ≡ Ok (replies.Deleted q) → ⊥) → (q : QueueHistory) → cond b answer (Err QueueDoesNotExist) ≡ Ok (replies.Deleted q) → ⊥
-not_there true answer f q e = f q e
-not_there false answer f q e = absurd cc
-
--- what is known where the answer is no fault
-abbrev AtOk : Answer → Type 0 → Type 0
-AtOk (Ok reply) P = P
-AtOk (Err fault) P = ⊤
-
-module _ (all : AllQueues) (uid at : ℕ) (fresh : IsFresh all) where
-  moved-led : {ending : ℕ → Type 0} → (q : QueueHistory) → queue_of_uid all.world uid ≡ Some q → LeadsTo ending all (record { world = with_queue_changed all.world uid (λ q. at_moment q at); deleted = all.deleted })
-  moved-led q here = led-same all uid (λ q. at_moment q at) (λ q. refl) fresh q here refl
-
-  refused-led : {ending : ℕ → Type 0} → (q : QueueHistory) → queue_of_uid all.world uid ≡ Some q → (fault : Fault) (b : Bool) → MatchBool b ⊤ (◌≡◌ {A = Answer} (Err fault) (Ok (replies.Deleted (closed_queue q at))))
-      → LeadsTo ending all (record { world = cond b (with_queue_changed all.world uid (λ q. at_moment q at)) (without_queue all.world uid); deleted = all.deleted })
-  refused-led q here fault true h = moved-led q here
-  refused-led q here fault false h = absurd cc
-
-  deletion-led : {ending : ℕ → Type 0} → (answer : Answer) (o : Option QueueHistory) → queue_of_uid all.world uid ≡ o → AtOk answer (ending uid)
-      → Meets answer (as_house_reply replies.Deleted (option_map_or (λ q. Ok (closed_queue q at)) o (Err QueueDoesNotExist)))
-      → LeadsTo ending all (record { world = cond (is_out_of_memory answer) (with_queue_changed all.world uid (λ q. at_moment q at)) (without_queue all.world uid); deleted = with_deleted answer all.deleted })
-  deletion-led (Ok reply) None here ends h = absurd cc
-  deletion-led (Err fault) None here ends h =
-      either-led all (is_out_of_memory {T = HouseReply} (Err fault)) (with_queue_changed all.world uid (λ q. at_moment q at)) (without_queue all.world uid) all.deleted
-      (led-absent all uid (λ q. at_moment q at) (λ q. refl) fresh here) (absent-led all uid at fresh here)
-  deletion-led {ending} (Ok reply) (Some q) here ends h =
-      let same : replies.Deleted (closed_queue q at) ≡ reply = cc in
-      subst (λ (r : HouseReply). LeadsTo ending all (record { world = without_queue all.world uid; deleted = with_deleted (Ok r) all.deleted })) same (closed-led all uid at fresh q here ends)
-  deletion-led (Err fault) (Some q) here ends h = refused-led q here fault (is_out_of_memory {T = HouseReply} (Err fault)) h
+-- ---- time
 
 time-led : {ending : ℕ → Type 0} → (all : AllQueues) (at : ℕ) → IsFresh all → LeadsTo ending all (record { world = world_at_moment all.world at; deleted = all.deleted })
 time-led all at fresh = record {
@@ -459,45 +344,87 @@ time-led all at fresh = record {
         → journal_found (queue_of_uid (world_at_moment all.world at) u) (find (λ q. nat_eq q.uid u) all.deleted) ≡ journal_found o (find (λ q. nat_eq q.uid u) all.deleted)
     lines-moved u o e = ap (λ (x : Option QueueHistory). journal_found x (find (λ q. nat_eq q.uid u) all.deleted)) e ∙ same-journal o (find (λ q. nat_eq q.uid u) all.deleted)
 
+-- ---- every change
+
+module _ (ending : ℕ → Type 0) (all : AllQueues) (at : ℕ) where
+  -- what is to be known of a change: what its command adds is a step, and the queue that it closes is known to end
+  abbrev Fits : WorldChange → Answer → Type 0
+  Fits (run.Performs uid command) answer = Says all at uid command
+  Fits (run.Closes uid) answer = (q : QueueHistory) → queue_of_uid all.world uid ≡ Some q → is_out_of_memory answer ≡ false → ending uid
+  Fits change answer = ⊤
+
+  opened-by : (name : List ℕ) (settings : QueueSettings) (failed : Bool) → IsFresh all
+      → LeadsTo ending all (record { world = cond failed all.world (with_queue all.world (next_queue all.world at name settings [])); deleted = all.deleted })
+  opened-by name settings true fresh = nothing-led all fresh
+  opened-by name settings false fresh = opened-led all at name settings [] fresh
+
+  closed-by : (uid : ℕ) (failed : Bool) (o : Option QueueHistory) → queue_of_uid all.world uid ≡ o → ((q : QueueHistory) → queue_of_uid all.world uid ≡ Some q → failed ≡ false → ending uid) → IsFresh all
+      → LeadsTo ending all (record {
+        world = cond failed (with_queue_changed all.world uid (λ q. at_moment q at)) (without_queue all.world uid);
+        deleted = cond failed all.deleted (option_map_or (λ q. closed_queue q at ∷ all.deleted) o all.deleted);
+      })
+  closed-by uid true None here ends fresh = same-led all (with_queue_changed all.world uid (λ q. at_moment q at)) (changed-none all.world uid (λ q. at_moment q at) here) fresh
+  closed-by uid true (Some q) here ends fresh = led-same all uid (λ q. at_moment q at) (λ q. refl) fresh q here refl
+  closed-by uid false None here ends fresh = same-led all (without_queue all.world uid) (without-none all.world uid here) fresh
+  closed-by uid false (Some q) here ends fresh = closed-led all uid at fresh q here (ends q here refl)
+
+  change-led : (change : WorldChange) (answer : Answer) → IsFresh all → Fits change answer → LeadsTo ending all (whole_changed all at change answer)
+  change-led run.Nothing answer fresh fits = nothing-led all fresh
+  change-led (run.Performs uid command) answer fresh fits = command-led all uid at command answer fresh fits
+  change-led (run.Opens name settings) answer fresh fits = opened-by name settings (is_out_of_memory answer) fresh
+  change-led (run.Closes uid) answer fresh fits = closed-by uid (is_out_of_memory answer) (queue_of_uid all.world uid) refl fits fresh
+  change-led run.Passes answer fresh fits = time-led all at fresh
+
+-- ---- every step
+
 -- whether a step with this answer deletes the queue of a uid
-abbrev IsDeletion : HouseStep → Answer → ℕ → Type 0
+abbrev pub IsDeletion : HouseStep → Answer → ℕ → Type 0
 IsDeletion (steps.Delete at own) (Ok reply) uid = own ≡ uid
 IsDeletion step answer uid = ⊥
 
-deletion-known : (at uid : ℕ) (answer : Answer) → AtOk answer (IsDeletion (steps.Delete at uid) answer uid)
-deletion-known at uid (Ok reply) = refl
-deletion-known at uid (Err fault) = tt
+pub deletion-known : (at uid : ℕ) (answer : Answer) (o : Option QueueHistory) (q : QueueHistory) → o ≡ Some q → is_out_of_memory answer ≡ false
+    → Meets answer (as_house_reply replies.Deleted (taken_alone o at)) → IsDeletion (steps.Delete at uid) answer uid
+deletion-known at uid (Ok reply) o q here e meets = refl
+deletion-known at uid (Err fault) o q here e meets =
+    let is : ◌≡◌ {A = Answer} (Err fault) (as_house_reply replies.Deleted (taken_alone o at)) =
+    subst (λ (b : Bool). MatchBool b ⊤ (◌≡◌ {A = Answer} (Err fault) (as_house_reply replies.Deleted (taken_alone o at)))) e meets in
+    let same : ◌≡◌ {A = Answer} (Err fault) (Ok (replies.Deleted (closed_queue q at))) = is ∙ ap (λ (o : Option QueueHistory). as_house_reply replies.Deleted (taken_alone o at)) here in
+    absurd cc
 
-step-led : (all : AllQueues) (step : HouseStep) (answer : Answer) → IsFresh all → MeetsAnswer answer (answer_of_step all.world step) → LeadsTo (IsDeletion step answer) all (all_after all step answer)
-step-led all (steps.Create at name wish) answer fresh meets =
-    with_same all _ answer (not_deleted answer (as_house_reply replies.Created (create_answer all.world name wish)) all.deleted meets (other_kind replies.Created (create_answer all.world name wish) (λ x q e. cc)))
-    (either-led all (is_out_of_memory answer) all.world (cond (opens_queue all.world name wish) (with_queue all.world (new_queue all.world at name wish)) all.world) all.deleted (nothing-led all fresh)
-    (either-led all (opens_queue all.world name wish) (with_queue all.world (new_queue all.world at name wish)) all.world all.deleted
-    (opened-led all at name (settings_with default_settings wish (target_uid all.world wish)) [] fresh) (nothing-led all fresh)))
-step-led all (steps.Delete at uid) answer fresh meets =
-    deletion-led all uid at fresh answer (queue_of_uid all.world uid) refl (deletion-known at uid answer)
-    (plain answer (as_house_reply replies.Deleted (take_answer all.world uid at)) meets (not_handed (take_answer all.world uid at)))
-  where
-    not_handed : (r : Result QueueHistory Fault) (a : Result Moved Fault) → as_house_reply replies.Deleted r ≡ Ok (replies.HandedOver a) → ⊥
-    not_handed (Ok q) a e = cc
-    not_handed (Err fault) a e = cc
-step-led all (steps.Perform at uid command) answer fresh meets =
-    with_same all _ answer
-    (not_deleted answer (as_house_reply replies.Performed (step_answer all.world uid at command)) all.deleted meets (other_kind replies.Performed (step_answer all.world uid at command) (λ x q e. cc)))
-    (performed-refused all uid at command answer fresh (step_refusal all.world uid command) refl)
-step-led all (steps.HandOver at source) (Ok (replies.HandedOver answer)) fresh meets = handed_over-led all source at answer fresh (first_parcel_in all.world source) refl
-step-led all (steps.HandOver at source) answer fresh meets =
-    with_same all all.world answer
-    (not_deleted answer (if_there all.world source (Ok (replies.HandedOver (hand_over_answer all.world source at)))) all.deleted meets
-    (not_there (has_queue all.world source) (Ok (replies.HandedOver (hand_over_answer all.world source at))) (λ q e. cc))) (nothing-led all fresh)
-step-led all (steps.Confirm at source) answer fresh meets =
-    with_same all _ answer
-    (not_deleted answer (if_there all.world source (as_house_reply replies.Confirmed (confirm_answer all.world source at))) all.deleted meets
-    (not_there (has_queue all.world source) (as_house_reply replies.Confirmed (confirm_answer all.world source at))
-    (other_kind replies.Confirmed (confirm_answer all.world source at) (λ x q e. cc))))
-    (confirmation-led all source at answer fresh (first_parcel_in all.world source) refl)
-step-led all (steps.Advance at) answer fresh meets =
-    with_same all _ answer (not_deleted answer (Ok replies.Advanced) all.deleted meets (λ q e. cc)) (time-led all at fresh)
+module _ (ending : ℕ → Type 0) (all : AllQueues) (answer : Answer) (at uid : ℕ) where
+  abbrev FitsAct : Act → Type 0
+  FitsAct act = Fits ending all act.at act.change answer
+
+  created-fits : (opens : Bool) (name : List ℕ) (settings : QueueSettings) → Fits ending all at (cond opens (run.Opens name settings) run.Nothing) answer
+  created-fits true name settings = tt
+  created-fits false name settings = tt
+
+  performed-fits : (command : Command) (o : Option Fault) → step_refusal all.world uid command ≡ o → FitsAct (perform_act at uid command o)
+  performed-fits command (Some fault) e = tt
+  performed-fits command None e = performed-says all uid at command e
+
+  handed-fits : (o : Option Parcel) → first_parcel_in all.world uid ≡ o → FitsAct (hand_over_act all.world at uid o)
+  handed-fits None e = tt
+  handed-fits (Some p) e = delivered-says all uid at p (parcel_of_found all uid (queue_of_uid all.world uid) p refl e) (has_queue all.world p.target) refl
+
+  confirmed-fits : (o : Option ℕ) → ((n : ℕ) → o ≡ Some n → Says all at uid (commands.Settle n)) → FitsAct (confirm_act at uid o)
+  confirmed-fits None says = tt
+  confirmed-fits (Some n) says = says n refl
+
+-- a deletion that finds the queue and memory is answered as done
+abbrev pub Ends : AllQueues → HistoryStep → Answer → Type 0
+Ends all (Own (steps.Delete at uid)) answer = (q : QueueHistory) → queue_of_uid all.world uid ≡ Some q → is_out_of_memory answer ≡ false → IsDeletion (steps.Delete at uid) answer uid
+Ends all step answer = ⊤
+
+step-fits : (all : AllQueues) (step : HouseStep) (answer : Answer) → Ends all (Own step) answer → Fits (IsDeletion step answer) all (act_of all.world step).at (act_of all.world step).change answer
+step-fits all (steps.Create at name wish) answer ends = created-fits (IsDeletion (steps.Create at name wish) answer) all answer at 0 (opens_queue all.world name wish) name (settings_with default_settings wish (target_uid all.world wish))
+step-fits all (steps.Delete at uid) answer ends = ends
+step-fits all (steps.Perform at uid command) answer ends = performed-fits (IsDeletion (steps.Perform at uid command) answer) all answer at uid command (step_refusal all.world uid command) refl
+step-fits all (steps.HandOver at source) answer ends = handed-fits (IsDeletion (steps.HandOver at source) answer) all answer at source (first_parcel_in all.world source) refl
+step-fits all (steps.Confirm at source) answer ends =
+    confirmed-fits (IsDeletion (steps.Confirm at source) answer) all answer at source (accepted_number all.world source)
+    (settled-says all source at (λ p. is_accepted all.world p) (λ p its h. accepted-there all source at p its (queue_of_uid all.world p.target) refl h))
+step-fits all (steps.Advance at) answer ends = tt
 
 -- ---- every step of everything
 
@@ -505,6 +432,10 @@ abbrev pub IsEnding : HistoryStep → Answer → ℕ → Type 0
 IsEnding (Own step) answer uid = IsDeletion step answer uid
 IsEnding (Settle at source) answer uid = ⊥
 
-pub history-led : (all : AllQueues) (step : HistoryStep) (answer : Answer) → IsFresh all → IsHistoryAnswer all step answer → LeadsTo (IsEnding step answer) all (after_history_step all step answer)
-history-led all (Own step) answer fresh h = step-led all step answer fresh h.meets
-history-led all (Settle at source) answer fresh h = late-led all source at answer fresh (first_parcel_in all.world source) refl
+pub history-led : (all : AllQueues) (step : HistoryStep) (answer : Answer) → IsFresh all → Ends all step answer → LeadsTo (IsEnding step answer) all (whole_after_step all step answer)
+history-led all (Own step) answer fresh h = change-led (IsDeletion step answer) all (act_of all.world step).at (act_of all.world step).change answer fresh (step-fits all step answer h)
+history-led all (Settle at source) answer fresh h =
+    change-led (IsEnding (Settle at source) answer) all (confirm_act at source (settled_number all source)).at (confirm_act at source (settled_number all source)).change answer fresh
+    (confirmed-fits (IsEnding (Settle at source) answer) all answer at source (settled_number all source)
+    (settled-says all source at (λ p. was_accepted all p.target p.origin.uid p.origin.number)
+    (λ p its h. subst (λ (u : ℕ). has_accepted ((view_of all).lines p.target) u p.origin.number ≡ true) its.uid (accepted-ever (journal_of all p.target) p.origin.uid p.origin.number h))))

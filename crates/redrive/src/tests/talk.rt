@@ -245,7 +245,7 @@ impl Talk {
                 Ok(HouseReply::Performed(house.step(alloc, *uid, *at, command, ticks)?))
             }
             HouseStep::HandOver { at, source } => {
-                Ok(HouseReply::HandedOver(Ok(house.arrive_one(alloc, *source, *at, ticks)?)))
+                Ok(HouseReply::HandedOver(house.arrive_one(alloc, *source, *at, ticks)?))
             }
             HouseStep::Confirm { .. } => Err(Fault::UnsupportedOperation),
             HouseStep::Advance { at } => {
@@ -267,8 +267,8 @@ impl Talk {
                 tell_look(text, &queue.look(Moment::zero(), &mut self.ticks))
             }
             Ok(HouseReply::Performed(reply)) => tell_reply(text, reply),
-            Ok(HouseReply::HandedOver(Ok(moved))) => tell(text, moved),
-            Ok(HouseReply::HandedOver(Err(fault))) | Err(fault) => Ok(text.push_str(fault.name())?),
+            Ok(HouseReply::HandedOver(moved)) => tell(text, moved),
+            Err(fault) => Ok(text.push_str(fault.name())?),
             Ok(other) => tell(text, other),
         }
     }

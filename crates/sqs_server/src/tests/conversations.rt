@@ -103,7 +103,7 @@ A gets 200 {}
 A asks CreateQueue {"QueueName":"jobs","Attributes":{"VisibilityTimeout":"7"}}
 A gets 400 {"__type":"com.amazonaws.sqs#QueueNameExists","message":"A queue of this name exists with other attributes."}
 
-limits that are configured: two messages in flight, and a journal of six entries that are all there
+limits that are configured: two messages in flight, and a journal that may weigh six, which five messages fill
 [limits]
 in_flight = 2
 max_lines = 6
@@ -117,12 +117,14 @@ A asks ReceiveMessage {"QueueUrl":"jobs","MaxNumberOfMessages":10}
 A gets 200 {"Messages":[{"Body":"a","MD5OfBody":"0cc175b9c0f1b6a831c399e269772661","MessageId":"00000000-0000-0001-0000-000000000000","ReceiptHandle":"000000000000000100000000000000000000000000000001"},{"Body":"b","MD5OfBody":"92eb5ffee6ae2fec3ad71c777531578f","MessageId":"00000000-0000-0001-0000-000000000001","ReceiptHandle":"000000000000000100000000000000010000000000000001"}]}
 A asks ReceiveMessage {"QueueUrl":"jobs"}
 A gets 400 {"__type":"com.amazonaws.sqs#OverLimit","message":"A limit is reached."}
-A asks SendMessage {"QueueUrl":"jobs","MessageBody":"d"}
-A gets 500 {"__type":"com.amazonaws.sqs#JournalFull","message":"The journal of the queue is full."}
 A asks SendMessageBatch {"QueueUrl":"jobs","Entries":[{"Id":"x","MessageBody":"d"},{"Id":"y","MessageBody":"e"}]}
+A begins 200 {"Failed":[],
+A asks SendMessage {"QueueUrl":"jobs","MessageBody":"f"}
+A gets 500 {"__type":"com.amazonaws.sqs#JournalFull","message":"The journal of the queue is full."}
+A asks SendMessageBatch {"QueueUrl":"jobs","Entries":[{"Id":"x","MessageBody":"f"},{"Id":"y","MessageBody":"g"}]}
 A gets 200 {"Failed":[{"Code":"JournalFull","Id":"x","Message":"The journal of the queue is full.","SenderFault":false},{"Code":"JournalFull","Id":"y","Message":"The journal of the queue is full.","SenderFault":false}],"Successful":[]}
 A asks GetQueueAttributes {"QueueUrl":"jobs","AttributeNames":["ApproximateNumberOfMessages","ApproximateNumberOfMessagesDelayed","ApproximateNumberOfMessagesNotVisible"]}
-A gets 200 {"Attributes":{"ApproximateNumberOfMessages":"1","ApproximateNumberOfMessagesDelayed":"0","ApproximateNumberOfMessagesNotVisible":"2"}}
+A gets 200 {"Attributes":{"ApproximateNumberOfMessages":"3","ApproximateNumberOfMessagesDelayed":"0","ApproximateNumberOfMessagesNotVisible":"2"}}
 A asks DeleteQueue {"QueueUrl":"jobs"}
 A gets 200 {}
 

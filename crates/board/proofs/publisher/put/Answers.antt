@@ -1,6 +1,5 @@
-use Rattle.std.proofs.Common.{◌≡◌, List, drop, ap, refl}
-use Rattle.board.specs.Printed.{Publications, place_of}
-use Rattle.board.specs.Rule.{IsAt}
+use Rattle.std.proofs.Common.{drop, ap, refl}
+use Rattle.board.specs.Printed.{place_of}
 use Rattle.board.proofs.Placing.{sees, appended, next_is, published}
 use Rattle.board.proofs.publisher.put.Goals as goal
 

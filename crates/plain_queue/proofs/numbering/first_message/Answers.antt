@@ -1,15 +1,18 @@
-use Rattle.std.proofs.Common.{◌≡◌, [], ◌∷◌, sym, ap, ◌∙◌}
-use Rattle.std.specs.Prelude.{option_to_list}
-use Rattle.queue_core.specs.Messages.{effect_of, messages_in}
-use Rattle.plain_queue.proofs.ScanLemmas.{messages_from-first, messages_from-none}
+use Rattle.std.proofs.Common.{sym, ◌∙◌, arith}
+use Rattle.plain_queue.proofs.NumberingLemmas.{found, found_at, missed_at, none_left}
 use Rattle.plain_queue.proofs.numbering.first_message.Goals as goal
 
 pub returns-in-Some-clause-first : goal.returns-in-Some-clause-first
 returns-in-Some-clause-first c =
-    let begun : c.in-Some.message ∷ [] ≡ messages_in c.loop-place.place c.args.number c.line_at.result.now.at (effect_of c.line_at.result.now.event).births = ap option_to_list (sym c.in-Some.is) ∙ c.message_of.ensures in
-    sym c.loop-place.invariant ∙ messages_from-first c.args.lines.now c.loop-place.place c.args.number c.line_at.result.now c.in-Some.message c.line_at.ensures begun
+    found c.args.lines.now c.loop-place.place c.args.number c.loop-place.before c.line_at.result.now c.line_at.ensures c.loop-place.invariant c.in-Some.message (sym c.message_of.ensures ∙ c.in-Some.is)
+
+pub returns-in-Some-clause-place : goal.returns-in-Some-clause-place
+returns-in-Some-clause-place c =
+    found_at c.args.lines.now c.loop-place.place c.args.number c.loop-place.before c.line_at.result.now c.line_at.ensures c.loop-place.invariant c.in-Some.message (sym c.message_of.ensures ∙ c.in-Some.is)
 
 pub loop-place-preserved : goal.loop-place-preserved
 loop-place-preserved c =
-    let none : [] ≡ messages_in c.loop-place.place c.args.number c.line_at.result.now.at (effect_of c.line_at.result.now.event).births = ap option_to_list (sym c.in_default.is) ∙ c.message_of.ensures in
-    sym (messages_from-none c.args.lines.now c.loop-place.place c.line_at.result.now c.line_at.ensures c.args.number none) ∙ c.loop-place.invariant
+    missed_at c.args.lines.now c.loop-place.place c.args.number c.loop-place.before c.line_at.result.now c.line_at.ensures c.loop-place.invariant (sym c.message_of.ensures ∙ c.in_default.is)
+
+pub returns-clause-none : goal.returns-clause-none
+returns-clause-none c = none_left c.args.lines.now c.loop-place.place c.args.number c.loop-place.before c.loop-place.invariant (omega (arith, c.loop-place-test.false, c.len-place-end.ensures))

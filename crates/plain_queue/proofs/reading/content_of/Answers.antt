@@ -1,30 +1,22 @@
-use Rattle.std.proofs.Common.{◌≡◌, ◌+◌, ◌-◌, ◌∷◌, [], drop, sym, ap, ◌∙◌, arith}
-use Rattle.std.specs.Prelude.{slice_get, option_to_list}
-use Rattle.std.specs.Option.{option_copied}
-use Rattle.queue_core.specs.Messages.{contents_in, contents}
-use Rattle.plain_queue.proofs.EntryLemmas.{content-here, content-later, content-none}
-use Rattle.plain_queue.proofs.reading.content_of.Goals.{in-Some+else-before-eq0, in_default}
+use Rattle.std.proofs.Common.{◌≡◌, ◌≤◌, ◌<◌, ◌+◌, ◌-◌, ℕ, drop, Option, None, sym, ap, ◌∙◌, arith}
+use Rattle.std.specs.Prelude.{slice_get, unwrap_or}
+use Rattle.message.specs.Content.{ContentText}
+use Rattle.queue_core.specs.Messages.{contents}
+use Rattle.queue_core.specs.Tally.{births}
+use Rattle.plain_queue.proofs.EntryLemmas.{content-here, content-later}
 use Rattle.plain_queue.proofs.reading.content_of.Goals as goal
 
-pub returns-then-before-eq0 : goal.returns-then-before-eq0
-returns-then-before-eq0 c =
-    let given : c.in-Some.content.now ∷ [] ≡ contents_in c.line_at.result.now.event = ap (λ o. option_to_list (option_copied o)) (sym c.in-Some.is) ∙ c.content_in.ensures in
-    sym (content-here c.args.lines.now c.loop-place.place c.line_at.result.now c.line_at.ensures c.in-Some.content.now given)
-    ∙ ap (slice_get (contents (drop c.loop-place.place c.args.lines.now))) (sym c.if-before-eq0.true)
+pub returns-then-before-count : goal.returns-then-before-count
+returns-then-before-count c =
+    let below : c.loop-place.before < births c.line_at.result.now.event = omega (arith, c.if-before-count.true, c.births-count.ensures) in
+    c.content_behind.ensures
+    ∙ ap (λ (o : Option (Option ContentText)). unwrap_or o None) (sym (content-here c.args.lines.now c.loop-place.place c.line_at.result.now c.line_at.ensures c.loop-place.before below))
     ∙ c.loop-place.invariant
 
 pub loop-place-preserved : goal.loop-place-preserved
-loop-place-preserved c = elim c.match-content_in.branch [
-  | in-Some+else-before-eq0 w ↦
-      let given : w.in-Some.content.now ∷ [] ≡ contents_in c.line_at.result.now.event = ap (λ o. option_to_list (option_copied o)) (sym w.in-Some.is) ∙ c.content_in.ensures in
-      let more : c.loop-place.before - 1 + 1 ≡ c.loop-place.before = omega (arith, w.if-before-eq0.false) in
-      ap (slice_get (contents (drop (c.loop-place.place + 1) c.args.lines.now))) w.before-is
-      ∙ sym (content-later c.args.lines.now c.loop-place.place c.line_at.result.now c.line_at.ensures w.in-Some.content.now (c.loop-place.before - 1) given)
-      ∙ ap (slice_get (contents (drop c.loop-place.place c.args.lines.now))) more
-      ∙ c.loop-place.invariant
-  | in_default w ↦
-      let none : [] ≡ contents_in c.line_at.result.now.event = ap (λ o. option_to_list (option_copied o)) (sym w.in_default.is) ∙ c.content_in.ensures in
-      ap (slice_get (contents (drop (c.loop-place.place + 1) c.args.lines.now))) w.before-is
-      ∙ sym (content-none c.args.lines.now c.loop-place.place c.line_at.result.now c.line_at.ensures c.loop-place.before none)
-      ∙ c.loop-place.invariant
-]
+loop-place-preserved c =
+    let past : births c.line_at.result.now.event ≤ c.loop-place.before = omega (arith, c.if-before-count.false, c.births-count.ensures) in
+    let left : c.loop-place.before - c.births-count.result ≡ c.loop-place.before - births c.line_at.result.now.event = ap (λ (n : ℕ). c.loop-place.before - n) c.births-count.ensures in
+    ap (λ (n : ℕ). unwrap_or (slice_get (contents (drop (c.loop-place.place + 1) c.args.lines.now)) n) None) left
+    ∙ ap (λ (o : Option (Option ContentText)). unwrap_or o None) (sym (content-later c.args.lines.now c.loop-place.place c.line_at.result.now c.line_at.ensures c.loop-place.before past))
+    ∙ c.loop-place.invariant

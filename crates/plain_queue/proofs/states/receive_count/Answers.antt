@@ -1,17 +1,20 @@
-use Rattle.std.proofs.Common.{Bool, arith}
-use Rattle.journal.specs.declared.entry.Entry.{Entry}
+use Rattle.std.proofs.Common.{List, ap, arith}
+use Rattle.std.specs.Prelude.{sum_by}
+use Rattle.std.proofs.lemmas.List.{drop_all}
 use Rattle.message.specs.Content.{ContentText}
-use Rattle.queue_core.specs.Messages.{offers_number}
-use Rattle.plain_queue.proofs.ScanLemmas.{count_by-yes, count_by-no}
+use Rattle.journal.specs.declared.entry.Entry.{Entry}
+use Rattle.queue_core.specs.Messages.{receives_in}
+use Rattle.plain_queue.proofs.EntryLemmas.{receives-entry}
 use Rattle.plain_queue.proofs.states.receive_count.Goals as goal
-use Rattle.plain_queue.proofs.states.receive_count.Goals.{then-offers_number, else-offers_number}
 
 pub loop-place-preserved : goal.loop-place-preserved
-loop-place-preserved c =
-    let offer : Entry ContentText → Bool = λ e. offers_number c.args.number e.event in
-    elim c.if-offers_number.branch [
-      | then-offers_number w ↦
-          (omega arith, omega (arith, count_by-yes c.args.lines.now c.loop-place.place c.line_at.result.now c.line_at.ensures offer (cc)))
-      | else-offers_number w ↦
-          (omega arith, omega (arith, count_by-no c.args.lines.now c.loop-place.place c.line_at.result.now c.line_at.ensures offer (cc)))
-    ]
+loop-place-preserved c = (
+  omega (arith, c.loop-place.invariant.0, c.loop-place.invariant.1, receives-entry c.args.lines.now c.loop-place.place c.line_at.result.now c.line_at.ensures c.args.number),
+  omega arith,
+)
+
+pub returns : goal.returns
+returns c =
+    let none = ap (λ (es : List (Entry ContentText)). sum_by (λ e. receives_in c.args.number e.event) es)
+    (drop_all c.loop-place.place c.args.lines.now (omega (arith, c.loop-place-test.false, c.len-place-end.ensures))) in
+    omega (arith, none, c.loop-place.invariant.0, c.loop-place.invariant.1)

@@ -5,16 +5,12 @@ use Rattle.queue_core.proofs.passing.go_on.Goals as goal
 pub end_minute-requires-clause-indices : goal.end_minute-requires-clause-indices
 end_minute-requires-clause-indices c = c.loop.invariant.indices
 
-pub end_minute-requires-clause-few : goal.end_minute-requires-clause-few
-end_minute-requires-clause-few c = omega (arith, c.requires.few, c.loop.invariant.born)
-
 pub end_minute-requires-clause-small : goal.end_minute-requires-clause-small
 end_minute-requires-clause-small c = omega (arith, c.requires.small, c.loop.invariant.minute, c.loop-test.true)
 
 pub loop-preserved : goal.loop-preserved
 loop-preserved c = record {
   indices = c.end_minute.ensures.indices;
-  born = c.end_minute.ensures.born ∙ c.loop.invariant.born;
   minute = c.end_minute.ensures.minute ∙ ap (λ (n : ℕ). n + 1) c.loop.invariant.minute;
   within = omega (arith, c.loop-test.true);
   passing = λ q first before legal same passing. c.end_minute.ensures.passing q first before legal same (c.loop.invariant.passing q first before legal same passing);
@@ -23,9 +19,6 @@ loop-preserved c = record {
 
 pub returns-clause-indices : goal.returns-clause-indices
 returns-clause-indices c = c.loop.invariant.indices
-
-pub returns-clause-born : goal.returns-clause-born
-returns-clause-born c = c.loop.invariant.born
 
 pub returns-clause-minute : goal.returns-clause-minute
 returns-clause-minute c = omega (arith, c.loop.invariant.minute, c.loop.invariant.within, c.loop-test.false)

@@ -3,7 +3,7 @@ use Rattle.metric_window.specs.declared.row.Row.{Row}
 use Rattle.queue_core.specs.Messages.{settings_of}
 use Rattle.queue_core.specs.Queue.{QueueHistory}
 use Rattle.queue_core.specs.Legal.{IsLegal}
-use Rattle.queue_core.specs.Records.{born_in, HasIndices}
+use Rattle.queue_core.specs.Records.{HasIndices}
 use Rattle.queue_core.specs.Watched.{IsPassing}
 use Rattle.queue_core.specs.Spending.{Costs}
 use Rattle.queue_core.proofs.passing.go_on.Given as goal
@@ -11,7 +11,6 @@ use Rattle.queue_core.proofs.passing.go_on.Given as goal
 abbrev pub invariant-loop : goal.invariant-loop
 invariant-loop l = record {
   indices : HasIndices l.index;
-  born : born_in l.index ≡ born_in l.fn.index;
   minute : l.watch.window.minute ≡ l.counter;
   within : l.counter ≤ l.end;
   passing : (q : QueueHistory) (first : ℕ) (before : List Row) → IsLegal q → l.retention ≡ (settings_of q.lines).retention_seconds

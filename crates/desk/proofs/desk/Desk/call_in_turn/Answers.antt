@@ -4,11 +4,16 @@ use Rattle.desk.specs.History.{state_of, call}
 use Rattle.desk.specs.Views.{IsKnown, knowledge_of}
 use Rattle.desk.specs.Printed.{IsToldOf}
 use Rattle.desk.specs.Steps.{behind_call, with_call}
-use Rattle.desk.proofs.PassLemmas.{called, known_behind, left_behind}
+use Rattle.desk.proofs.PassLemmas.{called, known_behind, left_behind, performed}
 use Rattle.desk.proofs.desk.Desk.call_in_turn.Goals as goal
 
 pub end-requires-clause-turn : goal.end-requires-clause-turn
 end-requires-clause-turn g c = (c.args.ticket, ap (λ m. m.0.stage) c.take-held.ensures.out ∙ c.requires.turn.0)
+
+pub end-requires-clause-call : goal.end-requires-clause-call
+end-requires-clause-call g c =
+    performed c.args.seat.now.me.0 c.take-held.new.seat.me.0 c.args.at c.args.command.now c.perform-reply.result c.take-held.result c.perform-reply.new.self c.tell-told.new.self
+    (ap (λ m. m.0) c.take-held.ensures.out) c.take-held.ensures.queue c.take-held.ensures.place c.perform-reply.ensures.answer c.perform-reply.ensures.state c.perform-reply.ensures.place c.tell-told.ensures.same
 
 pub returns : goal.returns
 returns g c =

@@ -20,9 +20,9 @@ invariant_of-self-2 g c =
     let q : QueueHistory = c.self.inside.state.value in let told : ℕ = c.self.inside.told in let stands = g.P.Press.stands c.self.inside.press in let after = g.P.Press.stands c.print.new.self in
     let here : c.deref_mut.result.now ≡ q = c.deref_mut.ensures.value in
     let turn : c.in-Ok.turn ≡ report_of q told = c.in-Ok.ensures.ok ∙ ap (λ (x : QueueHistory). report_of x told) here in
-    let lines : c.turn.inside.lines ≡ length q.lines = ap (λ (t : TurnReport). t.lines) c.turn.view_is ∙ ap (λ (t : TurnReport). t.lines) turn in
-    subst (λ (x : QueueHistory). IsPrinted after x c.turn.inside.lines × IfSome c.of.new.kept (λ k. AreRowsOf k x)) (sym (c.of.ensures.same ∙ here))
-    (printed_more stands after q told c.turn.inside.lines c.self.invariant.0 (subst IsLegal here c.in-Ok.ensures.legal) (λ turns stood legal. subst (λ (t : TurnReport). after (turns ++ t ∷ [])) turn (c.in_ok-told.ensures.some turns stood (subst (λ (t : TurnReport). IsPublicationRecord (turns ++ t ∷ [])) (sym turn) legal))) lines, subst (λ (x : QueueHistory). IfSome c.of.new.kept (λ k. AreRowsOf k x)) here c.of.ensures.kept)
+    let entries : c.len-entries.result ≡ length q.lines = c.len-entries.ensures ∙ ap length c.journal.ensures.lines ∙ ap (λ (x : QueueHistory). length x.lines) (c.deref.ensures ∙ c.of.ensures.same ∙ here) in
+    subst (λ (x : QueueHistory). IsPrinted after x c.len-entries.result × IfSome c.of.new.kept (λ k. AreRowsOf k x)) (sym (c.of.ensures.same ∙ here))
+    (printed_more stands after q told c.len-entries.result c.self.invariant.0 (subst IsLegal here c.in-Ok.ensures.legal) (λ turns stood legal. subst (λ (t : TurnReport). after (turns ++ t ∷ [])) turn (c.in_ok-told.ensures.some turns stood (subst (λ (t : TurnReport). IsPublicationRecord (turns ++ t ∷ [])) (sym turn) legal))) entries, subst (λ (x : QueueHistory). IfSome c.of.new.kept (λ k. AreRowsOf k x)) here c.of.ensures.kept)
 
 pub returns-clause-told : goal.returns-clause-told
 returns-clause-told g c =

@@ -1,5 +1,6 @@
-use Rattle.std.proofs.Common.{◌≡◌, ap, ◌∙◌, subst, length, map, drop}
+use Rattle.std.proofs.Common.{◌≡◌, ap, ◌∙◌, subst, map, drop}
 use Rattle.message.specs.Content.{content_size}
+use Rattle.journal.specs.Weight.{weight_of}
 use Rattle.queue_core.specs.States.{gauges_of}
 use Rattle.queue_core.specs.Metrics.{current_flows, window_rows, alarm_state_in}
 use Rattle.queue_core.specs.Queue.{QueueHistory, at_moment}
@@ -15,7 +16,7 @@ returns-clause-ok c =
     let same : new ≡ q = c.look-look.ensures.state ∙ stays in
     let marks = c.in_ok-marks.ensures.marks ∙ ap (λ lines. marks_of (drop c.args.told lines)) (c.journal.ensures.lines ∙ ap (λ (x : QueueHistory). x.lines) same) in
     let clock = ap (λ l. l.clock) c.look-look.ensures.answer ∙ ap (λ (x : QueueHistory). x.clock) stays in
-    let lines = ap (λ l. l.lines) c.look-look.ensures.answer ∙ ap (λ (x : QueueHistory). length x.lines) stays in
+    let lines = ap (λ l. l.lines) c.look-look.ensures.answer ∙ ap (λ (x : QueueHistory). weight_of x.lines) stays in
     let gauges = c.gauges.ensures.counts ∙ ap (λ (x : QueueHistory). gauges_of x.lines x.clock) same in
     let current = c.current.ensures ∙ ap (λ (x : QueueHistory). current_flows content_size x.lines x.clock) same in
     let rows = c.in_ok-rows_at.ensures.ok ∙ ap (λ (x : QueueHistory). window_rows content_size x.lines x.clock) same in

@@ -1,5 +1,6 @@
-use Rattle.std.proofs.Common.{◌≡◌, ◌≤◌, ℕ, ◌+◌, ◌*◌, Option, Some, None, List, ◌∷◌, [], length, refl, sym, ap, ◌∙◌, subst, map, arith}
-use Rattle.std.specs.Prelude.{option_to_list}
+use Rattle.std.proofs.Common.{◌≡◌, ◌≤◌, ℕ, ◌+◌, ◌*◌, Option, Some, None, List, ◌∷◌, [], length, refl, sym, ap, ◌∙◌, subst, arith}
+use Rattle.std.specs.Prelude.{option_to_list, option_map, slice_get}
+use Rattle.std.specs.List.{filter_map, cons_option}
 use Rattle.indexmap.specs.IndexMap.{index_map_len}
 use Rattle.queue_config.specs.Settings.{default_settings}
 use Rattle.message.specs.Content.{ContentText}
@@ -14,9 +15,11 @@ use Rattle.queue_core.specs.Effects.{changed_by}
 use Rattle.queue_core.specs.Messages.{Birth, Effect, effect_of, opens}
 use Rattle.queue_core.specs.Tally.{births}
 use Rattle.queue_core.specs.Spending.{Costs, effect_adds, event_adds, left_count}
-use Rattle.queue_core.specs.Records.{born_record, hidden_until, received_at}
+use Rattle.queue_core.specs.Records.{born_record, record_of_birth, hidden_until, received_at}
 use Rattle.queue_core.specs.Applying.{HaveCounted, HasChanged, among, where_here, where_left, ended_by}
 use Rattle.queue_core.proofs.AppliedLemmas.{alike-applied, can_apply-alike, birth-applied, received-applied, changed-applied, deleted-applied, purged-applied, set-applied, settled-applied, orphaned-applied, closed-applied, deleted_again-applied}
+use Rattle.queue_core.proofs.Scans.{StandsAlone}
+use Rattle.queue_core.proofs.PushLemmas.{fresh}
 use Rattle.queue_core.proofs.SpendingLemmas.{costs_none, costs_within, costs_then}
 use Rattle.queue_core.proofs.index.MessageIndex.apply.Goals as goal
 
@@ -34,20 +37,33 @@ costs_by event e begun more t t' x y is count adds costs =
     (costs_within begun more (effect_adds (left_count x) e) t (index_map_len x.records) t' (index_map_len y.records) x.indices y.indices adds costs))
 
 -- the birth of the message that is given
-birth_of : (at : ℕ) (kept : Record) (birth : Option (Birth ContentText)) → kept ∷ [] ≡ map (born_record at) (option_to_list birth) → (b : Birth ContentText) × (birth ≡ Some b) × (born_record at b ≡ kept)
-birth_of at kept None h = absurd cc
-birth_of at kept (Some b) h = (b, refl, cc)
+one_record : (o : Option Record) (kept : Record) → kept ∷ [] ≡ cons_option o [] → o ≡ Some kept
+one_record None kept h = absurd cc
+one_record (Some r) kept h = cc
 
-no_birth : (at : ℕ) (birth : Option (Birth ContentText)) → [] ≡ map (born_record at) (option_to_list birth) → birth ≡ None
-no_birth at None h = refl
-no_birth at (Some b) h = absurd cc
+birth_of : (at : ℕ) (kept : Record) (birth : Option (Birth ContentText)) → kept ∷ [] ≡ filter_map (record_of_birth at) (option_to_list birth) → (b : Birth ContentText) × (birth ≡ Some b) × (record_of_birth at b ≡ Some kept)
+birth_of at kept None h = absurd cc
+birth_of at kept (Some b) h = (b, refl, one_record (record_of_birth at b) kept h)
+
+-- and where none is given, there is none
+no_record : (at : ℕ) (b : Birth ContentText) (text : ContentText) → b.content ≡ Some text → [] ≡ cons_option (record_of_birth at b) [] → ⊥
+no_record at b text has h =
+    let one : ◌≡◌ {A = List Record} [] (born_record at b text ∷ []) = h ∙ ap (λ (o : Option ContentText). cons_option (option_map (born_record at b) o) []) has in
+    absurd cc
+
+no_birth : (at : ℕ) (event : Event ContentText) (birth : Option (Birth ContentText)) → StandsAlone event → option_to_list birth ≡ (effect_of event).births
+    → [] ≡ filter_map (record_of_birth at) (option_to_list birth) → birth ≡ None
+no_birth at event None alone is h = refl
+no_birth at event (Some b) alone is h =
+    let text = fresh event alone 0 b (ap (λ (bs : List (Birth ContentText)). slice_get bs 0) (sym is)) in
+    absurd (no_record at b text.text text.contained h)
 
 pub returns-in-Some : goal.returns-in-Some
 returns-in-Some c =
     let at = c.args.at in let x = c.args.self.now in let y = c.begin.new.self in
     let birth = c.effect_of.result.birth in
-    let given : c.in-Some.kept ∷ [] ≡ map (born_record at) (option_to_list birth) =
-    ap option_to_list (sym c.in-Some.is) ∙ c.requires.born ∙ ap (map (born_record at)) (sym c.effect_of.ensures.births) in
+    let given : c.in-Some.kept ∷ [] ≡ filter_map (record_of_birth at) (option_to_list birth) =
+    ap option_to_list (sym c.in-Some.is) ∙ c.requires.born ∙ ap (filter_map (record_of_birth at)) (sym (c.effect_of.ensures.births c.requires.about.alone)) in
     let b = birth_of at c.in-Some.kept birth given in
     let is = subst (λ (birth : Option (Birth ContentText)). effect_of c.args.event.now ≡ record (changed_by Nothing birth) { settings = c.effect_of.result.settings; opens = opens c.args.event.now }) b.1
     (told c.args.event.now c.effect_of.result _ c.in-Nothing.is c.effect_of.ensures.change) in
@@ -64,7 +80,8 @@ pub returns-in_default : goal.returns-in_default
 returns-in_default c =
     let at = c.args.at in let x = c.args.self.now in
     let birth = c.effect_of.result.birth in
-    let none : birth ≡ None = no_birth at birth (ap option_to_list (sym c.in_default.is) ∙ c.requires.born ∙ ap (map (born_record at)) (sym c.effect_of.ensures.births)) in
+    let births = c.effect_of.ensures.births c.requires.about.alone in
+    let none : birth ≡ None = no_birth at c.args.event.now birth c.requires.about.alone births (ap option_to_list (sym c.in_default.is) ∙ c.requires.born ∙ ap (filter_map (record_of_birth at)) (sym births)) in
     let is = subst (λ (birth : Option (Birth ContentText)). effect_of c.args.event.now ≡ record (changed_by Nothing birth) { settings = c.effect_of.result.settings; opens = opens c.args.event.now }) none
     (told c.args.event.now c.effect_of.result _ c.in-Nothing.is c.effect_of.ensures.change) in
     let done = alike-applied c.args.settings at c.args.event.now DeletedAgain _ _ is x x (deleted_again-applied c.args.settings at x c.requires.indexed) in

@@ -8,7 +8,7 @@ use Rattle.queue_core.proofs.index.MessageIndex.begin.Goals as goal
 pub replace-requires : goal.replace-requires
 replace-requires c =
     let next : c.len-number.result ≡ born_in c.args.self.now = omega (arith, c.args.self.now.receives.ok.0) in
-    can_begin c.args.self.now c.len-number.result c.args.kept.slot c.requires.indices c.requires.ready next c.requires.few
+    can_begin c.args.self.now c.len-number.result c.args.kept.slot c.requires.indices c.requires.ready next
 
 pub returns-clause-indices : goal.returns-clause-indices
 returns-clause-indices c =

@@ -1,6 +1,4 @@
-use Rattle.std.proofs.Common.{◌≡◌, ◌+◌, ◌*◌, get_or, take, refl, ap, ◌∙◌, Some, arith}
-use Rattle.queue_core.specs.Messages.{contains_number}
-use Rattle.queue_core.specs.Slots.{one_if}
+use Rattle.std.proofs.Common.{◌+◌, ◌*◌, get_or, take, refl, ◌∙◌, Some, arith}
 use Rattle.queue_core.specs.Records.{hidden_until, received_at}
 use Rattle.queue_core.proofs.NumberLemmas.{contains-at, unseen}
 use Rattle.queue_core.proofs.ChangeLemmas.{changed-more, counted-more, here-below, here-outside}
@@ -12,14 +10,6 @@ offer-requires-clause-here c =
     let i = c.loop-number.number-index in let xs = c.args.offered.now in
     here-outside (λ r. Some (hidden_until c.args.due (received_at c.args.at r))) (take i xs) (get_or xs i 0) c.args.self.now c.loop-number.self c.loop-number.invariant.changed
     (unseen xs i c.requires.once c.loop-number-test.true) (c.requires.here (get_or xs i 0) (contains-at xs i 0 c.loop-number-test.true))
-
-pub offer-requires-clause-few_receives : goal.offer-requires-clause-few_receives
-offer-requires-clause-few_receives c =
-    let i = c.loop-number.number-index in let xs = c.args.offered.now in
-    let below = here-below c.args.self.now (get_or xs i 0) c.requires.indices (c.requires.here (get_or xs i 0) (contains-at xs i 0 c.loop-number-test.true)) in
-    let was = c.loop-number.invariant.counted.counts (get_or xs i 0) below in
-    let none : one_if (contains_number (get_or xs i 0) (take i xs)) ≡ 0 = ap one_if (unseen xs i c.requires.once c.loop-number-test.true) in
-    omega (arith, c.requires.few_receives (get_or xs i 0))
 
 pub loop-number-preserved : goal.loop-number-preserved
 loop-number-preserved c =

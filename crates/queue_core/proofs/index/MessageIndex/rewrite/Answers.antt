@@ -6,7 +6,7 @@ use Rattle.queue_core.proofs.SpendingLemmas.{costs-changed, keeps-sent}
 use Rattle.queue_core.proofs.index.MessageIndex.rewrite.Goals as goal
 
 pub replace-requires : goal.replace-requires
-replace-requires c = rw c.slot_of-before.ensures (can_change c.args.self.now c.args.number c.requires.indices c.requires.kept (Some c.args.slot) c.requires.few)
+replace-requires c = rw c.slot_of-before.ensures (can_change c.args.self.now c.args.number c.requires.indices c.requires.kept (Some c.args.slot))
 
 pub returns-clause-indices : goal.returns-clause-indices
 returns-clause-indices c =

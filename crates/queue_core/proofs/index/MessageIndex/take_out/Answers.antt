@@ -5,7 +5,7 @@ use Rattle.queue_core.proofs.SpendingLemmas.{costs_none, costs-changed, keeps-no
 use Rattle.queue_core.proofs.index.MessageIndex.take_out.Goals as goal
 
 pub replace-requires : goal.replace-requires
-replace-requires c = can_take_out c.args.self.now c.args.number c.in-Some.slot c.requires.indices c.in-Some.ensures c.requires.few
+replace-requires c = can_take_out c.args.self.now c.args.number c.in-Some.slot c.requires.indices c.in-Some.ensures
 
 pub returns-in-Some-clause-indices : goal.returns-in-Some-clause-indices
 returns-in-Some-clause-indices c =

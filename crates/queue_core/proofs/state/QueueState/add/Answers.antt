@@ -1,10 +1,16 @@
-use Rattle.std.proofs.Common.{◌≡◌, ◌≤◌, ℕ, ◌+◌, ◌++◌, [], ◌∷◌, List, length, Ok, refl, subst, sym, ap, ◌∙◌, arith}
+use Rattle.std.proofs.Common.{◌≡◌, ◌≤◌, ℕ, ◌+◌, ◌++◌, [], ◌∷◌, List, length, Option, Some, None, Ok, refl, subst, sym, ap, ◌∙◌, arith}
 use Rattle.message.specs.Content.{ContentText}
 use Rattle.journal.specs.declared.entry.Entry.{Entry}
 use Rattle.journal.specs.Journal.{Lines}
+use Rattle.journal.specs.Weight.{weight_of}
 use Rattle.queue_core.specs.declared.watch.Watch.{Watch}
 use Rattle.queue_core.specs.Queue.{QueueHistory}
-use Rattle.queue_core.specs.Messages.{message_count}
+use Rattle.std.specs.Prelude.{option_to_list}
+use Rattle.std.specs.Option.{OnSome}
+use Rattle.std.specs.List.{filter_map}
+use Rattle.queue_core.specs.declared.record.Record.{Record}
+use Rattle.queue_core.specs.Records.{record_of_birth, IsReady}
+use Rattle.queue_core.specs.Messages.{Birth, effect_of, message_count}
 use Rattle.queue_core.specs.Legal.{IsCausedIn}
 use Rattle.queue_core.specs.Kept.{IsKept}
 use Rattle.queue_core.specs.Tally.{births, Tallies}
@@ -13,23 +19,42 @@ use Rattle.queue_core.specs.Accepted.{accepted_keys, AreAccepted}
 use Rattle.queue_core.specs.Summary.{summary_of}
 use Rattle.metric_window.specs.Flows.{minute_of}
 use Rattle.queue_core.specs.Watched.{IsWatchAt}
+use Rattle.queue_core.proofs.LegalSoundLemmas.{sound_legal, kept_few}
+use Rattle.queue_core.proofs.CauseLemmas.{about-caused}
+use Rattle.queue_core.proofs.AloneLemmas.{alone-caused}
 use Rattle.queue_core.proofs.LegalLemmas.{place-left, kept-spare, IsKept-pushed}
 use Rattle.queue_core.proofs.TallyLemmas.{tallies-push, GoesOn}
-use Rattle.queue_core.proofs.IndexLemmas.{same-index, few_born, few-more, can_apply, event-index}
+use Rattle.queue_core.proofs.IndexLemmas.{same-index, can_apply, event-index}
 use Rattle.queue_core.proofs.WatchLemmas.{watch-pushed}
 use Rattle.queue_core.proofs.AcceptedLemmas.{accepted-same, accepted-noted, unheld-caused}
 use Rattle.queue_core.specs.Cost.{most_ticks}
 use Rattle.queue_core.specs.Spending.{event_adds, left_count, HasCome}
-use Rattle.queue_core.proofs.BoundLemmas.{bound-later, bound-added}
+use Rattle.queue_core.proofs.BoundLemmas.{kept-is, bound-later, bound-event}
 use Rattle.queue_core.proofs.SpendingLemmas.{costs_behind}
 use Rattle.queue_core.proofs.CostLemmas.{has_added}
 use Rattle.queue_core.proofs.state.QueueState.add.Goals as goal
 
+pub after-tally-requires-clause-alone : goal.after-tally-requires-clause-alone
+after-tally-requires-clause-alone c = alone-caused c.args.self.now c.args.event c.requires
+
+pub record_born-requires : goal.record_born-requires
+record_born-requires c = record { alone = alone-caused c.args.self.now c.args.event c.requires }
+
+pub make_room-requires-clause-alone : goal.make_room-requires-clause-alone
+make_room-requires-clause-alone c = alone-caused c.args.self.now c.args.event c.requires
+
+pub make_place-requires : goal.make_place-requires
+make_place-requires c = record { alone = alone-caused c.args.self.now c.args.event c.requires }
+
+pub note-requires-clause-alone : goal.note-requires-clause-alone
+note-requires-clause-alone c = alone-caused c.args.self.now c.args.event c.requires
+
 pub make_room-requires-clause-few : goal.make_room-requires-clause-few
 make_room-requires-clause-few c =
-    let few = few_born c.self.inside.journal.lines c.self.inside.clock c.self.inside.index c.self.invariant.2 in
-    let lines = ap (λ (q : QueueHistory). length q.lines) c.self.view_is in
-    omega (arith, few, lines, c.messages_so_far.ensures.lines)
+    let q : QueueHistory = record { uid = c.self.inside.uid; name = c.self.inside.name; limits = c.self.inside.limits; rules = c.self.inside.rules.items; clock = c.self.inside.clock; lines = c.self.inside.journal.lines; spare = c.self.inside.journal.spare } in
+    let kept = kept-is q c.self.inside.index c.self.invariant.2 c.len-kept.ensures.unique in
+    let weight = ap (λ (q : QueueHistory). weight_of q.lines) c.self.view_is in
+    omega (arith, kept, kept_few q c.self.invariant.0.legal, weight, c.messages_so_far.ensures.weight)
 
 -- where no entry is added, nothing but room differs
 pub invariant_of-self : goal.invariant_of-self
@@ -61,20 +86,22 @@ invariant_of-self-in_err-reserve c =
 
 -- ---- the event
 
-pub apply-requires-clause-few : goal.apply-requires-clause-few
-apply-requires-clause-few c =
-    let index = same-index c.self.inside.journal.lines c.self.inside.clock c.self.inside.index c.self.invariant.2 c.make_room.new.self c.make_room.ensures.same c.make_room.ensures.indexed in
-    let few = few_born c.self.inside.journal.lines c.self.inside.clock c.make_room.new.self index in
-    let lines = ap (λ (q : QueueHistory). length q.lines) c.self.view_is in
-    omega (arith, few, lines, c.messages_so_far.ensures.lines)
-
 pub apply-requires-clause-about : goal.apply-requires-clause-about
 apply-requires-clause-about c =
     let q : QueueHistory = record { uid = c.self.inside.uid; name = c.self.inside.name; limits = c.self.inside.limits; rules = c.self.inside.rules.items; clock = c.self.inside.clock; lines = c.self.inside.journal.lines; spare = c.self.inside.journal.spare } in
     let caused = subst (λ (q : QueueHistory). IsCausedIn q c.args.event) (sym c.self.view_is) c.requires in
     let index = same-index q.lines q.clock c.self.inside.index c.self.invariant.2 c.make_room.new.self c.make_room.ensures.same c.make_room.ensures.indexed in
-    let lines = ap (λ (q : QueueHistory). length q.lines) c.self.view_is in
-    can_apply q c.args.event caused c.make_room.new.self index (omega (arith, lines, c.messages_so_far.ensures.lines)) c.in_ok-make_room.ensures.room
+    can_apply q c.args.event caused c.make_room.new.self index c.in_ok-make_room.ensures.room
+
+-- where a message begins, there is room for it
+ready_born : (ready : Type 0) (at : ℕ) (born : Option Record) (bs : List (Birth ContentText)) → option_to_list born ≡ filter_map (record_of_birth at) bs → (1 ≤ length bs → ready) → OnSome born ready
+ready_born ready at None bs is f = tt
+ready_born ready at (Some r) [] is f = absurd cc
+ready_born ready at (Some r) (b ∷ bs) is f = f (omega arith)
+
+pub apply-requires-clause-ready : goal.apply-requires-clause-ready
+apply-requires-clause-ready c =
+    ready_born (IsReady c.make_room.new.self) _ c.in_ok-born.born (effect_of c.args.event).births c.in_ok-born.ensures.ok c.in_ok-make_room.ensures.ready
 
 -- a transfer that the event brings was not accepted before
 pub note-requires-clause-first : goal.note-requires-clause-first
@@ -82,14 +109,6 @@ note-requires-clause-first c =
     let q : QueueHistory = record { uid = c.self.inside.uid; name = c.self.inside.name; limits = c.self.inside.limits; rules = c.self.inside.rules.items; clock = c.self.inside.clock; lines = c.self.inside.journal.lines; spare = c.self.inside.journal.spare } in
     let caused = subst (λ (q : QueueHistory). IsCausedIn q c.args.event) (sym c.self.view_is) c.requires in
     unheld-caused q c.args.event c.make_place.new.self caused (accepted-same q.lines c.self.inside.accepted c.make_place.new.self c.self.invariant.3 c.make_place.ensures.same)
-
-pub settle-requires-clause-few : goal.settle-requires-clause-few
-settle-requires-clause-few c =
-    let index = same-index c.self.inside.journal.lines c.self.inside.clock c.self.inside.index c.self.invariant.2 c.make_room.new.self c.make_room.ensures.same c.make_room.ensures.indexed in
-    let few = few_born c.self.inside.journal.lines c.self.inside.clock c.make_room.new.self index in
-    let more = few-more c.args.event c.make_room.new.self c.apply.new.self c.apply.ensures.receives in
-    let lines = ap (λ (q : QueueHistory). length q.lines) c.self.view_is in
-    omega (arith, few, more, lines, c.messages_so_far.ensures.lines)
 
 pub invariant_of-self-2 : goal.invariant_of-self-2
 invariant_of-self-2 c =
@@ -110,10 +129,10 @@ invariant_of-self-2 c =
       closed = c.after-tally.ensures.closed;
       messages = c.after-tally.ensures.messages ∙ ap (λ n. n + births c.args.event) (c.messages_so_far.ensures.count ∙ sym (ap (λ (q : QueueHistory). message_count q.lines) c.self.view_is));
     } in
-    let tallies = tallies-push q q.lines q.clock entry c.self.inside.tally c.after-tally.result c.self.invariant.0.legal.caused c.self.invariant.1 goes in
+    let tallies = tallies-push q.lines q.clock entry c.self.inside.tally c.after-tally.result (sound_legal q c.self.invariant.0.legal).begun (alone-caused q c.args.event caused) c.self.invariant.1 goes in
     let watch : Watch = record { window = c.count.new.self; alarms = c.self.inside.watch.alarms } in
     let behind =
-    event-index q c.args.event c.self.inside.tally.settings _ c.make_room.new.self c.apply.new.self c.settle.new.self c.self.invariant.0.legal caused index c.self.invariant.1.settings
+    event-index q c.args.event c.self.inside.tally.settings _ c.make_room.new.self c.apply.new.self c.settle.new.self (sound_legal q c.self.invariant.0.legal) caused index c.self.invariant.1.settings
     (record { indexed = c.apply.ensures.indexed; records = c.apply.ensures.records; receives = c.apply.ensures.receives; leaving = c.apply.ensures.leaving })
     (ap (λ t. t.settings.retention_seconds) c.tally.view_is ∙ ap (λ s. s.retention_seconds) tallies.settings)
     (record { indices = c.settle.ensures.indices; records = c.settle.ensures.records; receives = c.settle.ensures.receives; leaving = c.settle.ensures.leaving }) in (
@@ -123,7 +142,7 @@ invariant_of-self-2 c =
       subst (λ lines. AreAccepted c.note.new.self (accepted_keys lines)) (sym lines)
           (accepted-noted q.lines entry c.self.inside.accepted c.make_place.new.self c.note.new.self c.self.invariant.3 c.make_place.ensures.same c.note.ensures),
       subst (λ lines. IsWatchAt lines (minute_of q.clock) q.rules watch) (sym lines)
-          (watch-pushed q c.args.event c.self.invariant.0.legal q.rules c.self.inside.watch watch c.self.invariant.4 c.count.ensures refl),
+          (watch-pushed q c.args.event (sound_legal q c.self.invariant.0.legal) (alone-caused q c.args.event caused) q.rules c.self.inside.watch watch c.self.invariant.4 c.count.ensures refl),
     )
 
 pub push_reserved-requires-clause-place : goal.push_reserved-requires-clause-place
@@ -131,7 +150,7 @@ push_reserved-requires-clause-place c =
     let q : QueueHistory = record { uid = c.self.inside.uid; name = c.self.inside.name; limits = c.self.inside.limits; rules = c.self.inside.rules.items; clock = c.self.inside.clock; lines = c.self.inside.journal.lines; spare = c.self.inside.journal.spare } in
     let caused = subst (λ (q : QueueHistory). IsCausedIn q c.args.event) (sym c.self.view_is) c.requires in
     let place = place-left q c.self.inside.journal.limit c.args.event c.self.invariant.0 caused in
-    let lines = ap (λ (j : Lines). length j.lines) c.reserve.ensures.lines in
+    let lines = ap (λ (j : Lines). weight_of j.lines) c.reserve.ensures.lines in
     let limit = ap (λ (j : Lines). j.limit) c.reserve.ensures.lines in
     omega (arith, place, lines, limit)
 
@@ -169,13 +188,13 @@ returns-clause-cost c =
       closed = c.after-tally.ensures.closed;
       messages = c.after-tally.ensures.messages ∙ ap (λ n. n + births c.args.event) (c.messages_so_far.ensures.count ∙ sym (ap (λ (q : QueueHistory). message_count q.lines) c.self.view_is));
     } in
-    let tallies = tallies-push q q.lines q.clock entry c.self.inside.tally c.after-tally.result c.self.invariant.0.legal.caused c.self.invariant.1 goes in
+    let tallies = tallies-push q.lines q.clock entry c.self.inside.tally c.after-tally.result (sound_legal q c.self.invariant.0.legal).begun (alone-caused q c.args.event caused) c.self.invariant.1 goes in
     let behind =
-    event-index q c.args.event c.self.inside.tally.settings _ c.make_room.new.self c.apply.new.self c.settle.new.self c.self.invariant.0.legal caused index c.self.invariant.1.settings
+    event-index q c.args.event c.self.inside.tally.settings _ c.make_room.new.self c.apply.new.self c.settle.new.self (sound_legal q c.self.invariant.0.legal) caused index c.self.invariant.1.settings
     (record { indexed = c.apply.ensures.indexed; records = c.apply.ensures.records; receives = c.apply.ensures.receives; leaving = c.apply.ensures.leaving })
     (ap (λ t. t.settings.retention_seconds) c.tally.view_is ∙ ap (λ s. s.retention_seconds) tallies.settings)
     (record { indices = c.settle.ensures.indices; records = c.settle.ensures.records; receives = c.settle.ensures.receives; leaving = c.settle.ensures.leaving }) in
     let costs = costs_behind (births c.args.event) (event_adds (left_count c.make_room.new.self) c.args.event) _ _ _ _ _ _ _ _ _ c.apply.ensures.cost c.settle.ensures.cost in
-    let has = has_added q c.make_room.new.self index c.len-kept.ensures.unique c.args.event c.args.ticks.now c.settle.new.ticks c.settle.new.self behind costs in
+    let has = has_added q c.make_room.new.self index c.len-kept-2.ensures.unique c.args.event c.args.ticks.now c.settle.new.ticks c.settle.new.self behind costs in
     subst (λ (ls : List (Entry ContentText)). c.settle.new.ticks ≤ before + most_ticks p (record q { lines = ls })) (sym lines)
-    (bound-added before c.args.ticks.now c.settle.new.ticks p q c.args.event c.self.invariant.0.legal caused (subst (λ (q : QueueHistory). HasCome before p c.args.ticks.now q) (sym c.self.view_is) come) has)
+    (bound-event before c.args.ticks.now c.settle.new.ticks p q c.args.event (about-caused q c.args.event caused) (subst (λ (q : QueueHistory). HasCome before p c.args.ticks.now q) (sym c.self.view_is) come) has)

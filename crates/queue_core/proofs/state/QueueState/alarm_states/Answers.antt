@@ -6,14 +6,14 @@ use Rattle.alarm.specs.declared.state.AlarmState.{AlarmState}
 use Rattle.alarm.specs.KeptAlarm.{KeptAlarm, kept_state}
 use Rattle.metric_window.specs.Flows.{minute_of}
 use Rattle.queue_core.specs.Watched.{rows_before, told_alarm}
-use Rattle.queue_core.proofs.QuestionLemmas.{legal_of}
-use Rattle.queue_core.proofs.WatchLemmas.{watch_of, early_of, states-told}
+use Rattle.queue_core.proofs.QuestionLemmas.{sound_of}
+use Rattle.queue_core.proofs.WatchLemmas.{watch_of, states-told}
 use Rattle.queue_core.proofs.state.QueueState.alarm_states.Goals as goal
 
 pub returns-clause-states : goal.returns-clause-states
 returns-clause-states c =
     let told = states-told c.args.self.now.lines c.args.self.now.clock c.args.self.now.rules c.self.inside.watch (watch_of _ _ c.self.inside.watch c.self.view_is c.self.invariant.4)
-    (early_of c.args.self.now (legal_of _ _ c.self.view_is c.self.invariant.0.legal)) in
+    (sound_of _ _ c.self.view_is c.self.invariant.0.legal).early in
     subst (λ (all : List AlarmState). IfOk c.states_of.result (λ states. states.items ≡ all))
     (ap (λ (alarms : List KeptAlarm). map (λ alarm. kept_state alarm) alarms) c.as_slice.ensures.value ∙ told) c.states_of.ensures.states
 

@@ -7,23 +7,14 @@ use Rattle.queue_core.specs.Indexed.{IsIndexOf}
 use Rattle.queue_core.specs.Accepted.{accepted_keys, AreAccepted}
 use Rattle.queue_core.specs.Summary.{summary_of}
 use Rattle.queue_core.specs.Watched.{IsWatchAt}
-use Rattle.queue_core.specs.Records.{born_in}
 use Rattle.queue_core.specs.declared.state.QueueState.TheInside.{Inside}
 use Rattle.queue_core.proofs.LegalLemmas.{IsKept-later}
 use Rattle.queue_core.proofs.TallyLemmas.{tallies-later}
-use Rattle.queue_core.proofs.IndexLemmas.{few_born}
 use Rattle.std.specs.Prelude.{nat_eq}
 use Rattle.indexmap.specs.IndexMap.{IsUnique}
 use Rattle.queue_core.specs.Spending.{Costs, HasCome}
 use Rattle.queue_core.proofs.CostLemmas.{has_come}
 use Rattle.queue_core.proofs.state.QueueState.move_to.Goals as goal
-
-pub catch_up-requires-clause-few : goal.catch_up-requires-clause-few
-catch_up-requires-clause-few c =
-    let few = few_born c.self.inside.journal.lines c.self.inside.clock c.self.inside.index c.self.invariant.2 in
-    let limit = ap (λ s. s.limits.max_lines) c.self-inside.view_is in
-    let same = ap (λ s. born_in s.index) c.self-inside.view_is in
-    omega (arith, few, limit, same, c.self.invariant.0.within, c.self-inside.invariant.0.most_lines)
 
 pub catch_up-requires-clause-past : goal.catch_up-requires-clause-past
 catch_up-requires-clause-past c =

@@ -1,4 +1,4 @@
-use Rattle.std.proofs.Common.{◌≡◌, ◌≤◌, List, map, Result, Ok, arith, refl, sym, subst, ap, ◌∙◌}
+use Rattle.std.proofs.Common.{◌≡◌, ◌≤◌, List, map, Result, Ok, inl, arith, refl, sym, subst, ap, ◌∙◌}
 use Rattle.std.specs.List.{All}
 use Rattle.std.specs.Result.{IfOk}
 use Rattle.message.specs.declared.fault.Fault.{Fault}
@@ -25,7 +25,7 @@ invariant_of-result c =
         place_left = λ unclosed. omega (arith, c.limits.invariant.least_lines);
         legal = record {
           ordered = (omega arith, omega arith);
-          caused = (record { settings = c.args.settings; allowed = subst (λ (s : QueueSettings). AreSettings s) c.settings.view_is c.settings.invariant; opened = refl }, tt);
+          caused = inl (record { settings = c.args.settings; allowed = subst (λ (s : QueueSettings). AreSettings s) c.settings.view_is c.settings.invariant; opened = refl }, tt);
         };
       },
       record { settings = c.opened.ensures.0; created = c.opened.ensures.1; modified = c.opened.ensures.2; closed = c.opened.ensures.3; messages = c.opened.ensures.4 },

@@ -1,0 +1,35 @@
+-- The steps of the queue registry by which a replay goes on.
+use Rattle.std.specs.Prelude.{◌≡◌, ℕ, List, [], ◌∷◌, ◌++◌, map}
+use Rattle.queue_config.specs.Config.{Configuration}
+use Rattle.redrive.specs.declared.steps.HouseStep.{HouseStep}
+use Rattle.redrive.specs.World.{World, new_world}
+use Rattle.redrive.specs.WorldRun.{Answer, AreHouseAnswers, AreTold, world_after_all}
+use Rattle.redrive.specs.History.{AllQueues}
+use Rattle.redrive.specs.HistorySteps.{Own}
+use Rattle.redrive.specs.WholeSteps.{whole_after_steps}
+use Rattle.redrive.specs.Places.{first_history, EachAcceptedOnce, EachHasItsFate, EachHasOnePlace, NoRelayDeleted}
+use Rattle.sqs_replay.specs.Served.{text_of_line, world_of_line}
+
+-- steps, the registry's answers to them, of which each look and each receive tells what the whole journal of its queue gives, and the registry that they leave
+pub record Course (old new : World) : Type 0 where
+  pub steps : List HouseStep
+  pub answers : List Answer
+  pub answered : AreHouseAnswers old steps answers
+  pub told : AreTold old steps answers
+  pub left : new ≡ world_after_all old steps answers
+
+-- each line is answered in a registry that steps have left, from the first one on, and so is what comes behind the last line
+abbrev pub IsOutputOf : World → World → List (List ℕ) → List ℕ → Type 0
+IsOutputOf first now [] output = Course first now × (output ≡ [])
+IsOutputOf first now (line ∷ lines) output =
+    Course first now × ((rest : List ℕ) × ((output ≡ text_of_line now line ++ rest) × IsOutputOf first (world_of_line now line) lines rest))
+
+-- everything that such steps leave of the configured queues, each with its whole journal
+abbrev pub everything_after : (config : Configuration) (new : World) → Course (new_world config 0) new → AllQueues
+everything_after config new course = whole_after_steps (first_history config 0) (map Own course.steps) course.answers
+
+-- no dead letter is accepted twice, each has its fate, and each message is in one place
+pub record KeepsDeadLetters (config : Configuration) (new : World) (course : Course (new_world config 0) new) : Type 0 where
+  pub once : EachAcceptedOnce (everything_after config new course)
+  pub fates : EachHasItsFate (everything_after config new course)
+  pub places : NoRelayDeleted (first_history config 0) (map Own course.steps) course.answers → EachHasOnePlace (everything_after config new course)
