@@ -5,10 +5,10 @@ usage: clients/bench.py [--most N] [--seconds S] [--runs R] [--moto] [PROGRAM..]
 
 The program is crates/sqs_replay/out/sqs_replay, as `make build` makes it, unless others are named, which then take turns. It makes its
 inputs itself, of 1,000 messages and ten times as many up to N (100,000 unless another is named), and runs each R times (3) with at most
-S processor seconds (60). With N from 100,000 on the kind of which a quarter is taken also runs at 400,000 messages, in at most 20 processor seconds;
-where it takes more, the status is 1. With --moto the same work goes through moto's queues in memory, by boto3, where both are installed. It prints the
-middle of the runs in processor seconds (user time) and the most memory that was resident, where less than some 12 MB shows as that, since a
-program begins as a copy of this tool. It writes docs/bench/table.md and docs/bench/speed.svg. What passes the limit is told as such, and is not tried with more messages.
+S processor seconds (60). With N from 100,000 on the kind of which a quarter is taken and that of the other commands run at 400,000 messages too, each
+in at most 20 processor seconds; where one takes more, the status is 1. With --moto the same work goes through moto's queues in memory, by boto3, where both
+are installed. It prints the middle of the runs in processor seconds (user time) and the most memory that was resident, where less than some 12 MB shows as
+that, since a program begins as a copy of this tool. It writes docs/bench/table.md and docs/bench/speed.svg. What passes the limit is told as such, and is not tried with more messages.
 """
 import math
 import os
@@ -98,6 +98,25 @@ def left_of_quarter(count):
     return f'"inFlight":0,"lines":{1 + count + 2 * taken},"name":"jobs","visible":{count - taken}}}'
 
 
+def others(count):
+    """All are sent, and one is received. Then each other command that leaves them there comes an eighth as often, the question what is there as the last."""
+    yield created()
+    for _ in range(count):
+        yield send(0)
+    yield receive(1)
+    change = f'{{"QueueUrl":"jobs","ReceiptHandle":"{handle(1, 0, 1)}","VisibilityTimeout":30}}'
+    for _ in range(count // 8):
+        yield '1 GetQueueAttributes {"QueueUrl":"jobs","AttributeNames":["All"]}\n'
+        yield f"1 ChangeMessageVisibility {change}\n"
+        yield '1 SetQueueAttributes {"QueueUrl":"jobs","Attributes":{"DelaySeconds":"0"}}\n'
+        yield '1 Tick {}\n1 Rows {"QueueUrl":"jobs"}\n1 Alarms {"QueueUrl":"jobs"}\n1 Statistics {"QueueUrl":"jobs"}\n'
+
+
+def left_by_others(count):
+    """Returns a part of what is told then: one is in flight, and the journal has an entry for each change and each setting too."""
+    return f'"inFlight":1,"lines":{2 + count + 2 * (count // 8)},"name":"jobs","visible":{count - 1}}}'
+
+
 def backlog(count):
     """All are sent, then received in tens; half of those offered are deleted, in any order."""
     chosen = random.Random(1)
@@ -138,6 +157,7 @@ WORK = {
     "cycles while 100,000 wait": cycles_of_100000,
     "cycles over 1,000 queues": cycles_over_queues,
     "sends, a quarter received and deleted": quarter,
+    "the other commands while all wait": others,
     "a backlog received in tens": backlog,
     "messages that fail twice": failing,
     "sends, watched each minute": watched,
@@ -145,9 +165,9 @@ WORK = {
 # How many messages are sent, or queues made, before what is counted.
 WAITING = {"cycles while 1,000 wait": 1000, "cycles while 100,000 wait": 100_000, "cycles over 1,000 queues": QUEUES}
 # What has to stand in the last answer, by the number of messages.
-LAST = {"sends, a quarter received and deleted": left_of_quarter}
-# A kind that runs once more with so many messages, and may take so many processor seconds then: about five times what it took of a proved program.
-WHOLE = {"sends, a quarter received and deleted": (400_000, 20)}
+LAST = {"sends, a quarter received and deleted": left_of_quarter, "the other commands while all wait": left_by_others}
+# Kinds that run once more with so many messages, and may take so many processor seconds then. For the first a proved program takes about a fifth of them.
+WHOLE = {"sends, a quarter received and deleted": (400_000, 20), "the other commands while all wait": (400_000, 20)}
 
 
 def run(program, room, limit, last):

@@ -11,8 +11,9 @@ prints names a check, and the last says 'N passed, M failed'; the status is 1 wh
     request is answered all the same, over each of many connections. Once the large ones are cut, one more is taken, and answered.
   - A body of which no byte comes any more, and a reply of which none is taken, end their connection between 30 and 45 seconds later. A receive that
     waits for 20 seconds does not: it is answered, and so is what is asked next over its connection.
-  - Under a limit of its memory the proved server tells that it has none, in one line, goes on, and answers what is asked once the memory is there again.
-    A program that is compiled without a proof has an address sanitizer, which takes terabytes of addresses at its start: it does not start under such a limit.
+  - Where it may have no more than some bytes of addresses beyond those of its start, fewer than a thread takes for large bodies, the proved server tells that
+    it has no memory, in one line, goes on, and answers what is asked once the memory is there again. A program that is compiled without a proof has an address
+    sanitizer, which takes terabytes of addresses at its start and ends the program where it gets no more: with it this is left out.
 """
 import json
 import os
@@ -29,30 +30,36 @@ ROOT = os.path.normpath(os.path.join(os.path.dirname(os.path.abspath(__file__)),
 # The largest body, and the most threads that answer requests: docs/PROFILE.md, section 25.
 LARGEST, THREADS, LARGE_AT_ONCE = 8_388_608, 16, 4
 SHORT = "sqs_server: out of memory"
+# How many bytes of addresses the server may have more than at its start, where memory is to be short: not those of three of the largest bodies; and how many
+# it has at the most where it has no address sanitizer.
+MORE, USUAL = 20 * 2**20, 2**40
 
 
 class Server:
     """A server at free ports, with one queue."""
 
-    def __init__(self, program, memory=None):
+    def __init__(self, program):
         self.room = tempfile.TemporaryDirectory()
         with open(f"{self.room.name}/config.toml", "w", encoding="utf-8") as it:
             it.write('[[queue]]\nname = "jobs"\n')
-        limit = (lambda: resource.setrlimit(resource.RLIMIT_AS, (memory, memory))) if memory else None
         self.said = open(f"{self.room.name}/said", "w+", encoding="utf-8")
         self.process = subprocess.Popen(
             [program, f"{self.room.name}/config.toml"],
             stdout=subprocess.PIPE,
             stderr=self.said,
             text=True,
-            preexec_fn=limit,
             env={**os.environ, "JUTKARIQ_PORT": "0", "JUTKARIQ_STATISTICS_PORT": "0", "JUTKARIQ_LOG": "none"},
         )
         first = self.process.stdout.readline()
         found = re.search(r"requests at http://localhost:(\d+)", first)
-        self.port = int(found[1]) if found else None
-        if not found and not memory:
+        if not found:
             raise SystemExit(f"clients/limits.py: the server does not say where it listens: {first!r}")
+        self.port = int(found[1])
+
+    def addresses(self):
+        """Returns how many bytes of addresses it has."""
+        with open(f"/proc/{self.process.pid}/statm", encoding="utf-8") as it:
+            return int(it.read().split()[0]) * resource.getpagesize()
 
     def told(self):
         """Returns the lines that it has told on standard error."""
@@ -203,10 +210,15 @@ def stillness(checks, program):
 
 def shortage(checks, program):
     """Want of memory."""
-    server = Server(program, memory=400 * 2**20)
-    if not server.port:
-        print("left out: want of memory. This program takes more from the start, as one that is not proved does")
+    server = Server(program)
+    # all its threads have begun then, and have what they take at their beginning
+    time.sleep(1)
+    limit = server.addresses() + MORE
+    if limit > USUAL:
+        server.end()
+        print("left out: want of memory. This program has an address sanitizer, as one that is not proved may have")
         return
+    resource.prlimit(server.process.pid, resource.RLIMIT_AS, (limit, limit))
     held = []
     for _ in range(60):
         try:

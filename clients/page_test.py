@@ -461,7 +461,7 @@ def check_one(checks, browser):
     checks.check("one queue", held["sum"].split() == "1 queue 1 visible 1 delayed 1 in flight".split(), held["sum"])
     wanted = ["This minute: 1 sent (1 byte), 1 received, 1 deleted, 1 empty receive, 1 dead letter", "Refused: 1 this minute, 1 in the minute before"]
     queue = held["queues"][0]
-    checks.check("one of everything", queue["lines"][:2] == wanted and queue["lines"][2].startswith("1 entry in the journal at "), queue["lines"])
+    checks.check("one of everything", queue["lines"][:2] == wanted and queue["lines"][2].startswith("The journal weighs 1 at "), queue["lines"])
     checks.check("one minute", queue["plots"][0][0] == "sent in the last 1 minute: up to 1, this minute 1", queue["plots"])
     browser.open("about:blank")
     browser.open(f"{url}#dead")

@@ -26,7 +26,7 @@ from polls_faults import faulty_work
 
 # All times are in seconds. How much later than its send a receive that waits is answered. Ten ticks a second end waits, too: where no send did, half of the
 # rounds would be beyond 0.05. A busy machine may hold up three rounds of the 500 of a kind.
-WOKEN = Limit(each=0.2, most=0.05, but=3, middle=0.03)
+WOKEN = Limit(each=0.1, most=0.05, but=3, middle=0.03)
 # How much later than the last of many sends the last of as many receives is answered.
 CROWD_WOKEN = Limit(each=0.1)
 # How much later than the receive by which it left its queue a dead letter is received. By the ticks alone the middle one would be some 0.05.

@@ -5,7 +5,7 @@ usage: clients/rate.py [--seconds S] [--runs R] [--connections N,..] [--polls N]
        clients/rate.py --rest [--seconds S] [PROGRAM]
 
 The program is the proved server, as `make build` makes it, unless another is named. Server and nginx are started here, at free ports, and so
-is moto's server where it is installed, which gets sends of 1 letter alone, once. With what is given in brackets it takes some 13 minutes.
+is moto's server where it is installed, which gets sends of 1 letter alone, once. With what is given in brackets it takes some 14 minutes.
 
   --seconds S        how long each run takes, 1 to 15 (2)
   --runs R           how often each is run (5)
@@ -32,8 +32,9 @@ How it keeps from flattering:
   - Each reply has to have status 200, and the MD5 of what was sent or an empty list of failures. Behind each run the statistics of the queue
     have to tell as many messages sent, received and deleted as wrk has replies to, and neither a refusal nor an empty receive. Polls that are
     parked have to be silent until the run is over, and then each to be answered by a message. Else there is no table.
-  - Polls stay parked while others send to their queue only where no message is visible in time: those sends have a delay of 15 minutes. Where
-    each message is taken by one of as many polls, these come again and delete what they got: three requests a message, of which one is counted.
+  - Polls stay parked while others send to their queue only where no message is visible in time: those sends have a delay of 15 minutes, and so
+    have those beside which no poll is parked. Where each message is taken by one of as many polls, these come again and delete what they got:
+    three requests a message, of which one is counted.
 """
 import argparse
 import contextlib
@@ -84,6 +85,7 @@ KINDS = (
     (Kind("sends under faketime", "/send/", "send", "new"), Kind("sends under faketime, 180 rows", "/send/", "send", "aged")),
     (Kind("sends, polls parked at another queue", "/send/", "send", "other"),),
     (
+        Kind("sends with a delay", "/send/", "send", seconds=900),
         Kind("sends with a delay, polls parked at the queue", "/send/", "send", "same", seconds=900),
         Kind("sends, each received by a poll and deleted", "/send/", "send", "served"),
     ),

@@ -29,6 +29,8 @@ class Page(unittest.TestCase):
         text = PAGE.read_text()
         for name, code in FILE.findall(text):
             (self.folder / name).write_text(code)
+        for path in (PAGE.parent.parent / "clients" / "examples").iterdir():
+            shutil.copy(path, self.folder)
         self.runs = RUN.findall(text)
         (self.folder / "bin").mkdir()
         replay = find_program("sqs_replay", None, "JUTKARIQ_REPLAY")
