@@ -74,7 +74,7 @@ pub(crate) fn refusal_of(reply: &Reply<'_>) -> Option<Refusal> {
         )),
         503 => Some(Refusal::Other(
             "ServiceUnavailable",
-            "bodies of 33,554,432 bytes are on their way already",
+            "with its body, the large ones on their way would have more than 33,554,432 bytes",
         )),
         _ => None,
     }

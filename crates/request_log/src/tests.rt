@@ -22,7 +22,7 @@ const LINES: &str =
 1 -  403 {"message":"requests of web pages are not answered"} => 00:00:00.001 - - 403 Forbidden: the request has the header Origin, as requests of web pages do
 1 -  413 {"message":"body too large"} => 00:00:00.001 - - 413 ContentTooLarge: its body has more than 8,388,608 bytes
 1 SendMessage {"QueueUrl":"jobs","MessageBody":"a"} 500 {"__type":"com.amazonaws.sqs#ServiceUnavailable","message":"Too many requests wait for the queue."} => 00:00:00.001 SendMessage jobs 500 ServiceUnavailable: 1,000 requests wait for the queue already
-1 -  503 {"__type":"com.amazonaws.sqs#ServiceUnavailable","message":"Too much of other requests is on its way."} => 00:00:00.001 - - 503 ServiceUnavailable: bodies of 33,554,432 bytes are on their way already
+1 -  503 {"__type":"com.amazonaws.sqs#ServiceUnavailable","message":"Too much of other requests is on its way."} => 00:00:00.001 - - 503 ServiceUnavailable: with its body, the large ones on their way would have more than 33,554,432 bytes
 "#;
 
 /// Why a test stops.

@@ -1,5 +1,5 @@
 -- What the future of a response gives: a request is judged by its head, its stages follow one another, and what the last one ends with is sent.
-use Rattle.std.specs.Prelude.{◌≡◌, ◌⊎◌, ⊤, ℕ, is_some, codes, List, [], Bool, Option, Some, None, Result, Ok, Err}
+use Rattle.std.specs.Prelude.{◌≡◌, ◌≢◌, ◌⊎◌, ⊤, ℕ, is_some, codes, List, [], Bool, Option, Some, None, Result, Ok, Err}
 use Rattle.http.specs.Request as request
 use Rattle.http.specs.Response.{body_of, head_of}
 use Rattle.http.specs.StatusCode.{IsStatusCode}
@@ -25,7 +25,7 @@ use Rattle.sqs_server.specs.declared.stage.Next.TheVariants.{On, Ends}
 use Rattle.sqs_server.specs.declared.stage.Stage.{Stage}
 use Rattle.sqs_server.specs.declared.stage.Stage.TheVariants as stages
 use Rattle.sqs_server.specs.declared.stage.Turn.TheVariants.{Goes, Waits}
-use Rattle.sqs_server.specs.Head.{body_limit, denial_of}
+use Rattle.sqs_server.specs.Head.{body_limit, counted, denial_of}
 use Rattle.sqs_server.specs.Sent.{HoldsBody, crowded, denied, refused, reply_headers}
 use Rattle.sqs_server.specs.Stages.{Turns}
 
@@ -50,19 +50,22 @@ has_origin head = is_some (get head.headers (codes "origin"))
 module _ {R : Type 0} where
   -- ---- how a request begins
 
-  -- denied by its head; or its body comes, under the limit, unless the bodies that are on their way hold too much
-  abbrev pub Judged : Parts → Incoming TcpStream → Option Denial → Stage R → Type 0
-  Judged head body (Some denial) stage = stage ≡ stages.Sending (denied denial)
-  Judged head body None stage =
-      (stage ≡ stages.Sending crowded)
-      ⊎ ((arriving : Arriving) × (stage ≡ stages.Collecting arriving) × (arriving.head ≡ head)
-      × IsCollectOf arriving.body record { remaining = body_limit; inner = body })
+  -- its body comes, under the limit, and counts as so many bytes
+  abbrev pub Comes : Parts → Incoming TcpStream → ℕ → Stage R → Type 0
+  Comes head body size stage =
+      (arriving : Arriving) × (stage ≡ stages.Collecting arriving) × (arriving.head ≡ head) × (arriving.part.size ≡ size)
+      × IsCollectOf arriving.body record { remaining = body_limit; inner = body }
 
-  -- the same, by the method and by the least size that its body can have: the announced one, where there is one
+  -- denied by its head; or its body comes, unless the bodies that are on their way hold too much: one that counts for nothing always comes
+  abbrev pub Judged : Parts → Incoming TcpStream → Option ℕ → Option Denial → Stage R → Type 0
+  Judged head body announced (Some denial) stage = stage ≡ stages.Sending (denied denial)
+  Judged head body announced None stage = ((counted announced ≢ 0) × (stage ≡ stages.Sending crowded)) ⊎ Comes head body (counted announced) stage
+
+  -- the same, by the method, by the announced size, where there is one, and by the least size that its body can have
   abbrev pub IsFirst : Request (Incoming TcpStream) → Stage R → Type 0
   IsFirst asked stage =
       (hint : SizeHint) × (exact hint ≡ size_left (request.body_of asked).kind)
-      × Judged (request.head_of asked) (request.body_of asked) (denial_of (has_origin (request.head_of asked)) (request.head_of asked).method (lower hint)) stage
+      × Judged (request.head_of asked) (request.body_of asked) (exact hint) (denial_of (has_origin (request.head_of asked)) (request.head_of asked).method (lower hint)) stage
 
   -- ---- where it waits or ends
 

@@ -339,11 +339,11 @@ module _ {R : Type 0} (port : ℕ) where
   IsCollected head (Ok body) next = IsRead head body next
   IsCollected head (Err error) next = (sent : Result Sent Error) × SentOfError error sent × (next ≡ Ends sent)
 
-  -- a body comes, or still comes, behind the same head, and may give then only what it may give now
+  -- a body comes, or still comes, behind the same head and with the same part, and may give then only what it may give now
   abbrev pub Collects : Arriving → Turn R → Type 0
   Collects arriving =
       Leads (λ next. (given : Result Collected (LimitedError Error)) × MayCollect arriving.body given × IsCollected arriving.head given next)
-      (λ stage. (left : Arriving) × (stage ≡ stages.Collecting left) × (left.head ≡ arriving.head)
+      (λ stage. (left : Arriving) × (stage ≡ stages.Collecting left) × (left.head ≡ arriving.head) × (left.part ≡ arriving.part)
       × ((given : Result Collected (LimitedError Error)) → MayCollect left.body given → MayCollect arriving.body given))
 
   -- a queue is to be there

@@ -3,7 +3,7 @@
 ghost use Rattle.std.specs.Prelude.{◌≡◌, Ok, None, IfSome, option_map};
 ghost use Rattle.sqs_server.specs.Head as head_spec;
 ghost use Rattle.sqs_server.specs.Responses as response;
-ghost use Rattle.sqs_server.specs.Responses.{IsFirst, IsGiven, Judged, Responds};
+ghost use Rattle.sqs_server.specs.Responses.{Comes, IsFirst, IsGiven, Judged, Responds};
 
 use crate::arriving::{Arriving, Asked};
 use crate::bodies::{Bodies, Part, counted};
@@ -62,7 +62,7 @@ fn respond(
 
 /// The stage of a request whose body comes behind a head.
 fn collecting<R: Wait + Drop>(alloc: Global, head: Parts, body: Incoming, part: Part) -> Stage<R>
-    ensures { Judged head body None result }
+    ensures { Comes head body part.size result }
 {
     let body = Limited::new(body, BODY_LIMIT as usize).collect(alloc);
     Stage::Collecting(Arriving { head, body, part })
@@ -88,7 +88,7 @@ fn judged<R: Wait + Drop>(
     size: u64,
     announced: Option<u64>,
 ) -> Stage<R>
-    ensures { Judged head body (head_spec.denial_of (response.has_origin head) head.method size) result }
+    ensures { Judged head body announced (head_spec.denial_of (response.has_origin head) head.method size) result }
 {
     match denial_of(has_origin(&head), head.method.as_str(), size) {
         Some(denial) => Stage::Sending(denied(denial)),

@@ -1,6 +1,6 @@
 //! How much the large bodies may hold together that are on their way.
 
-ghost use Rattle.std.specs.Prelude.{◌≡◌, ◌≤◌, ◌+◌, nat_le};
+ghost use Rattle.std.specs.Prelude.{◌≡◌, ◌≢◌, ◌≤◌, ◌+◌, nat_le, IfSome, IfNone};
 ghost use Rattle.sqs_server.specs.Head.{bodies_limit, counted};
 
 use crate::head::BODY_LIMIT;
@@ -50,26 +50,38 @@ impl Bodies {
         }
     }
 
-    /// The part of a body that counts as so many bytes, for as long as the part is there. `None` where it would be too much.
-    pub fn part(bodies: &Arc<Bodies>, size: u64) -> Option<Part> {
+    /// The part of a body that counts as so many bytes, for as long as the part is there. `None` where it would be too much,
+    /// which one that counts for nothing never is.
+    pub fn part(bodies: &Arc<Bodies>, size: u64) -> Option<Part>
+        ensures room { IfNone result (size ≢ 0) }
+        ensures counts { IfSome result (λ part. part.size ≡ size) }
+    {
+        if size == 0 {
+            return Some(Part { size, bodies: None });
+        }
         if !fits(bodies.held.load(Ordering::SeqCst), size) {
             return None;
         }
         let bodies = Arc::try_clone(bodies).ok()?;
         bodies.held.fetch_add(size, Ordering::SeqCst);
-        Some(Part { size, bodies })
+        Some(Part {
+            size,
+            bodies: Some(bodies),
+        })
     }
 }
 
-/// A body's part of what all bodies hold. Once it is dropped, others have room for it.
+/// A body's part of what all bodies hold, of which a small one has none. Once it is dropped, others have room for it.
 pub struct Part {
     size: u64,
-    bodies: Arc<Bodies>,
+    bodies: Option<Arc<Bodies>>,
 }
 
 impl Drop for Part {
     fn drop(self) {
         let Self { size, bodies } = self;
-        bodies.held.fetch_sub(size, Ordering::SeqCst);
+        if let Some(bodies) = bodies {
+            bodies.held.fetch_sub(size, Ordering::SeqCst);
+        }
     }
 }

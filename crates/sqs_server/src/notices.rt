@@ -92,9 +92,13 @@ impl Notices {
 }
 
 /// Tells what was held back, if it is time.
-fn tell_rest<R: Clock + Eprint>(rt: &R, burst: &mut Burst) {
-    if let Ok(Some(line)) = burst.rest(moment_of_day(rt)) {
-        let _ = rt.eprintln(format_args!("{line}"));
+fn tell_rest<R: Clock + Eprint>(rt: &R, burst: &mut Burst, shortage: &Shortage) {
+    match burst.rest(moment_of_day(rt)) {
+        Ok(Some(line)) => {
+            let _ = rt.eprintln(format_args!("{line}"));
+        }
+        Ok(None) => {}
+        Err(AllocError) => shortage.note(),
     }
 }
 
@@ -129,7 +133,7 @@ fn tell_all<R: Wait + Clock + Eprint>(rt: &R, alloc: Global, waiting: Waiting) {
         tell_shortage(rt, &shortage, &mut told);
         match lines.recv_timeout(rt, Duration::from_secs(PAUSE)) {
             Ok(line) => tell_one(rt, &mut burst, &shortage, line.as_str()),
-            Err(RecvTimeoutError::Timeout) => tell_rest(rt, &mut burst),
+            Err(RecvTimeoutError::Timeout) => tell_rest(rt, &mut burst, &shortage),
             Err(RecvTimeoutError::Disconnected) => return,
         }
     }

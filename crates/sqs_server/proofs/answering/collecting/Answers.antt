@@ -1,6 +1,6 @@
-use Rattle.std.proofs.Common.{inr, refl, subst}
+use Rattle.std.proofs.Common.{refl, subst}
 use Rattle.http_body_util.specs.Collected.{IsCollectOf}
 use Rattle.sqs_server.proofs.answering.collecting.Goals as goal
 
 pub returns : goal.returns
-returns g c = inr (_, refl, refl, subst (IsCollectOf c.collect-body.result) c.new.ensures c.collect-body.ensures)
+returns g c = (_, refl, refl, refl, subst (IsCollectOf c.collect-body.result) c.new.ensures c.collect-body.ensures)

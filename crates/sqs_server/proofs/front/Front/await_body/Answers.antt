@@ -6,7 +6,7 @@ pub poll-requires : goal.poll-requires
 poll-requires g c = (tt, some_from _ c.args.arriving.here)
 
 pub returns-in-Pending-clause-leads : goal.returns-in-Pending-clause-leads
-returns-in-Pending-clause-leads g c = (_, refl, refl, c.in-Pending.ensures.same)
+returns-in-Pending-clause-leads g c = (_, refl, refl, refl, c.in-Pending.ensures.same)
 
 pub returns-in-Ready-Ok-clause-leads : goal.returns-in-Ready-Ok-clause-leads
 returns-in-Ready-Ok-clause-leads g c = (Ok c.in-Ready-Ok.body, rw c.in-Ready-Ok.field-0-is at c.in-Ready-Ok.ensures.value, c.read.ensures)
