@@ -134,8 +134,8 @@ fn refused_memory(rt: HostRuntime) -> Result<(), Fail> {
     Ok(())
 }
 
-/// Whoever puts a thousand numbers in by falling moment compares 999 times at least: a heap that compares
-/// by other means than the counter's would count less.
+/// Each number that is put in by falling moment rises to the top of a heap, by 7,987 comparisons for a thousand: one that makes
+/// some of them by other means than the counter's would count less.
 #[test]
 fn falling_moments(rt: HostRuntime) -> Result<(), Fail> {
     let alloc = rt.alloc();
@@ -143,22 +143,23 @@ fn falling_moments(rt: HostRuntime) -> Result<(), Fail> {
     for number in 0..1000 {
         let _none = inserted(alloc, &mut talk, number, 1000 - number)?;
     }
-    assert!(rt; talk.1.count() >= 999);
+    assert!(rt; talk.1.count() >= 7_900);
     assert_eq!(rt; talk.0.first(), Some((1, 999)));
     Ok(())
 }
 
-/// The same by rising moment, and in mixed order: each moment once, as 617 and 1000 have no common factor.
+/// By rising moment none rises, which takes one comparison each, and in mixed order 2,278 are made in all: each moment comes
+/// once, as 617 and 1000 have no common factor.
 #[test]
 fn rising_and_mixed_moments(rt: HostRuntime) -> Result<(), Fail> {
     let alloc = rt.alloc();
-    for factor in [1, 617] {
+    for (factor, least) in [(1, 999), (617, 2_200)] {
         let mut talk = (DeadlineHeap::new(alloc), Ticks::new(&rt));
         for number in 0..1000_u64 {
             let moment = number.wrapping_mul(factor) % 1000;
             let _none = inserted(alloc, &mut talk, number, moment)?;
         }
-        assert!(rt; talk.1.count() >= 999);
+        assert!(rt; talk.1.count() >= least);
         assert_eq!(rt; talk.0.first(), Some((0, 0)));
     }
     Ok(())

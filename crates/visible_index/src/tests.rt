@@ -95,8 +95,8 @@ fn refused_memory(rt: HostRuntime) -> Result<(), Fail> {
     Ok(())
 }
 
-/// Whoever puts a thousand pairs in by falling moment compares 999 times at least: an index that compares
-/// by other means than the counter's would count less.
+/// Whoever searches by halves for the places of a thousand pairs compares 7,987 times at least, and 8,977 times by falling
+/// moment: an index that makes some of its comparisons by other means than the counter's would count less.
 #[test]
 fn falling_moments(rt: HostRuntime) -> Result<(), Fail> {
     let alloc = rt.alloc();
@@ -105,7 +105,7 @@ fn falling_moments(rt: HostRuntime) -> Result<(), Fail> {
         index.reserve(alloc, 1)?;
         index.put(moment, 7, &mut ticks);
     }
-    assert!(rt; ticks.count() >= 999);
+    assert!(rt; ticks.count() >= 7_900);
     for (place, wanted) in [(0, Some((0, 7))), (999, Some((999, 7))), (1000, None)] {
         assert_eq!(rt; index.get(place), wanted, "{place}");
     }
@@ -122,7 +122,7 @@ fn rising_and_mixed_moments(rt: HostRuntime) -> Result<(), Fail> {
             index.reserve(alloc, 1)?;
             index.put(number.wrapping_mul(factor) % 1000, 7, &mut ticks);
         }
-        assert!(rt; ticks.count() >= 999);
+        assert!(rt; ticks.count() >= 7_900);
         for (place, wanted) in [(0, Some((0, 7))), (999, Some((999, 7))), (1000, None)] {
             assert_eq!(rt; index.get(place), wanted, "{place}");
         }
