@@ -1,12 +1,12 @@
 //! The service of a connection: each request gets a future of its response.
 
-ghost use Rattle.std.specs.Prelude.{◌≡◌, Ok, None, IfSome, option_map};
+ghost use Rattle.std.specs.Prelude.{◌≡◌, ℕ, Ok, None, IfSome, option_map};
 ghost use Rattle.sqs_server.specs.Head as head_spec;
 ghost use Rattle.sqs_server.specs.Responses as response;
 ghost use Rattle.sqs_server.specs.Responses.{Comes, IsFirst, IsGiven, Judged, Responds};
 
 use crate::arriving::{Arriving, Asked};
-use crate::bodies::{Bodies, Part, counted};
+use crate::bodies::{Bodies, Part};
 use crate::front::Front;
 use crate::head::{BODY_LIMIT, denial_of};
 use crate::reply::{Sent, crowded, denied, refused, response_of};
@@ -62,7 +62,7 @@ fn respond(
 
 /// The stage of a request whose body comes behind a head.
 fn collecting<R: Wait + Drop>(alloc: Global, head: Parts, body: Incoming, part: Part) -> Stage<R>
-    ensures { Comes head body part.size result }
+    ensures { (size : ℕ) → part.size ≡ size → Comes head body size result }
 {
     let body = Limited::new(body, BODY_LIMIT as usize).collect(alloc);
     Stage::Collecting(Arriving { head, body, part })
@@ -92,7 +92,7 @@ fn judged<R: Wait + Drop>(
 {
     match denial_of(has_origin(&head), head.method.as_str(), size) {
         Some(denial) => Stage::Sending(denied(denial)),
-        None => match Bodies::part(bodies, counted(announced)) {
+        None => match Bodies::part(bodies, announced) {
             Some(part) => collecting(alloc, head, body, part),
             None => Stage::Sending(crowded()),
         },

@@ -16,7 +16,7 @@ pub const BODIES_LIMIT: u64 = 4 * BODY_LIMIT;
 pub const SMALL_BODY: u64 = 65_536;
 
 /// As how many bytes a body counts. One whose size is not announced may be as long as any.
-pub(crate) fn counted(announced: Option<u64>) -> u64
+fn counted(announced: Option<u64>) -> u64
     ensures { result ≡ counted announced }
 {
     match announced {
@@ -50,12 +50,13 @@ impl Bodies {
         }
     }
 
-    /// The part of a body that counts as so many bytes, for as long as the part is there. `None` where it would be too much,
-    /// which one that counts for nothing never is.
-    pub fn part(bodies: &Arc<Bodies>, size: u64) -> Option<Part>
-        ensures room { IfNone result (size ≢ 0) }
-        ensures counts { IfSome result (λ part. part.size ≡ size) }
+    /// The part of a body whose size is announced, or not, for as long as the part is there. `None` where it would be too
+    /// much, which one that counts for nothing never is.
+    pub fn part(bodies: &Arc<Bodies>, announced: Option<u64>) -> Option<Part>
+        ensures room { IfNone result (counted announced ≢ 0) }
+        ensures counts { IfSome result (λ part. part.size ≡ counted announced) }
     {
+        let size = counted(announced);
         if size == 0 {
             return Some(Part { size, bodies: None });
         }
