@@ -26,13 +26,18 @@ fn waiting() -> Result<AlarmRule, Fault> {
     })
 }
 
-/// A queue that was opened at 0 under the uid 1, with the default settings and one alarm.
+/// A queue that was opened at 0 under the uid 1, with the default settings and one alarm. Its journal begins anew where it
+/// has four entries.
 fn open(alloc: Global) -> Result<QueueState, Fault>
     ensures { IfOk result (λ queue. queue.clock ≡ 0) }
 {
     let (name, mut rules) = (QueueName::read("jobs")?, Vec::new(alloc));
     rules.push(waiting()?)?;
-    let (settings, limits) = (Settings::default(), Limits::default());
+    let settings = Settings::default();
+    let limits = Limits {
+        max_lines: 4,
+        in_flight: 10,
+    };
     QueueState::open(alloc, 1, name, settings, limits, rules, Moment::zero())
 }
 
@@ -67,12 +72,12 @@ fn told(sheet: &Sheet) -> (u64, u64, u64) {
     )
 }
 
-/// The command that sends a body, and a look where it is empty.
+/// The command that sends a body, a look where it is empty, and a purge where it is a hyphen.
 fn command(alloc: Global, body: &str) -> Result<Command, Fault> {
-    if body.is_empty() {
-        Ok(Command::Look)
-    } else {
-        send(alloc, body)
+    match body {
+        "" => Ok(Command::Look),
+        "-" => Ok(Command::Purge),
+        body => send(alloc, body),
     }
 }
 
@@ -201,14 +206,21 @@ impl<R: Wait + Copy + Drop> Talk<R> {
         Err(Fail::new("it has changed what is read, or nothing is told"))
     }
 
-    /// Asks for each text that it is sent, or a look where it is empty, and reads what stands beside it.
+    /// Asks for each text that it is sent, a look where it is empty, or a purge where it is a hyphen, and reads what stands
+    /// beside it. With the last text the journal begins anew: the entry that stands for the four before it, and the new one.
     fn go_through<W: Wait>(
         &mut self,
         rt: &W,
         alloc: Global,
         refused: &mut u32,
     ) -> Result<(), Fail> {
-        for (body, wanted) in [("a", (2, 1000, 1)), ("", (2, 1000, 1)), ("b", (3, 1000, 2))] {
+        for (body, wanted) in [
+            ("a", (2, 1000, 1)),
+            ("", (2, 1000, 1)),
+            ("b", (3, 1000, 2)),
+            ("-", (4, 1000, 0)),
+            ("c", (2, 1000, 1)),
+        ] {
             let command = command(alloc, body).or_else(|_| command(alloc, body))?;
             self.ask_twice(rt, alloc, &command, refused)?;
             let read = told(&self.read_twice(alloc, refused)?);
