@@ -229,8 +229,18 @@ def owner():
     return {"user": user, "group": user, "extra_groups": []}, 0
 
 
+def started(words, **how):
+    """Starts a program that is to end at once, and returns its status and what it tells on standard error."""
+    try:
+        ran = subprocess.run(words, env={"JUTKARIQ_PORT": "0", "JUTKARIQ_STATISTICS_PORT": "0"}, capture_output=True, text=True, timeout=LIMIT, **how)
+    except subprocess.TimeoutExpired:
+        return f"it had not ended after {LIMIT} s"
+    return ran.returncode, ran.stderr
+
+
 def threads(it, program, room):
-    """Where the system starts no thread for a queue, it is refused for want of memory and leaves no name, and is made once another queue was deleted."""
+    """Where the system starts no thread for a queue, it is refused for want of memory and leaves no name, and is made once another queue was deleted. One that
+    is configured ends the start."""
     how, others = owner()
     os.chmod(room, 0o755)
     shutil.copy(program, f"{room}/program")
@@ -260,6 +270,10 @@ def threads(it, program, room):
         it.equal("the same CreateQueue then", found, (200, json.dumps({"QueueUrl": server.url(name)}, separators=(",", ":"))))
         it.equal("a message to it", server.ask("SendMessage", QueueUrl=name, MessageBody="a")[0], 200)
         it.equal("the names at last", server.ask("ListQueues"), (200, json.dumps({"QueueUrls": [*map(server.url, [*made[1:], name])]}, separators=(",", ":"))))
+    with open(f"{room}/many.toml", "w", encoding="utf-8") as file:
+        file.writelines(f'[[queue]]\nname = "queue-{number:03}"\n' for number in range(THREADS * 10))
+    found = started([f"{room}/program", f"{room}/many.toml"], preexec_fn=begin, **how)
+    it.equal("a start with more queues than threads", found, (1, "sqs_server: out of memory\n"))
 
 
 def silence(it, program, room):

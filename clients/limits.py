@@ -4,21 +4,26 @@
 usage: clients/limits.py [--quick] [PROGRAM]
 
 The program is the one that `make run` starts, unless another is named. It takes a minute and a half, and one that is not proved two to four: what is given up
-after 30 to 40 seconds has to be waited for. With --quick it does not look at connections that stand still, and takes 4 to 12 seconds. Each line of what it
+after 30 to 40 seconds has to be waited for. With --quick it does not look at connections that stand still, and takes 10 to 20 seconds. Each line of what it
 prints names a check, and the last says 'N passed, M failed'; the status is 1 where one fails.
 
-  - Bodies of 8 MB are announced over more connections than all threads together may take. Some are answered 503, and each of these is closed. A small
-    request is answered all the same, over each of many connections. Once the large ones are cut, one more is taken, and answered.
+  - Bodies of 8 MB are announced over more connections than all threads together may take, four times over, and once as many bodies come in chunks, whose size
+    is not announced. Each time as many are taken as one thread takes at the least, and as all threads may at the most. All others are answered 503, each of
+    these is closed, and it is counted. A small request is answered all the same, over each of many connections. Once the large ones are cut, one more is
+    taken, and answered.
   - A body of which no byte comes any more, and a reply of which none is taken, end their connection between 30 and 45 seconds later. A receive that
     waits for 20 seconds does not: it is answered, and so is what is asked next over its connection.
   - Where it may have no more than some bytes of addresses beyond those of its start, fewer than a thread takes for large bodies, the proved server tells that
     it has no memory, in one line, goes on, and answers what is asked once the memory is there again. A program that is compiled without a proof has an address
     sanitizer, which takes terabytes of addresses at its start and ends the program where it gets no more: with it this is left out.
 """
+import atexit
+import contextlib
 import json
 import os
 import re
 import resource
+import select
 import socket
 import subprocess
 import sys
@@ -30,6 +35,9 @@ ROOT = os.path.normpath(os.path.join(os.path.dirname(os.path.abspath(__file__)),
 # The largest body, and the most threads that answer requests: docs/PROFILE.md, section 25.
 LARGEST, THREADS, LARGE_AT_ONCE = 8_388_608, 16, 4
 SHORT = "sqs_server: out of memory"
+# How often large bodies come together, and how long no reply has to come until none is waited for, in seconds: where as many wait as may be taken at the most,
+# and where more do.
+ROUNDS, QUIET, LATE = 4, 1, 30
 # How many bytes of addresses the server may have more than at its start, where memory is to be short: not those of three of the largest bodies; and how many
 # it has at the most where it has no address sanitizer.
 MORE, USUAL = 20 * 2**20, 2**40
@@ -50,11 +58,13 @@ class Server:
             text=True,
             env={**os.environ, "JUTKARIQ_PORT": "0", "JUTKARIQ_STATISTICS_PORT": "0", "JUTKARIQ_LOG": "none"},
         )
+        # also where this program ends before it has ended it
+        atexit.register(self.process.kill)
         first = self.process.stdout.readline()
-        found = re.search(r"requests at http://localhost:(\d+)", first)
+        found = re.search(r"requests at http://localhost:(\d+), statistics at http://localhost:(\d+)", first)
         if not found:
             raise SystemExit(f"clients/limits.py: the server does not say where it listens: {first!r}")
-        self.port = int(found[1])
+        self.port, self.statistics = int(found[1]), int(found[2])
 
     def addresses(self):
         """Returns how many bytes of addresses it has."""
@@ -73,25 +83,36 @@ class Server:
         self.process.wait()
         return went
 
-    def connect(self, room=None):
-        """Returns a connection, which takes in no more than so many bytes at once, where a number is given."""
+    def connect(self, room=None, port=None):
+        """Returns a connection, which takes in no more than so many bytes at once, where a number is given, to the port for requests or to another."""
         it = socket.socket()
         if room:
             it.setsockopt(socket.SOL_SOCKET, socket.SO_RCVBUF, room)
         it.settimeout(60)
-        it.connect(("127.0.0.1", self.port))
+        it.connect(("127.0.0.1", port or self.port))
         return it
 
+    def counted(self, action, status):
+        """Returns how many requests its statistics tell of that had an action and a status, as they are told."""
+        it = self.connect(port=self.statistics)
+        it.sendall(b"GET /metrics HTTP/1.1\r\nHost: localhost\r\n\r\n")
+        _, text = reply(it) or (0, "")
+        line = f'jutkariq_requests_total{{action="{action}",status="{status}"}} '
+        return re.findall(f"(?m)^{re.escape(line)}(.*)$", text)
 
-def head(action, length):
-    """Returns the head of a request."""
-    return f"POST / HTTP/1.1\r\nHost: localhost\r\nX-Amz-Target: AmazonSQS.{action}\r\nContent-Length: {length}\r\n\r\n".encode()
+
+def head(action, length=None):
+    """Returns the head of a request, whose body comes in chunks where it has no length."""
+    size = "Transfer-Encoding: chunked" if length is None else f"Content-Length: {length}"
+    return f"POST / HTTP/1.1\r\nHost: localhost\r\nX-Amz-Target: AmazonSQS.{action}\r\n{size}\r\n\r\n".encode()
 
 
 def ask(it, action, **members):
-    """Asks, and returns the status and the body of the reply."""
+    """Asks, and returns the status and the body of the reply, or None where the connection ends before."""
     body = json.dumps(members).encode()
-    it.sendall(head(action, len(body)) + body)
+    # where the connection is closed meanwhile, a reply may have come before
+    with contextlib.suppress(ConnectionError):
+        it.sendall(head(action, len(body)) + body)
     return reply(it)
 
 
@@ -99,26 +120,47 @@ def reply(it):
     """Returns the status and the body of the next reply, or None where the connection ends before."""
     came = b""
     while b"\r\n\r\n" not in came:
-        piece = it.recv(65_536)
+        piece = next_of(it)
         if not piece:
             return None
         came += piece
     front, _, body = came.partition(b"\r\n\r\n")
     length = int(re.search(rb"content-length: (\d+)", front)[1])
     while len(body) < length:
-        piece = it.recv(65_536)
+        piece = next_of(it)
         if not piece:
             return None
         body += piece
     return int(front.split()[1]), body.decode()
 
 
+def next_of(it):
+    """Returns the bytes that come next over a connection, none where it has ended."""
+    try:
+        return it.recv(65_536)
+    except ConnectionError:
+        return b""
+
+
 def has_ended(it):
     """Returns whether nothing more comes over a connection but its end."""
     try:
-        return it.recv(1) == b""
-    except ConnectionResetError:
-        return True
+        return next_of(it) == b""
+    except TimeoutError:
+        return False
+
+
+def replies(lines, most):
+    """Returns the connections over which a reply comes, each with its reply. Where more than so many are left, the next reply may come late."""
+    ready, waiting, found = select.poll(), {it.fileno(): it for it in lines}, []
+    for it in lines:
+        ready.register(it, select.POLLIN)
+    while waiting and (events := ready.poll(1000 * (QUIET if len(waiting) <= most else LATE))):
+        for number, _ in events:
+            ready.unregister(number)
+            it = waiting.pop(number)
+            found.append((it, reply(it)))
+    return found
 
 
 class Checks:
@@ -133,37 +175,36 @@ class Checks:
         self.passed, self.failed = self.passed + bool(holds), self.failed + (not holds)
 
 
+def come_together(checks, server, which, made):
+    """Has large bodies come over more connections than may be taken, each behind this head. Returns how many were turned away."""
+    threads = max(2, min(THREADS, len(os.sched_getaffinity(0)) - 1))
+    many = [server.connect() for _ in range(THREADS * LARGE_AT_ONCE + 1)]
+    for it in many:
+        it.sendall(made)
+    refused = replies(many, LARGE_AT_ONCE * threads)
+    told, taken = {answer for _, answer in refused}, len(many) - len(refused)
+    text = '{"__type":"com.amazonaws.sqs#ServiceUnavailable","message":"Too much of other requests is on its way."}'
+    checks.see(f"{which}: some are too many, and told so", told == {(503, text)}, told)
+    checks.see(f"{which}: as many are not as one thread takes at the least, and all threads at the most", LARGE_AT_ONCE <= taken <= LARGE_AT_ONCE * threads, taken)
+    checks.see(f"{which}: the connections of those that are too many are closed", all(has_ended(it) for it, _ in refused))
+    answers = {(ask(server.connect(), "GetQueueUrl", QueueName="jobs") or ["none"])[0] for _ in range(40)}
+    checks.see(f"{which}: small requests are answered beside them", answers == {200}, answers)
+    for it in many:
+        it.close()
+    # until the server knows of it
+    time.sleep(0.5)
+    return len(refused)
+
+
 def bodies(checks, program):
     """Large bodies that come together."""
     server = Server(program)
-    many = [server.connect() for _ in range(THREADS * LARGE_AT_ONCE + 1)]
-    for it in many:
-        it.sendall(head("SendMessage", LARGEST))
-    time.sleep(2)
-    refused = []
-    for it in many:
-        it.settimeout(0.05)
-        try:
-            refused.append((it, reply(it)))
-        except TimeoutError:
-            pass
-        it.settimeout(60)
-    told = {answer for _, answer in refused}
-    text = '{"__type":"com.amazonaws.sqs#ServiceUnavailable","message":"Too much of other requests is on its way."}'
-    checks.see("some bodies of 8 MB are too many, and told so", told == {(503, text)}, told)
-    checks.see("four of them are not", len(many) - len(refused) >= LARGE_AT_ONCE, len(refused))
-    checks.see("the connections of those that are too many are closed", all(has_ended(it) for it, _ in refused))
-    answers = {ask(server.connect(), "GetQueueUrl", QueueName="jobs")[0] for _ in range(40)}
-    checks.see("small requests are answered beside them", answers == {200}, answers)
-    for it in many:
-        it.close()
-    time.sleep(0.5)
-    body = json.dumps({"QueueUrl": "jobs", "MessageBody": "x" * 200_000}).encode()
-    statuses = set()
-    for _ in range(8):
-        it = server.connect()
-        it.sendall(head("SendMessage", len(body)) + body)
-        statuses.add(reply(it)[0])
+    refused = sum(come_together(checks, server, f"bodies of 8 MB, time {it + 1}", head("SendMessage", LARGEST)) for it in range(ROUNDS))
+    refused += come_together(checks, server, "bodies in chunks", head("SendMessage"))
+    counted = server.counted("-", 503)
+    checks.see("each of those that are too many is counted", counted == [str(refused)], f"{counted}, and {refused} is wanted")
+    answers = [ask(server.connect(), "SendMessage", QueueUrl="jobs", MessageBody="x" * 200_000) for _ in range(8)]
+    statuses = {(it or ["none"])[0] for it in answers}
     checks.see("once they are gone large ones are answered again", statuses == {200}, statuses)
     checks.see("the server goes on", server.end())
 
@@ -219,7 +260,7 @@ def shortage(checks, program):
         print("left out: want of memory. This program has an address sanitizer, as one that is not proved may have")
         return
     resource.prlimit(server.process.pid, resource.RLIMIT_AS, (limit, limit))
-    held = []
+    held, begun = [], time.monotonic()
     for _ in range(60):
         try:
             it = server.connect()
@@ -233,7 +274,7 @@ def shortage(checks, program):
     time.sleep(2)
     lines = server.told()
     checks.see("the server tells that it has no memory", any("out of memory" in it for it in lines), lines[-3:])
-    checks.see("it does not tell so more than once a second", lines.count(SHORT) <= 60, lines.count(SHORT))
+    checks.see("it does not tell so more than once a second", lines.count(SHORT) <= time.monotonic() - begun + 2, lines.count(SHORT))
     for it in held:
         it.close()
     time.sleep(1)
@@ -250,10 +291,11 @@ def main():
         raise SystemExit("usage: clients/limits.py [--quick] [PROGRAM]")
     program = words[0] if words else subprocess.run([f"{ROOT}/tools/run", "--which", "sqs_server"], stdout=subprocess.PIPE, text=True, check=True).stdout.strip()
     checks = Checks()
-    bodies(checks, program)
-    shortage(checks, program)
-    if not is_quick:
-        stillness(checks, program)
+    for part in (bodies, shortage) if is_quick else (bodies, shortage, stillness):
+        try:
+            part(checks, program)
+        except OSError as error:
+            checks.see(f"what {part.__name__} asks is answered", False, repr(error))
     print(f"{checks.passed} passed, {checks.failed} failed")
     raise SystemExit(1 if checks.failed else 0)
 

@@ -12,7 +12,8 @@ is brought to where the step begins, with memory, and behind it is looked, with 
   - On a new connection the queue has the counts that the answer leaves, and its statistics have the same. Where OutOfMemory or nothing was told, what was asked
     may have been done or not, of a batch some. What was not done is done when it is asked again, and what was done is not harmed: the next step goes right.
   - A connection for each port that is open all the time is answered as always.
-  - The server goes on, tells `sqs_server: out of memory`, but once a second at most, and when all is over has no thread of a queue that is gone.
+  - The server goes on, tells `sqs_server: out of memory`, but once a second at most and no more once there is memory, and when all is over has no thread of a
+    queue that is gone.
 
 Where nothing was refused, that is a failed check, and so it is where no entry of a batch of sends failed by itself. It needs Linux and a C compiler, on x86-64.
 With --quick it goes through batches of sends and statistics alone, where it refuses one allocation at a time, and through a list of queues, where all from one
@@ -47,6 +48,8 @@ HOLD, LIMIT = 0.3, 20
 APART, STAYS = 0.5, 20
 # How long a queue may be in the making whose client is gone, and how long the server takes to start, in seconds.
 SETTLES = 2
+# How long a line about a shortage may come once there is memory, and how long none must come after that, in seconds.
+CALM = 3
 # When a receive counts as one that waits, in seconds.
 WAITS = 0.05
 # How many faults of a step are told.
@@ -128,7 +131,7 @@ GET /statistics/queues
 2 1 1
 
 GET /metrics
-200 # HELP *{queue="jobs"} *
+200 # HELP *{queue="jobs"} *jutkariq_requests_total{action="CreateQueue",status="200"} *jutkariq_build_info{version="*.*"} 1*process_start_time_seconds *
 2 1 1
 
 GET /
@@ -188,7 +191,7 @@ class Step(NamedTuple):
 
     def is_quick(self):
         """Returns whether it is one of the few that are gone through with --quick."""
-        return self.action in ("SendMessageBatch", "ListQueues") or self.asked.startswith("/statistics")
+        return self.action in ("SendMessageBatch", "ListQueues") or self.is_look()
 
     def is_look(self):
         """Returns whether it asks for statistics, as the step behind it may do too."""
@@ -264,6 +267,10 @@ class Server:
         """Keeps what it tells on standard error, and when."""
         for line in self.process.stderr:
             self.told.append((time.monotonic(), line.rstrip("\n")))
+
+    def shortages(self):
+        """Returns when it told of a shortage."""
+        return [when for when, line in self.told if line == SHORT]
 
     def threads(self):
         """Returns how many threads it has."""
@@ -512,6 +519,10 @@ def refused(it, program, library, room, is_quick):
         time.sleep(SETTLES)
         threads = server.threads()
         all_steps(it, server, is_quick)
+        time.sleep(CALM)
+        before = len(server.shortages())
+        time.sleep(CALM)
+        it.equal("lines about a shortage while there is memory", len(server.shortages()) - before, 0)
         it.equal("whether the server goes on", server.process.poll(), None)
         end = time.monotonic() + STAYS
         while server.process.poll() is None and server.threads() != threads and time.monotonic() < end:
@@ -519,7 +530,7 @@ def refused(it, program, library, room, is_quick):
         it.equal("its threads in the end", server.threads() if server.process.poll() is None else None, threads)
         if server.process.poll() is not None:
             print("".join(f"refused.py: it told last: {line}\n" for _, line in server.told[-TOLD:]), end="")
-        at = [when for when, line in server.told if line == SHORT]
+        at = server.shortages()
         it.equal(f"times below {APART} s between two of its lines about a shortage", [one for one in (b - a for a, b in zip(at, at[1:])) if one < APART], [])
         it.equal("whether it told of a shortage", at != [], True)
         it.equal("lines about a shortage that are too many", max(0, len(at) - int(at[-1] - at[0] + 2) if at else 0), 0)

@@ -1,5 +1,5 @@
 -- Every parcel of a queue is moved, or the last move is refused.
-use Rattle.std.proofs.Common.{◌≡◌, ℕ, zero, suc, ◌≤◌, Bool, true, false, Option, Some, None, Result, Ok, Err, refl, sym, ap, subst, inl, inr, ◌∙◌, arith, length}
+use Rattle.std.proofs.Common.{◌≡◌, ℕ, zero, suc, ◌≤◌, Bool, true, false, List, Option, Some, None, Result, Ok, Err, refl, sym, ap, subst, inl, inr, ◌∙◌, arith, length}
 use Rattle.std.specs.Prelude.{◌⊎◌, option_and_then}
 use Rattle.std.specs.Option.{option_map_or, ForSome}
 use Rattle.std.proofs.lemmas.Bool.{false≢true}
@@ -14,11 +14,13 @@ use Rattle.queue_core.proofs.SoundLemmas.{IsSound}
 use Rattle.queue_core.proofs.LegalSoundLemmas.{sound_legal}
 use Rattle.redrive.specs.declared.moved.Moved.{Moved}
 use Rattle.redrive.specs.declared.moved.Moved.TheVariants as moved
-use Rattle.redrive.specs.World.{World, queue_of_uid, first_parcel_in, delivery_of, arrive_answer, world_after_command, needs_confirmation, answer_of_halves, confirm_answer, move_answer, IsMoved}
+use Rattle.redrive.specs.World.{World, found_uid, queue_of_uid, first_parcel_in, delivery_of, arrive_answer, world_after_command, needs_confirmation, answer_of_halves, confirm_answer, move_answer, IsMoved}
 use Rattle.redrive.proofs.MovingLemmas.{needs-Ok, IsMoved-confirmed}
 use Rattle.redrive.proofs.AnswerLemmas.{meets-itself}
 use Rattle.redrive.proofs.WaitingLemmas.{moved-fewer, waiting-count, none-handed, none-waiting}
+use Rattle.sqs_replay.specs.declared.answer.Timed.{Timed}
 use Rattle.sqs_replay.specs.Moves.{world_between, world_after_move, goes_on, some_moves, message_count_in, all_moves, WasRefused}
+use Rattle.sqs_replay.specs.Served.{asked_of, asked_served, line_served, moves_after, queue_of_asked, world_of_line}
 
 -- ---- one move that is answered exactly
 
@@ -121,3 +123,17 @@ all-moved w source at legal = by_queue (queue_of_uid w source) refl where
       let count : message_count_in w source ≡ message_count s.lines = ap (λ (o : Option QueueHistory). option_map_or (λ q. message_count q.lines) o 0) is in
       let all : Ends w source at (some_moves (message_count s.lines) w source at) = enough source at (message_count s.lines) w s is (sound_legal s (legal s is)) (waiting-count s (legal s is)) in
       subst (λ (n : ℕ). Ends w source at (some_moves n w source at)) (sym count) all
+
+-- ---- behind a line
+
+pub line-moved : (w : World) (line name : List ℕ) (timed : Timed) (uid : ℕ) → asked_of line ≡ Ok timed → queue_of_asked timed.asked ≡ Some name
+    → found_uid (asked_served w timed.at timed.asked).world name ≡ Some uid
+    → ForSome (queue_of_uid (asked_served w timed.at timed.asked).world uid) (λ q. IsLegal q)
+    → Ends (asked_served w timed.at timed.asked).world uid timed.at (world_of_line w line)
+line-moved w line name timed uid read named found legal =
+    let answered : World = (asked_served w timed.at timed.asked).world in
+    let left : world_of_line w line ≡ all_moves answered uid timed.at =
+    ap (λ (t : Result Timed Fault). (line_served w t).world) read
+    ∙ ap (λ (o : Option (List ℕ)). moves_after answered timed.at o) named
+    ∙ ap (λ (o : Option ℕ). option_map_or (λ uid. all_moves answered uid timed.at) o answered) found in
+    subst (λ (v : World). Ends answered uid timed.at v) (sym left) (all-moved answered uid timed.at legal)

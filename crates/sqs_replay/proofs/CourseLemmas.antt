@@ -1,7 +1,8 @@
 -- What lines ask is done by steps of the registry.
 use Rattle.std.proofs.Common.{◌≡◌, ℕ, zero, suc, ◌+◌, ◌<◌, ◌≤◌, Bool, true, false, not, cond, ◌&&◌, List, [], ◌∷◌, ◌++◌, length, get_or, take, Option, Some, None, Result, Ok, Err, refl, sym, ap, subst, ◌∙◌, arith}
-use Rattle.std.specs.Prelude.{fold, option_and_then}
+use Rattle.std.specs.Prelude.{map, option_and_then}
 use Rattle.std.specs.Option.{option_map_or}
+use Rattle.std.proofs.lemmas.Bool.{true≢false}
 use Rattle.std.proofs.lemmas.List.{take_all, get_or_default}
 use Rattle.message.specs.declared.fault.Fault.{Fault}
 use Rattle.message.specs.declared.fault.Fault.TheVariants.{QueueDoesNotExist, UnsupportedOperation, InvalidAttributeValue}
@@ -12,24 +13,27 @@ use Rattle.queue_config.specs.Settings.{RequestedAttributes}
 use Rattle.queue_core.specs.declared.command.Command.{Command}
 use Rattle.queue_core.specs.declared.command.Command.TheVariants as commands
 use Rattle.queue_core.specs.declared.parcel.Parcel.{Parcel}
-use Rattle.queue_core.specs.declared.reply.Reply.{Reply}
 use Rattle.queue_core.specs.Queue.{QueueHistory, at_moment}
-use Rattle.redrive.specs.declared.moved.Moved.{Moved}
 use Rattle.redrive.specs.declared.steps.HouseReply.TheVariants.{Advanced}
 use Rattle.redrive.specs.declared.steps.HouseStep.{HouseStep}
 use Rattle.redrive.specs.declared.steps.HouseStep.TheVariants as steps
-use Rattle.redrive.specs.World.{World, empty_world, with_queue, next_queue, new_world, new_queue, queue_named, queue_of_uid, found_uid, target_uid, has_queue, has_no_place, opens_queue, create_answer, world_after_create, is_internal, may_set, step_refusal, step_answer, world_after_command, world_after_step, taken_alone, take_answer, delete_answer, world_after_delete, without_queue, with_queue_changed, first_parcel_in, delivery_of, arrive_answer, world_after_hand_over, accepted_number, confirm_answer, world_after_confirm, needs_confirmation, world_at_moment, move_answer, IsRegistry}
+use Rattle.redrive.specs.World.{World, with_queue, next_queue, new_world, new_queue, queue_named, queue_of_uid, found_uid, target_uid, has_queue, has_no_place, opens_queue, create_answer, world_after_create, is_internal, may_set, step_refusal, step_answer, world_after_command, world_after_step, taken_alone, take_answer, delete_answer, world_after_delete, without_queue, with_queue_changed, first_parcel_in, delivery_of, arrive_answer, accepted_number, confirm_answer, needs_confirmation, world_at_moment, move_answer, IsRegistry}
 use Rattle.redrive.specs.Halves as halves
 use Rattle.redrive.specs.ByPlace.{closes_queue}
 use Rattle.redrive.specs.Cost.{IsDone}
+use Rattle.redrive.specs.History.{AllQueues}
+use Rattle.redrive.specs.HistorySteps.{Own}
+use Rattle.redrive.specs.Places.{IsSpared, NoRelayDeleted}
+use Rattle.redrive.specs.WholeSteps.{whole_after_step}
 use Rattle.redrive.specs.WorldRun.{Answer, act_of, world_after, world_after_all}
 use Rattle.redrive.proofs.AnswerLemmas.{meets-itself, performed-done, confirmed-done, accepted-there, handed-done, created-done, deleted-done}
 use Rattle.redrive.proofs.OpeningLemmas.{opened-more, next_name-new, next_name-place}
 use Rattle.redrive.proofs.RegistryLemmas.{IsRegistry-empty, IsRegistry-with_queue, IsRegistry-after_step, IsRegistry-at_moment, IsRegistry-without, IsRegistry-moved}
 use Rattle.redrive.proofs.RunLemmas.{AreAnswered, AreHouseAnswers-run, AreTold-run}
+use Rattle.aws_json.specs.declared.request.Request.{Request}
+use Rattle.aws_json.specs.declared.request.Request.TheVariants as requests
 use Rattle.request_plan.specs.declared.plan.Step.{Step}
 use Rattle.request_plan.specs.declared.plan.Step.TheVariants as plan
-use Rattle.request_plan.specs.declared.plan.Then.{Then}
 use Rattle.request_plan.specs.declared.task.Task.{Task}
 use Rattle.request_plan.specs.declared.task.Task.TheVariants as tasks
 use Rattle.request_plan.specs.Task.{task_of}
@@ -39,28 +43,18 @@ use Rattle.sqs_replay.specs.declared.answer.Timed.{Timed}
 use Rattle.sqs_replay.specs.Answers.{texts, state_after}
 use Rattle.sqs_replay.specs.Moves.{world_between, confirmed_world, world_after_move, goes_on, some_moves, message_count_in, all_moves}
 use Rattle.sqs_replay.specs.Served.{Served, unchanged, step_served, played, most_commands, task_served, named_sheet_served, asked_of, queue_of_asked, asked_served, line_served, text_of_line, world_of_line}
-use Rattle.sqs_replay.specs.Steps.{Course, IsOutputOf}
+use Rattle.sqs_replay.specs.Steps.{AskNoDeletion, Course, DeleteNone, IsOutputOf, asks_deletion, deletes_queue, is_deletion}
 
 -- ---- steps one after another, each taken in a registry
 
-pub record Walk (old new : World) : Type 0 where
+-- may is whether a queue may be deleted among them
+pub record Walk (may : Bool) (old new : World) : Type 0 where
   pub steps : List HouseStep
   pub answers : List Answer
   pub answered : AreAnswered old steps answers
   pub left : new ≡ world_after_all old steps answers
   pub registry : IsRegistry new
-
-stays : (w : World) → IsRegistry w → Walk w w
-stays w h = record { steps = []; answers = []; answered = tt; left = refl; registry = h }
-
-one : (old new : World) (step : HouseStep) (answer : Answer) → IsRegistry old → IsDone old (act_of old step) answer new 0 0 → IsRegistry new → Walk old new
-one old new step answer h done after = record {
-  steps = step ∷ [];
-  answers = answer ∷ [];
-  answered = (h, (record { meets = done.meets; exact = done.exact }, tt));
-  left = done.left;
-  registry = after;
-}
+  pub quiet : may ≡ false → DeleteNone steps
 
 both-answered : (a b : World) (first more : List HouseStep) (answers others : List Answer) → AreAnswered a first answers → b ≡ world_after_all a first answers → AreAnswered b more others
     → AreAnswered a (first ++ more) (answers ++ others)
@@ -76,16 +70,9 @@ both-left a b [] more (x ∷ xs) others h is = absurd h
 both-left a b (s ∷ ss) more [] others h is = absurd h
 both-left a b (s ∷ ss) more (x ∷ xs) others h is = both-left (world_after a s x) b ss more xs others h.1.1 is
 
-join : (a b c : World) → Walk a b → Walk b c → Walk a c
-join a b c p q = record {
-  steps = p.steps ++ q.steps;
-  answers = p.answers ++ q.answers;
-  answered = both-answered a b p.steps q.steps p.answers q.answers p.answered p.left q.answered;
-  left = q.left ∙ both-left a b p.steps q.steps p.answers q.answers p.answered p.left;
-  registry = q.registry;
-}
-
--- ---- a command
+both-quiet : (first more : List HouseStep) → DeleteNone first → DeleteNone more → DeleteNone (first ++ more)
+both-quiet [] more h k = k
+both-quiet (s ∷ ss) more h k = (h.0, both-quiet ss more h.1 k)
 
 refused-none : (a b c : Bool) (f g h : Fault) → cond a (cond b (Some f) (cond c None (Some g))) (Some h) ≡ None → b ≡ false
 refused-none false b c f g h e = absurd cc
@@ -96,188 +83,235 @@ stays-open : (command : Command) → is_internal command ≡ false → closes_qu
 stays-open commands.Close e = absurd cc
 stays-open command e = refl
 
-module _ (w : World) (uid at : ℕ) (command : Command) (h : IsRegistry w) where
-  abbrev commanded : World
-  commanded = world_after_step w uid at command (step_answer w uid at command)
-
-  commanded-by : (refused : Option Fault) → step_refusal w uid command ≡ refused → IsRegistry (option_map_or (λ fault. w) refused (world_after_command w uid at command (step_answer w uid at command)))
-  commanded-by (Some fault) e = h
-  commanded-by None e =
-      IsRegistry-after_step w uid at command (step_answer w uid at command)
-      (stays-open command (refused-none (has_queue w uid) (is_internal command) (may_set w uid command) UnsupportedOperation InvalidAttributeValue QueueDoesNotExist e)) h
-
-  command-walk : Walk w commanded
-  command-walk =
-      one w commanded (steps.Perform at uid command) _ h
-      (performed-done w commanded at uid command (step_answer w uid at command) 0 0 (meets-itself (step_answer w uid at command)) (λ none. refl) refl (omega arith))
-      (commanded-by (step_refusal w uid command) refl)
-
--- ---- creating, deleting, time
-
 opened-where : (may : Bool) (o : Option QueueHistory) (full : Bool) → (may && option_map_or (λ q. false) o (not full)) ≡ true → (o ≡ None) × (full ≡ false)
 opened-where true None false e = (refl, refl)
 opened-where true None true e = absurd cc
 opened-where true (Some q) full e = absurd cc
 opened-where false o full e = absurd cc
 
-module _ (w : World) (at : ℕ) (h : IsRegistry w) where
-  created-by : (name : List ℕ) (wish : RequestedAttributes) (failed opens : Bool) → opens_queue w name wish ≡ opens
-      → IsRegistry (cond failed w (cond opens (with_queue w (new_queue w at name wish)) w))
-  created-by name wish true opens e = h
-  created-by name wish false false e = h
-  created-by name wish false true e =
-      let where_ = opened-where _ (queue_named w name) (has_no_place w) e in
-      IsRegistry-with_queue w (new_queue w at name wish) h where_.0 refl refl refl where_.1
+-- whether a task deletes a queue
+abbrev deletes : Task → Bool
+deletes (tasks.Delete queue) = true
+deletes task = false
 
-  create-walk : (name : List ℕ) (wish : RequestedAttributes) → Walk w (world_after_create w at name wish (create_answer w name wish))
-  create-walk name wish =
-      one w _ (steps.Create at name wish) _ h
-      (created-done w name h (world_after_create w at name wish (create_answer w name wish)) at wish (create_answer w name wish) 0 0
-      (meets-itself (create_answer w name wish)) (λ none. refl) refl refl)
-      (created-by name wish (is_out_of_memory (create_answer w name wish)) (opens_queue w name wish) refl)
+deletes-asked : (request : Request) → deletes (task_of request) ≡ deletes_queue (Client request)
+deletes-asked (requests.CreateQueue name wish) = refl
+deletes-asked (requests.DeleteQueue queue) = refl
+deletes-asked (requests.GetQueueUrl name) = refl
+deletes-asked (requests.ListQueues prefix) = refl
+deletes-asked (requests.ListDeadLetterSourceQueues queue) = refl
+deletes-asked (requests.GetQueueAttributes queue names) = refl
+deletes-asked (requests.ReceiveMessage queue maximum timeout wait names patterns) = refl
+deletes-asked (requests.SendMessage queue content delay) = refl
+deletes-asked (requests.DeleteMessage queue handle) = refl
+deletes-asked (requests.ChangeMessageVisibility queue handle timeout) = refl
+deletes-asked (requests.SetQueueAttributes queue wish) = refl
+deletes-asked (requests.PurgeQueue queue) = refl
+deletes-asked (requests.Batch queue entries) = refl
 
-  deleted-left : (uid : ℕ) (o : Option QueueHistory) (gone less : World)
-      → cond (is_out_of_memory {T = Unit {0}} (option_map_or (λ q. Ok tt) o (Err QueueDoesNotExist))) gone less ≡ cond (is_out_of_memory (taken_alone o at)) gone less
-  deleted-left uid None gone less = refl
-  deleted-left uid (Some q) gone less = refl
+module _ (may : Bool) where
+  stays : (w : World) → IsRegistry w → Walk may w w
+  stays w h = record { steps = []; answers = []; answered = tt; left = refl; registry = h; quiet = λ none. tt }
 
-  deleted-by : (uid : ℕ) (failed : Bool) → IsRegistry (cond failed (with_queue_changed w uid (λ q. at_moment q at)) (without_queue w uid))
-  deleted-by uid true = IsRegistry-moved w uid at h
-  deleted-by uid false = IsRegistry-without w uid h
+  one : (old new : World) (step : HouseStep) (answer : Answer) → (may ≡ false → is_deletion step ≡ false) → IsRegistry old → IsDone old (act_of old step) answer new 0 0
+      → IsRegistry new → Walk may old new
+  one old new step answer keeps h done after = record {
+    steps = step ∷ [];
+    answers = answer ∷ [];
+    answered = (h, (record { meets = done.meets; exact = done.exact }, tt));
+    left = done.left;
+    registry = after;
+    quiet = λ none. (keeps none, tt);
+  }
 
-  delete-walk : (uid : ℕ) → Walk w (world_after_delete w uid at (delete_answer w uid))
-  delete-walk uid =
-      one w _ (steps.Delete at uid) _ h
-      (deleted-done w (world_after_delete w uid at (delete_answer w uid)) at uid (take_answer w uid at) 0 0 (meets-itself (take_answer w uid at))
-      (λ none. ap (λ (o : Option QueueHistory). taken_alone o at) none)
-      (deleted-left uid (queue_of_uid w uid) (with_queue_changed w uid (λ q. at_moment q at)) (without_queue w uid)) (omega arith))
-      (deleted-by uid (is_out_of_memory (delete_answer w uid)))
+  join : (a b c : World) → Walk may a b → Walk may b c → Walk may a c
+  join a b c p q = record {
+    steps = p.steps ++ q.steps;
+    answers = p.answers ++ q.answers;
+    answered = both-answered a b p.steps q.steps p.answers q.answers p.answered p.left q.answered;
+    left = q.left ∙ both-left a b p.steps q.steps p.answers q.answers p.answered p.left;
+    registry = q.registry;
+    quiet = λ none. both-quiet p.steps q.steps (p.quiet none) (q.quiet none);
+  }
 
-  time-walk : Walk w (world_at_moment w at)
-  time-walk =
-      one w (world_at_moment w at) (steps.Advance at) (Ok Advanced) h
-      (record { meets = meets-itself (Ok Advanced); exact = λ none. refl; left = refl; cost = omega arith }) (IsRegistry-at_moment w at h)
+  -- ---- a command
 
--- ---- moves
+  module _ (w : World) (uid at : ℕ) (command : Command) (h : IsRegistry w) where
+    abbrev commanded : World
+    commanded = world_after_step w uid at command (step_answer w uid at command)
 
-module _ (w : World) (source at : ℕ) (h : IsRegistry w) where
-  delivered-open : (there : Bool) (p : Parcel) → closes_queue (cond there (commands.Arrive p) (commands.Orphan p.target)) ≡ false
-  delivered-open true p = refl
-  delivered-open false p = refl
+    commanded-by : (refused : Option Fault) → step_refusal w uid command ≡ refused → IsRegistry (option_map_or (λ fault. w) refused (world_after_command w uid at command (step_answer w uid at command)))
+    commanded-by (Some fault) e = h
+    commanded-by None e =
+        IsRegistry-after_step w uid at command (step_answer w uid at command)
+        (stays-open command (refused-none (has_queue w uid) (is_internal command) (may_set w uid command) UnsupportedOperation InvalidAttributeValue QueueDoesNotExist e)) h
 
-  delivery-open : (there : Bool) (p : Parcel) → has_queue w p.target ≡ there → closes_queue (delivery_of w source p).command ≡ false
-  delivery-open true p e = rw e refl
-  delivery-open false p e = rw e refl
+    command-walk : Walk may w commanded
+    command-walk =
+        one w commanded (steps.Perform at uid command) _ (λ none. refl) h
+        (performed-done w commanded at uid command (step_answer w uid at command) 0 0 (meets-itself (step_answer w uid at command)) (λ none. refl) refl (omega arith))
+        (commanded-by (step_refusal w uid command) refl)
 
-  handed-by : (o : Option Parcel) → IsRegistry (option_map_or (λ p. world_after_command w (delivery_of w source p).uid at (delivery_of w source p).command (arrive_answer w source at)) o w)
-  handed-by None = h
-  handed-by (Some p) =
-      IsRegistry-after_step w (delivery_of w source p).uid at (delivery_of w source p).command (arrive_answer w source at) (delivery-open (has_queue w p.target) p refl) h
+  -- ---- creating, deleting, time
 
-  hand-walk : Walk w (world_between w source at)
-  hand-walk =
-      one w (world_between w source at) (steps.HandOver at source) _ h
-      (handed-done w (world_between w source at) at source 0 0 (arrive_answer w source at) (meets-itself (arrive_answer w source at)) (λ none. refl) refl (omega arith))
-      (handed-by (first_parcel_in w source))
+  module _ (w : World) (at : ℕ) (h : IsRegistry w) where
+    created-by : (name : List ℕ) (wish : RequestedAttributes) (failed opens : Bool) → opens_queue w name wish ≡ opens
+        → IsRegistry (cond failed w (cond opens (with_queue w (new_queue w at name wish)) w))
+    created-by name wish true opens e = h
+    created-by name wish false false e = h
+    created-by name wish false true e =
+        let where_ = opened-where _ (queue_named w name) (has_no_place w) e in
+        IsRegistry-with_queue w (new_queue w at name wish) h where_.0 refl refl refl where_.1
 
-  confirmed-left : (number : Option ℕ) → ((n : ℕ) → number ≡ Some n → has_queue w source ≡ true)
-      → option_map_or (λ n. world_after_command w source at (commands.Settle n) (confirm_answer w source at)) number w
-      ≡ option_map_or (λ n. world_after_command w source at (commands.Settle n) (halves.confirmed w source at)) number w
-  confirmed-left None there = refl
-  confirmed-left (Some n) there =
-      ap (λ (b : Bool). world_after_command w source at (commands.Settle n) (cond b (confirm_answer w source at) (Err QueueDoesNotExist))) (sym (there n refl))
+    create-walk : (name : List ℕ) (wish : RequestedAttributes) → Walk may w (world_after_create w at name wish (create_answer w name wish))
+    create-walk name wish =
+        one w _ (steps.Create at name wish) _ (λ none. refl) h
+        (created-done w name h (world_after_create w at name wish (create_answer w name wish)) at wish (create_answer w name wish) 0 0
+        (meets-itself (create_answer w name wish)) (λ none. refl) refl refl)
+        (created-by name wish (is_out_of_memory (create_answer w name wish)) (opens_queue w name wish) refl)
 
-  confirmed-by : (number : Option ℕ) → IsRegistry (option_map_or (λ n. world_after_command w source at (commands.Settle n) (confirm_answer w source at)) number w)
-  confirmed-by None = h
-  confirmed-by (Some n) = IsRegistry-after_step w source at (commands.Settle n) (confirm_answer w source at) refl h
+    deleted-left : (uid : ℕ) (o : Option QueueHistory) (gone less : World)
+        → cond (is_out_of_memory {T = Unit {0}} (option_map_or (λ q. Ok tt) o (Err QueueDoesNotExist))) gone less ≡ cond (is_out_of_memory (taken_alone o at)) gone less
+    deleted-left uid None gone less = refl
+    deleted-left uid (Some q) gone less = refl
 
-  confirm-walk : Walk w (confirmed_world w source at)
-  confirm-walk =
-      one w (confirmed_world w source at) (steps.Confirm at source) _ h
-      (confirmed-done w (confirmed_world w source at) at source 0 0 (halves.confirmed w source at) (meets-itself (halves.confirmed w source at)) (λ none. refl)
-      (confirmed-left (accepted_number w source) (accepted-there w (confirmed_world w source at) at source 0 0)) (omega arith))
-      (confirmed-by (accepted_number w source))
+    deleted-by : (uid : ℕ) (failed : Bool) → IsRegistry (cond failed (with_queue_changed w uid (λ q. at_moment q at)) (without_queue w uid))
+    deleted-by uid true = IsRegistry-moved w uid at h
+    deleted-by uid false = IsRegistry-without w uid h
 
-move-walk : (w : World) (source at : ℕ) → IsRegistry w → Walk w (world_after_move w source at)
-move-walk w source at h = move-by (needs_confirmation (arrive_answer w source at)) where
-  move-by : (b : Bool) → Walk w (cond b (confirmed_world (world_between w source at) source at) (world_between w source at))
-  move-by true =
-      let handed : Walk w (world_between w source at) = hand-walk w source at h in
-      join w (world_between w source at) (confirmed_world (world_between w source at) source at) handed (confirm-walk (world_between w source at) source at handed.registry)
-  move-by false = hand-walk w source at h
+    delete-walk : (uid : ℕ) → (may ≡ false → ⊥) → Walk may w (world_after_delete w uid at (delete_answer w uid))
+    delete-walk uid allowed =
+        one w _ (steps.Delete at uid) _ (λ none. absurd (allowed none)) h
+        (deleted-done w (world_after_delete w uid at (delete_answer w uid)) at uid (take_answer w uid at) 0 0 (meets-itself (take_answer w uid at))
+        (λ none. ap (λ (o : Option QueueHistory). taken_alone o at) none)
+        (deleted-left uid (queue_of_uid w uid) (with_queue_changed w uid (λ q. at_moment q at)) (without_queue w uid)) (omega arith))
+        (deleted-by uid (is_out_of_memory (delete_answer w uid)))
 
-some-walk : (n : ℕ) (w : World) (source at : ℕ) → IsRegistry w → Walk w (some_moves n w source at)
-some-walk zero w source at h = stays w h
-some-walk (suc n) w source at h =
-    let moved : Walk w (world_after_move w source at) = move-walk w source at h in
-    go (goes_on (move_answer w source at)) moved (some-walk n (world_after_move w source at) source at moved.registry)
-  where
-    go : (b : Bool) → Walk w (world_after_move w source at) → Walk (world_after_move w source at) (some_moves n (world_after_move w source at) source at)
-        → Walk w (cond b (some_moves n (world_after_move w source at) source at) (world_after_move w source at))
-    go true moved more = join w (world_after_move w source at) (some_moves n (world_after_move w source at) source at) moved more
-    go false moved more = moved
+    time-walk : Walk may w (world_at_moment w at)
+    time-walk =
+        one w (world_at_moment w at) (steps.Advance at) (Ok Advanced) (λ none. refl) h
+        (record { meets = meets-itself (Ok Advanced); exact = λ none. refl; left = refl; cost = omega arith }) (IsRegistry-at_moment w at h)
 
-moves-walk : (w : World) (at : ℕ) (o : Option ℕ) → IsRegistry w → Walk w (option_map_or (λ uid. all_moves w uid at) o w)
-moves-walk w at None h = stays w h
-moves-walk w at (Some uid) h = some-walk (message_count_in w uid) w uid at h
+  -- ---- moves
 
--- ---- a line
+  module _ (w : World) (source at : ℕ) (h : IsRegistry w) where
+    delivered-open : (there : Bool) (p : Parcel) → closes_queue (cond there (commands.Arrive p) (commands.Orphan p.target)) ≡ false
+    delivered-open true p = refl
+    delivered-open false p = refl
 
-played-walk : (n : ℕ) (w : World) (uid at : ℕ) (step : Step) → IsRegistry w → Walk w (played n w uid at step).world
-played-walk zero w uid at (plan.Answer answer) h = stays w h
-played-walk zero w uid at (plan.Ask command seconds purpose) h = stays w h
-played-walk (suc n) w uid at (plan.Answer answer) h = stays w h
-played-walk (suc n) w uid at (plan.Ask command seconds purpose) h =
-    let asked : Walk w (step_served w uid at command purpose).world = command-walk w uid at command h in
-    join w (step_served w uid at command purpose).world _ asked
-    (played-walk n (step_served w uid at command purpose).world uid at (step_served w uid at command purpose).answer asked.registry)
+    delivery-open : (there : Bool) (p : Parcel) → has_queue w p.target ≡ there → closes_queue (delivery_of w source p).command ≡ false
+    delivery-open true p e = rw e refl
+    delivery-open false p e = rw e refl
 
-in-queue-walk : {T : Type 0} (w : World) (serve : ℕ → Served (Result T Fault)) (o : Option ℕ) → IsRegistry w → ((uid : ℕ) → Walk w (serve uid).world)
-    → Walk w (option_map_or serve o (unchanged w (Err QueueDoesNotExist))).world
-in-queue-walk w serve None h go = stays w h
-in-queue-walk w serve (Some uid) h go = go uid
+    handed-by : (o : Option Parcel) → IsRegistry (option_map_or (λ p. world_after_command w (delivery_of w source p).uid at (delivery_of w source p).command (arrive_answer w source at)) o w)
+    handed-by None = h
+    handed-by (Some p) =
+        IsRegistry-after_step w (delivery_of w source p).uid at (delivery_of w source p).command (arrive_answer w source at) (delivery-open (has_queue w p.target) p refl) h
 
-task-walk : (w : World) (at : ℕ) (task : Task) → IsRegistry w → Walk w (task_served w at task).world
-task-walk w at (tasks.Create name wish) h = create-walk w at h name wish
-task-walk w at (tasks.Delete queue) h = in-queue-walk w _ (found_uid w queue) h (λ uid. delete-walk w at h uid)
-task-walk w at (tasks.Set queue wish) h = in-queue-walk w _ (found_uid w queue) h (λ uid. command-walk w uid at (commands.Set wish (target_uid w wish)) h)
-task-walk w at (tasks.Url name) h = in-queue-walk w _ (found_uid w name) h (λ uid. stays w h)
-task-walk w at (tasks.Urls prefix) h = stays w h
-task-walk w at (tasks.Sources queue) h = in-queue-walk w _ (found_uid w queue) h (λ uid. stays w h)
-task-walk w at (tasks.Ask queue step) h = in-queue-walk w _ (found_uid w queue) h (λ uid. played-walk (most_commands step) w uid at step h)
+    hand-walk : Walk may w (world_between w source at)
+    hand-walk =
+        one w (world_between w source at) (steps.HandOver at source) _ (λ none. refl) h
+        (handed-done w (world_between w source at) at source 0 0 (arrive_answer w source at) (meets-itself (arrive_answer w source at)) (λ none. refl) refl (omega arith))
+        (handed-by (first_parcel_in w source))
 
-look-walk : (w : World) (at : ℕ) (queue : List ℕ) → IsRegistry w → Walk w (named_sheet_served w at queue).world
-look-walk w at queue h = in-queue-walk w _ (found_uid w queue) h (λ uid. command-walk w uid at commands.Look h)
+    confirmed-left : (number : Option ℕ) → ((n : ℕ) → number ≡ Some n → has_queue w source ≡ true)
+        → option_map_or (λ n. world_after_command w source at (commands.Settle n) (confirm_answer w source at)) number w
+        ≡ option_map_or (λ n. world_after_command w source at (commands.Settle n) (halves.confirmed w source at)) number w
+    confirmed-left None there = refl
+    confirmed-left (Some n) there =
+        ap (λ (b : Bool). world_after_command w source at (commands.Settle n) (cond b (confirm_answer w source at) (Err QueueDoesNotExist))) (sym (there n refl))
 
-asked-walk : (w : World) (at : ℕ) (asked : Asked) → IsRegistry w → Walk w (asked_served w at asked).world
-asked-walk w at (Client request) h = task-walk w at (task_of request) h
-asked-walk w at Tick h = time-walk w at h
-asked-walk w at (Statistics None) h = time-walk w at h
-asked-walk w at (Statistics (Some queue)) h = look-walk w at queue h
-asked-walk w at (Rows queue) h = look-walk w at queue h
-asked-walk w at (Alarms queue) h = look-walk w at queue h
+    confirmed-by : (number : Option ℕ) → IsRegistry (option_map_or (λ n. world_after_command w source at (commands.Settle n) (confirm_answer w source at)) number w)
+    confirmed-by None = h
+    confirmed-by (Some n) = IsRegistry-after_step w source at (commands.Settle n) (confirm_answer w source at) refl h
 
-line-by : (w : World) (timed : Result Timed Fault) → IsRegistry w → Walk w (line_served w timed).world
-line-by w (Err fault) h = stays w h
-line-by w (Ok timed) h =
-    let asked : Walk w (asked_served w timed.at timed.asked).world = asked-walk w timed.at timed.asked h in
-    join w (asked_served w timed.at timed.asked).world _ asked
-    (moves-walk (asked_served w timed.at timed.asked).world timed.at
-    (option_and_then (λ name. found_uid (asked_served w timed.at timed.asked).world name) (queue_of_asked timed.asked)) asked.registry)
+    confirm-walk : Walk may w (confirmed_world w source at)
+    confirm-walk =
+        one w (confirmed_world w source at) (steps.Confirm at source) _ (λ none. refl) h
+        (confirmed-done w (confirmed_world w source at) at source 0 0 (halves.confirmed w source at) (meets-itself (halves.confirmed w source at)) (λ none. refl)
+        (confirmed-left (accepted_number w source) (accepted-there w (confirmed_world w source at) at source 0 0)) (omega arith))
+        (confirmed-by (accepted_number w source))
 
-pub line-walk : (w : World) (line : List ℕ) → IsRegistry w → Walk w (world_of_line w line)
-line-walk w line h = line-by w (asked_of line) h
+  move-walk : (w : World) (source at : ℕ) → IsRegistry w → Walk may w (world_after_move w source at)
+  move-walk w source at h = move-by (needs_confirmation (arrive_answer w source at)) where
+    move-by : (b : Bool) → Walk may w (cond b (confirmed_world (world_between w source at) source at) (world_between w source at))
+    move-by true =
+        let handed : Walk may w (world_between w source at) = hand-walk w source at h in
+        join w (world_between w source at) (confirmed_world (world_between w source at) source at) handed (confirm-walk (world_between w source at) source at handed.registry)
+    move-by false = hand-walk w source at h
 
-lines-walk : (w : World) (lines : List (List ℕ)) → IsRegistry w → Walk w (state_after world_of_line w lines)
-lines-walk w [] h = stays w h
-lines-walk w (line ∷ lines) h =
-    let here : Walk w (world_of_line w line) = line-walk w line h in
-    join w (world_of_line w line) (state_after world_of_line (world_of_line w line) lines) here (lines-walk (world_of_line w line) lines here.registry)
+  some-walk : (n : ℕ) (w : World) (source at : ℕ) → IsRegistry w → Walk may w (some_moves n w source at)
+  some-walk zero w source at h = stays w h
+  some-walk (suc n) w source at h =
+      let moved : Walk may w (world_after_move w source at) = move-walk w source at h in
+      go (goes_on (move_answer w source at)) moved (some-walk n (world_after_move w source at) source at moved.registry)
+    where
+      go : (b : Bool) → Walk may w (world_after_move w source at) → Walk may (world_after_move w source at) (some_moves n (world_after_move w source at) source at)
+          → Walk may w (cond b (some_moves n (world_after_move w source at) source at) (world_after_move w source at))
+      go true moved more = join w (world_after_move w source at) (some_moves n (world_after_move w source at) source at) moved more
+      go false moved more = moved
+
+  moves-walk : (w : World) (at : ℕ) (o : Option ℕ) → IsRegistry w → Walk may w (option_map_or (λ uid. all_moves w uid at) o w)
+  moves-walk w at None h = stays w h
+  moves-walk w at (Some uid) h = some-walk (message_count_in w uid) w uid at h
+
+  -- ---- a line
+
+  played-walk : (n : ℕ) (w : World) (uid at : ℕ) (step : Step) → IsRegistry w → Walk may w (played n w uid at step).world
+  played-walk zero w uid at (plan.Answer answer) h = stays w h
+  played-walk zero w uid at (plan.Ask command seconds purpose) h = stays w h
+  played-walk (suc n) w uid at (plan.Answer answer) h = stays w h
+  played-walk (suc n) w uid at (plan.Ask command seconds purpose) h =
+      let asked : Walk may w (step_served w uid at command purpose).world = command-walk w uid at command h in
+      join w (step_served w uid at command purpose).world _ asked
+      (played-walk n (step_served w uid at command purpose).world uid at (step_served w uid at command purpose).answer asked.registry)
+
+  in-queue-walk : {T : Type 0} (w : World) (serve : ℕ → Served (Result T Fault)) (o : Option ℕ) → IsRegistry w → ((uid : ℕ) → Walk may w (serve uid).world)
+      → Walk may w (option_map_or serve o (unchanged w (Err QueueDoesNotExist))).world
+  in-queue-walk w serve None h go = stays w h
+  in-queue-walk w serve (Some uid) h go = go uid
+
+  task-walk : (w : World) (at : ℕ) (task : Task) → (may ≡ false → deletes task ≡ false) → IsRegistry w → Walk may w (task_served w at task).world
+  task-walk w at (tasks.Create name wish) keeps h = create-walk w at h name wish
+  task-walk w at (tasks.Delete queue) keeps h = in-queue-walk w _ (found_uid w queue) h (λ uid. delete-walk w at h uid (λ none. true≢false (keeps none)))
+  task-walk w at (tasks.Set queue wish) keeps h = in-queue-walk w _ (found_uid w queue) h (λ uid. command-walk w uid at (commands.Set wish (target_uid w wish)) h)
+  task-walk w at (tasks.Url name) keeps h = in-queue-walk w _ (found_uid w name) h (λ uid. stays w h)
+  task-walk w at (tasks.Urls prefix) keeps h = stays w h
+  task-walk w at (tasks.Sources queue) keeps h = in-queue-walk w _ (found_uid w queue) h (λ uid. stays w h)
+  task-walk w at (tasks.Ask queue step) keeps h = in-queue-walk w _ (found_uid w queue) h (λ uid. played-walk (most_commands step) w uid at step h)
+
+  look-walk : (w : World) (at : ℕ) (queue : List ℕ) → IsRegistry w → Walk may w (named_sheet_served w at queue).world
+  look-walk w at queue h = in-queue-walk w _ (found_uid w queue) h (λ uid. command-walk w uid at commands.Look h)
+
+  asked-walk : (w : World) (at : ℕ) (asked : Asked) → (may ≡ false → deletes_queue asked ≡ false) → IsRegistry w → Walk may w (asked_served w at asked).world
+  asked-walk w at (Client request) keeps h = task-walk w at (task_of request) (λ none. deletes-asked request ∙ keeps none) h
+  asked-walk w at Tick keeps h = time-walk w at h
+  asked-walk w at (Statistics None) keeps h = time-walk w at h
+  asked-walk w at (Statistics (Some queue)) keeps h = look-walk w at queue h
+  asked-walk w at (Rows queue) keeps h = look-walk w at queue h
+  asked-walk w at (Alarms queue) keeps h = look-walk w at queue h
+
+  line-by : (w : World) (timed : Result Timed Fault) → (may ≡ false → asks_deletion timed ≡ false) → IsRegistry w → Walk may w (line_served w timed).world
+  line-by w (Err fault) keeps h = stays w h
+  line-by w (Ok timed) keeps h =
+      let asked : Walk may w (asked_served w timed.at timed.asked).world = asked-walk w timed.at timed.asked keeps h in
+      join w (asked_served w timed.at timed.asked).world _ asked
+      (moves-walk (asked_served w timed.at timed.asked).world timed.at
+      (option_and_then (λ name. found_uid (asked_served w timed.at timed.asked).world name) (queue_of_asked timed.asked)) asked.registry)
+
+  pub line-walk : (w : World) (line : List ℕ) → (may ≡ false → asks_deletion (asked_of line) ≡ false) → IsRegistry w → Walk may w (world_of_line w line)
+  line-walk w line keeps h = line-by w (asked_of line) keeps h
+
+  lines-walk : (w : World) (lines : List (List ℕ)) → (may ≡ false → AskNoDeletion lines) → IsRegistry w → Walk may w (state_after world_of_line w lines)
+  lines-walk w [] keeps h = stays w h
+  lines-walk w (line ∷ lines) keeps h =
+      let here : Walk may w (world_of_line w line) = line-walk w line (λ none. (keeps none).0) h in
+      join w (world_of_line w line) (state_after world_of_line (world_of_line w line) lines) here (lines-walk (world_of_line w line) lines (λ none. (keeps none).1) here.registry)
 
 -- ---- what a walk is a proof of
 
-pub course : (old new : World) → Walk old new → Course old new
-course old new p = record {
+abbrev pub course : (may : Bool) (old new : World) → Walk may old new → Course old new
+course may old new p = record {
   steps = p.steps;
   answers = p.answers;
   answered = AreHouseAnswers-run old p.steps p.answers p.answered;
@@ -285,13 +319,13 @@ course old new p = record {
   left = p.left;
 }
 
-output-by : (first now : World) (lines : List (List ℕ)) → Walk first now → IsOutputOf first now lines (texts text_of_line world_of_line now lines)
-output-by first now [] p = (course first now p, refl)
+output-by : (first now : World) (lines : List (List ℕ)) → Walk true first now → IsOutputOf first now lines (texts text_of_line world_of_line now lines)
+output-by first now [] p = (course true first now p, refl)
 output-by first now (line ∷ lines) p = (
-  course first now p,
+  course true first now p,
   (
     texts text_of_line world_of_line (world_of_line now line) lines,
-    (refl, output-by first (world_of_line now line) lines (join first now (world_of_line now line) p (line-walk now line p.registry))),
+    (refl, output-by first (world_of_line now line) lines (join true first now (world_of_line now line) p (line-walk true now line (λ none. absurd (true≢false none)) p.registry))),
   ),
 )
 
@@ -327,9 +361,25 @@ module _ (config : Configuration) (are : AreConfigured config.queues) where
       subst (λ (qs : List ConfiguredQueue). IsRegistry (new_world (record { limits = config.limits; queues = qs; alarms = config.alarms }) 0))
       (take_all (length config.queues) config.queues (omega arith)) (up_to (length config.queues) (omega arith))
 
-pub configured-walk : (config : Configuration) (lines : List (List ℕ)) → AreConfigured config.queues → Walk (new_world config 0) (state_after world_of_line (new_world config 0) lines)
-configured-walk config lines are = lines-walk (new_world config 0) lines (configured-registry config are)
+pub configured-walk : (may : Bool) (config : Configuration) (lines : List (List ℕ)) → (may ≡ false → AskNoDeletion lines) → AreConfigured config.queues
+    → Walk may (new_world config 0) (state_after world_of_line (new_world config 0) lines)
+configured-walk may config lines keeps are = lines-walk may (new_world config 0) lines keeps (configured-registry config are)
 
 pub configured-output : (config : Configuration) (lines : List (List ℕ)) → AreConfigured config.queues
     → IsOutputOf (new_world config 0) (new_world config 0) lines (texts text_of_line world_of_line (new_world config 0) lines)
-configured-output config lines are = output-by (new_world config 0) (new_world config 0) lines (stays (new_world config 0) (configured-registry config are))
+configured-output config lines are = output-by (new_world config 0) (new_world config 0) lines (stays true (new_world config 0) (configured-registry config are))
+
+-- ---- where no queue is deleted
+
+spared-step : (all : AllQueues) (step : HouseStep) (answer : Answer) → is_deletion step ≡ false → IsSpared all (Own step) answer
+spared-step all (steps.Create at name wish) answer none = tt
+spared-step all (steps.Delete at uid) answer none = absurd (true≢false none)
+spared-step all (steps.Perform at uid command) answer none = tt
+spared-step all (steps.HandOver at source) answer none = tt
+spared-step all (steps.Confirm at source) answer none = tt
+spared-step all (steps.Advance at) answer none = tt
+
+pub spared : (all : AllQueues) (steps : List HouseStep) (answers : List Answer) → DeleteNone steps → NoRelayDeleted all (map Own steps) answers
+spared all [] answers none = tt
+spared all (step ∷ steps) [] none = tt
+spared all (step ∷ steps) (answer ∷ answers) none = (spared-step all step answer none.0, spared (whole_after_step all (Own step) answer) steps answers none.1)

@@ -94,6 +94,19 @@ GoesOn-next whole now uid at command seconds purpose step next left (inl (suc mo
     let more : most_commands (steps.Ask command seconds purpose) ≤ suc most = rw asks at enough in
     inl (most, omega arith, rw (is, comes) (rw asks at same))
 
+-- as many commands as a step may ask are as good as any greater number
+pub enough-played : (n : ℕ) (now : World) (uid at : ℕ) (step : Step) (most : ℕ) → most_commands step ≤ most → most_commands step ≤ n
+    → played n now uid at step ≡ played most now uid at step
+enough-played n now uid at (steps.Answer answer) most h k = refl
+enough-played zero now uid at (steps.Ask command seconds purpose) most h k = absurd (let none : suc (most_behind purpose) ≤ 0 = k in omega arith)
+enough-played (suc n) now uid at (steps.Ask command seconds purpose) zero h k = absurd (let none : suc (most_behind purpose) ≤ 0 = h in omega arith)
+enough-played (suc n) now uid at (steps.Ask command seconds purpose) (suc most) h k =
+    let next = step_served now uid at command purpose in
+    let fewer : most_commands next.answer ≤ most_behind purpose = most-after uid purpose _ in
+    let one : suc (most_behind purpose) ≤ suc n = k in
+    let other : suc (most_behind purpose) ≤ suc most = h in
+    enough-played n next.world uid at next.answer most (omega arith) (omega arith)
+
 -- ---- the task of a request; of a batch memory may have run out
 
 begun : (request : Request) (task : Task) → Begins request task → (task ≡ task_of request)

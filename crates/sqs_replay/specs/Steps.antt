@@ -1,14 +1,20 @@
 -- The steps of the queue registry by which a replay goes on.
-use Rattle.std.specs.Prelude.{◌≡◌, ℕ, List, [], ◌∷◌, ◌++◌, map}
+use Rattle.std.specs.Prelude.{◌≡◌, ℕ, ⊤, Bool, true, false, List, [], ◌∷◌, ◌++◌, map, Result, Ok, Err}
+use Rattle.message.specs.declared.fault.Fault.{Fault}
 use Rattle.queue_config.specs.Config.{Configuration}
+use Rattle.aws_json.specs.declared.request.Request.TheVariants as requests
 use Rattle.redrive.specs.declared.steps.HouseStep.{HouseStep}
+use Rattle.redrive.specs.declared.steps.HouseStep.TheVariants as steps
 use Rattle.redrive.specs.World.{World, new_world}
 use Rattle.redrive.specs.WorldRun.{Answer, AreHouseAnswers, AreTold, world_after_all}
 use Rattle.redrive.specs.History.{AllQueues}
 use Rattle.redrive.specs.HistorySteps.{Own}
 use Rattle.redrive.specs.WholeSteps.{whole_after_steps}
 use Rattle.redrive.specs.Places.{first_history, EachAcceptedOnce, EachHasItsFate, EachHasOnePlace, NoRelayDeleted}
-use Rattle.sqs_replay.specs.Served.{text_of_line, world_of_line}
+use Rattle.sqs_replay.specs.declared.answer.Asked.{Asked}
+use Rattle.sqs_replay.specs.declared.answer.Asked.TheVariants.{Client}
+use Rattle.sqs_replay.specs.declared.answer.Timed.{Timed}
+use Rattle.sqs_replay.specs.Served.{asked_of, text_of_line, world_of_line}
 
 -- steps, the registry's answers to them, of which each look and each receive tells what the whole journal of its queue gives, and the registry that they leave
 pub record Course (old new : World) : Type 0 where
@@ -23,6 +29,31 @@ abbrev pub IsOutputOf : World → World → List (List ℕ) → List ℕ → Typ
 IsOutputOf first now [] output = Course first now × (output ≡ [])
 IsOutputOf first now (line ∷ lines) output =
     Course first now × ((rest : List ℕ) × ((output ≡ text_of_line now line ++ rest) × IsOutputOf first (world_of_line now line) lines rest))
+
+-- whether a step deletes a queue
+abbrev pub is_deletion : HouseStep → Bool
+is_deletion (steps.Delete at uid) = true
+is_deletion step = false
+
+-- no step of a list does
+abbrev pub DeleteNone : List HouseStep → Type 0
+DeleteNone [] = ⊤
+DeleteNone (step ∷ steps) = (is_deletion step ≡ false) × DeleteNone steps
+
+-- whether it is asked to delete a queue
+abbrev pub deletes_queue : Asked → Bool
+deletes_queue (Client (requests.DeleteQueue queue)) = true
+deletes_queue asked = false
+
+-- the same of a line, where it can be read
+abbrev pub asks_deletion : Result Timed Fault → Bool
+asks_deletion (Ok timed) = deletes_queue timed.asked
+asks_deletion (Err fault) = false
+
+-- no line asks for it
+abbrev pub AskNoDeletion : List (List ℕ) → Type 0
+AskNoDeletion [] = ⊤
+AskNoDeletion (line ∷ lines) = (asks_deletion (asked_of line) ≡ false) × AskNoDeletion lines
 
 -- everything that such steps leave of the configured queues, each with its whole journal
 abbrev pub everything_after : (config : Configuration) (new : World) → Course (new_world config 0) new → AllQueues

@@ -1,13 +1,20 @@
 //! Laws about the lines of an input. What runs here is other laws, which do nothing: the contract of each function is the
 //! law.
 
-ghost use Rattle.std.specs.Prelude.{ℕ, List};
+ghost use Rattle.std.specs.Prelude.{◌≡◌, ◌⊎◌, ◌≤◌, ℕ, false, List, Some, None, Ok};
+ghost use Rattle.std.specs.Option.{ForSome};
 ghost use Rattle.queue_config.specs.Config.{Configuration, AreConfigured};
-ghost use Rattle.redrive.specs.World.{World, new_world, IsRegistry};
+ghost use Rattle.queue_core.specs.Legal.{IsLegal};
+ghost use Rattle.redrive.specs.Places.{EachHasOnePlace};
+ghost use Rattle.redrive.specs.World.{World, first_parcel_in, found_uid, new_world, queue_of_uid, IsRegistry};
+ghost use Rattle.request_plan.specs.declared.plan.Step.{Step};
+ghost use Rattle.sqs_replay.specs.declared.answer.Timed.{Timed};
+ghost use Rattle.sqs_replay.specs.Answers.{state_after};
 ghost use Rattle.sqs_replay.specs.Cutting.{lines_of};
+ghost use Rattle.sqs_replay.specs.Moves.{WasRefused};
 ghost use Rattle.sqs_replay.specs.Replay.{replay_output};
-ghost use Rattle.sqs_replay.specs.Served.{world_of_line};
-ghost use Rattle.sqs_replay.specs.Steps.{Course, IsOutputOf, KeepsDeadLetters};
+ghost use Rattle.sqs_replay.specs.Served.{asked_of, asked_served, most_commands, played, queue_of_asked, steps_served, world_of_line};
+ghost use Rattle.sqs_replay.specs.Steps.{AskNoDeletion, Course, DeleteNone, IsOutputOf, KeepsDeadLetters, asks_deletion, everything_after};
 
 use redrive::{
     each_departure_has_its_fate, each_message_has_one_place, own_steps_are_history_steps,
@@ -16,9 +23,11 @@ use redrive::{
 
 /// What a line leaves, with the moves behind it, is what a list of steps of the registry leaves, as
 /// [`House::run`](redrive::House::run) takes them. Each look and each receive among them is answered with what the whole
-/// journal of its queue gives.
+/// journal of its queue gives. A line that asks to delete no queue has no deletion among them.
 pub fn lines_are_steps()
-    ensures { (w : World) (line : List ℕ) → IsRegistry w → Course w (world_of_line w line) }
+    ensures steps { (w : World) (line : List ℕ) → IsRegistry w → Course w (world_of_line w line) }
+    ensures deletions { (w : World) (line : List ℕ) → IsRegistry w → asks_deletion (asked_of line) ≡ false
+        → (course : Course w (world_of_line w line)) × DeleteNone course.steps }
 {}
 
 /// The output of a replay is that of a list of steps of the registry which the configuration makes: each line is answered
@@ -37,4 +46,30 @@ pub fn lines_keep_dead_letters()
     transfers_are_accepted_once();
     each_departure_has_its_fate();
     each_message_has_one_place();
+}
+
+/// Behind a line that names a queue which is there no parcel waits in it, or the last move was refused. The queue's journal
+/// is one that a queue can have, as each queue's is.
+pub fn lines_move_all_parcels()
+    ensures { (w : World) (line name : List ℕ) (timed : Timed) (uid : ℕ)
+        → asked_of line ≡ Ok timed → queue_of_asked timed.asked ≡ Some name
+        → found_uid (asked_served w timed.at timed.asked).world name ≡ Some uid
+        → ForSome (queue_of_uid (asked_served w timed.at timed.asked).world uid) (λ q. IsLegal q)
+        → (first_parcel_in (world_of_line w line) uid ≡ None)
+        ⊎ WasRefused (asked_served w timed.at timed.asked).world uid timed.at (world_of_line w line) }
+{}
+
+/// No step asks more commands than the model allows it: to allow more changes nothing.
+pub fn steps_come_to_their_end()
+    ensures { (most : ℕ) (w : World) (uid at : ℕ) (step : Step) → most_commands step ≤ most
+        → played most w uid at step ≡ steps_served w uid at step }
+{}
+
+/// Behind lines none of which asks to delete a queue each message is in one place at most.
+pub fn lines_without_deletions_keep_one_place()
+    ensures { (config : Configuration) (lines : List (List ℕ)) → AreConfigured config.queues → AskNoDeletion lines
+        → (course : Course (new_world config 0) (state_after world_of_line (new_world config 0) lines))
+        × EachHasOnePlace (everything_after config (state_after world_of_line (new_world config 0) lines) course) }
+{
+    lines_keep_dead_letters();
 }

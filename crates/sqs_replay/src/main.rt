@@ -36,7 +36,10 @@ pub use device::{Device, Inlet, Outlet};
 pub use fault::ReplayFault;
 pub use input_line::{InputLine, line_form, read_line};
 use journal::Ticks;
-pub use laws::{lines_are_steps, lines_keep_dead_letters, outputs_are_of_steps};
+pub use laws::{
+    lines_are_steps, lines_keep_dead_letters, lines_move_all_parcels,
+    lines_without_deletions_keep_one_place, outputs_are_of_steps, steps_come_to_their_end,
+};
 pub use lines::{LINE_LIMIT, Lines, one_return_is_dropped, pieces_join_to_the_bytes};
 pub use moves::all_parcels_move;
 pub use program::Refusal;
