@@ -10,13 +10,16 @@ use std::fmt::Debug;
 /// As much as a journal may weigh at most, which no script comes to.
 const UNLIMITED: u32 = 16_777_216;
 
-/// How much the journals weigh that begin anew: at 4 hardly anything fits in, and the greater ones hold much that is live.
-const LIMITS: [u32; 3] = [4, 8, 20];
+/// How much the journals may weigh that begin anew: from 1, at which none does, up to what holds much that is live.
+const LEAST: u32 = 1;
 
-/// How many scripts are drawn for each of them, and how many commands each has.
-const DRAWN: u64 = 4;
+const MOST: u32 = 30;
 
-const COMMANDS: u64 = 120;
+/// From how much on a journal holds a message beside the entry that it begins with.
+const ENOUGH: u32 = 4;
+
+/// How many commands the script has that is drawn for each of them.
+const COMMANDS: u64 = 240;
 
 /// A queue whose journal may weigh so much, and the queue that keeps all its entries.
 struct Pair {
@@ -143,15 +146,13 @@ fn run(rt: &impl Abort, host: &HostRuntime, script: &str, most_lines: u32) -> Re
 /// A queue whose journal begins anew answers as if it had kept all its entries, but for how many it has, and where it is full.
 #[test]
 fn short_journals_answer_as_whole_ones(rt: HostRuntime) -> Result<(), Fail> {
-    for most_lines in LIMITS {
+    for most_lines in LEAST..MOST + 1 {
         for script in SCRIPTS {
             run(&rt, &rt, script, most_lines)?;
         }
-        for from in 0..DRAWN {
-            let script = drawn(rt.alloc(), from, COMMANDS)?;
-            let began_anew = run(&rt, &rt, script.as_str(), most_lines)?;
-            assert_eq!(rt; began_anew, true, "{most_lines} {from}");
-        }
+        let script = drawn(rt.alloc(), u64::from(most_lines), COMMANDS)?;
+        let began_anew = run(&rt, &rt, script.as_str(), most_lines)?;
+        assert!(rt; began_anew || most_lines < ENOUGH, "{most_lines}");
     }
     Ok(())
 }

@@ -165,3 +165,22 @@ fn many_messages(rt: HostRuntime) -> Result<(), Fail> {
 
 const TAKEN: &str =
     "1 look => (Gauges { visible: 30000, delayed: 0, in_flight: 0, age: 0 }, 60403, 1, (0, 1), None, false)";
+
+/// 10,000 messages are sent, received and deleted, one after another, in a journal of at most 1,000 entries, which begins anew
+/// thirty times. A checkpoint that goes through all messages there ever were for each of them does not come to its end.
+#[test]
+fn many_checkpoints(rt: HostRuntime) -> Result<(), Fail> {
+    let mut talk = Talk::new(&rt)?;
+    talk.hold(&rt, "open 1000 0 DelaySeconds 0")?;
+    for _ in 0..10_000 {
+        talk.send_many(1)?;
+        talk.take_many(1)?;
+    }
+    talk.hold(&rt, CYCLED)?;
+    Ok(())
+}
+
+/// The last checkpoint came with the command 29,971, a send, and stood for no message: behind it and that send 29 commands came.
+const CYCLED: &str =
+    "1 look => (Gauges { visible: 0, delayed: 0, in_flight: 0, age: 0 }, 31, 1, (0, 0), None, false)
+messages => 10000";
