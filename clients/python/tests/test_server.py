@@ -33,7 +33,7 @@ minutes = 180
 """
 
 
-# What is told of the requests that are refused, behind the time of day: the lines of section 25, whose requests are asked below.
+# What is told of the requests that are refused, behind the time of day: lines like those of PROFILE 25 and USING, whose requests are asked below.
 REFUSED = [
     "SendMessage jobs 400 InvalidParameterValue: MessageBody is empty",
     "SendMessageBatch jobs 200 InvalidParameterValue: Entries[1].DelaySeconds is 901, and 0 to 900 is wanted; 1 entry was refused",
