@@ -11,10 +11,13 @@ prints names a check, and the last says 'N passed, M failed'; the status is 1 wh
     is not announced. Each time as many are taken as one thread takes at the least, and as all threads may at the most. All others are answered 503, each of
     these is closed, and it is counted. A small request is answered all the same, over each of many connections. Once the large ones are cut, one more is
     taken, and answered.
+  - A large body counts until its request is answered. Receives wait whose bodies have 8 MB, or come in chunks, each sent when the one before has come: as many
+    are taken as may count at once, and others are turned away. Once those are answered, large bodies are taken again over the same connections.
   - A body of which no byte comes any more, and a reply of which none is taken, end their connection between 30 and 45 seconds later. A receive that
     waits for 20 seconds does not: it is answered, and so is what is asked next over its connection.
-  - Where it may have no more than some bytes of addresses beyond those of its start, fewer than a thread takes for large bodies, the proved server tells that
-    it has no memory, in one line, goes on, and answers what is asked once the memory is there again. A program that is compiled without a proof has an address
+  - The proved server may have no more than some bytes of addresses beyond those of its start, fewer than a thread takes for large bodies. A request that finds
+    no memory is answered 500 OutOfMemory, or its connection ends. That has a line, or the one that tells of a line without memory stands in its place, at most
+    once a second. The server goes on, and answers what is asked once the memory is there again. A program that is compiled without a proof may have an address
     sanitizer, which takes terabytes of addresses at its start and ends the program where it gets no more: with it this is left out.
 """
 import atexit
@@ -34,19 +37,27 @@ import time
 ROOT = os.path.normpath(os.path.join(os.path.dirname(os.path.abspath(__file__)), ".."))
 # The largest body, and the most threads that answer requests: docs/PROFILE.md, section 25.
 LARGEST, THREADS, LARGE_AT_ONCE = 8_388_608, 16, 4
+# What a request is answered that finds no memory, what is told where a line finds none, and lines that may be told of a request or a connection without memory.
+MEMORY = '{"__type":"com.amazonaws.sqs#OutOfMemory","message":"Out of memory."}'
 SHORT = "sqs_server: out of memory"
+WANT = r"\d\d:\d\d:\d\d\.\d{3} \S+ \S+ 500 OutOfMemory\b.*|sqs_server: (accept|connection|requests): .+"
 # How often large bodies come together, and how long no reply has to come until none is waited for, in seconds: where as many wait as may be taken at the most,
 # and where more do.
 ROUNDS, QUIET, LATE = 4, 1, 30
+# On how many processors the server runs whose receives wait, so that few are too many, and how long a body may take to come that is sent, in seconds.
+PROCESSORS, COMES = 2, 0.1
 # How many bytes of addresses the server may have more than at its start, where memory is to be short: not those of three of the largest bodies; and how many
 # it has at the most where it has no address sanitizer.
 MORE, USUAL = 20 * 2**20, 2**40
 
 
 class Server:
-    """A server at free ports, with one queue."""
+    """A server at free ports, with one queue, on so many processors, where a number is given, and else on all. It tells of no request, or of those named."""
 
-    def __init__(self, program):
+    def __init__(self, program, processors=None, log="none"):
+        places = sorted(os.sched_getaffinity(0))[:processors]
+        # how many answer requests
+        self.threads = max(2, min(THREADS, len(places) - 1))
         self.room = tempfile.TemporaryDirectory()
         with open(f"{self.room.name}/config.toml", "w", encoding="utf-8") as it:
             it.write('[[queue]]\nname = "jobs"\n')
@@ -56,7 +67,8 @@ class Server:
             stdout=subprocess.PIPE,
             stderr=self.said,
             text=True,
-            env={**os.environ, "JUTKARIQ_PORT": "0", "JUTKARIQ_STATISTICS_PORT": "0", "JUTKARIQ_LOG": "none"},
+            env={**os.environ, "JUTKARIQ_PORT": "0", "JUTKARIQ_STATISTICS_PORT": "0", "JUTKARIQ_LOG": log},
+            preexec_fn=lambda: os.sched_setaffinity(0, places),
         )
         # also where this program ends before it has ended it
         atexit.register(self.process.kill)
@@ -177,23 +189,30 @@ class Checks:
 
 def come_together(checks, server, which, made):
     """Has large bodies come over more connections than may be taken, each behind this head. Returns how many were turned away."""
-    threads = max(2, min(THREADS, len(os.sched_getaffinity(0)) - 1))
     many = [server.connect() for _ in range(THREADS * LARGE_AT_ONCE + 1)]
     for it in many:
         it.sendall(made)
-    refused = replies(many, LARGE_AT_ONCE * threads)
-    told, taken = {answer for _, answer in refused}, len(many) - len(refused)
-    text = '{"__type":"com.amazonaws.sqs#ServiceUnavailable","message":"Too much of other requests is on its way."}'
-    checks.see(f"{which}: some are too many, and told so", told == {(503, text)}, told)
-    checks.see(f"{which}: as many are not as one thread takes at the least, and all threads at the most", LARGE_AT_ONCE <= taken <= LARGE_AT_ONCE * threads, taken)
-    checks.see(f"{which}: the connections of those that are too many are closed", all(has_ended(it) for it, _ in refused))
-    answers = {(ask(server.connect(), "GetQueueUrl", QueueName="jobs") or ["none"])[0] for _ in range(40)}
-    checks.see(f"{which}: small requests are answered beside them", answers == {200}, answers)
+    left = taken_of(checks, server, which, many)
+    checks.see(f"{which}: the connections of those that are too many are closed", all(has_ended(it) for it in many if it not in left))
     for it in many:
         it.close()
     # until the server knows of it
     time.sleep(0.5)
-    return len(refused)
+    return len(many) - len(left)
+
+
+def taken_of(checks, server, which, many):
+    """Looks which of these connections are turned away, over which large bodies come or have come. Returns the others, over which no reply came."""
+    refused = replies(many, LARGE_AT_ONCE * server.threads)
+    told, gone = {answer for _, answer in refused}, {it for it, _ in refused}
+    left = [it for it in many if it not in gone]
+    text = '{"__type":"com.amazonaws.sqs#ServiceUnavailable","message":"Too much of other requests is on its way."}'
+    checks.see(f"{which}: some are too many, and told so", told == {(503, text)}, told)
+    is_right = LARGE_AT_ONCE <= len(left) <= LARGE_AT_ONCE * server.threads
+    checks.see(f"{which}: as many are not as one thread takes at the least, and all threads at the most", is_right, len(left))
+    answers = {(ask(server.connect(), "GetQueueUrl", QueueName="jobs") or ["none"])[0] for _ in range(40)}
+    checks.see(f"{which}: small requests are answered beside them", answers == {200}, answers)
+    return left
 
 
 def bodies(checks, program):
@@ -206,6 +225,27 @@ def bodies(checks, program):
     answers = [ask(server.connect(), "SendMessage", QueueUrl="jobs", MessageBody="x" * 200_000) for _ in range(8)]
     statuses = {(it or ["none"])[0] for it in answers}
     checks.see("once they are gone large ones are answered again", statuses == {200}, statuses)
+    checks.see("the server goes on", server.end())
+
+
+def waits(checks, program):
+    """Large bodies that have come, of receives that wait."""
+    server = Server(program, PROCESSORS)
+    ask(server.connect(), "CreateQueue", QueueName="quiet")
+    body = json.dumps({"QueueUrl": "quiet", "WaitTimeSeconds": 20}).encode()
+    whole = head("ReceiveMessage", LARGEST) + body.ljust(LARGEST)
+    parts = head("ReceiveMessage") + b"%x\r\n%s\r\n0\r\n\r\n" % (len(body), body)
+    many = [server.connect() for _ in range(server.threads * LARGE_AT_ONCE + 1)]
+    for place, it in enumerate(many):
+        it.sendall(whole if place < server.threads else parts)
+        time.sleep(COMES)
+    left = taken_of(checks, server, "receives that wait", many)
+    ask(server.connect(), "SendMessageBatch", QueueUrl="quiet", Entries=[{"Id": f"{it}", "MessageBody": "a"} for it in range(len(left))])
+    answers = [reply(it) or (0, "none") for it in left]
+    checks.see("receives that wait: they are answered once there are messages", all('"Body":"a"' in text for _, text in answers), answers)
+    # over the same connections, so that the same threads are asked
+    statuses = {(ask(it, "SendMessage", QueueUrl="jobs", MessageBody="x" * 200_000) or ["none"])[0] for it in left}
+    checks.see("once they are answered large ones are taken again", statuses == {200}, statuses)
     checks.see("the server goes on", server.end())
 
 
@@ -251,7 +291,7 @@ def stillness(checks, program):
 
 def shortage(checks, program):
     """Want of memory."""
-    server = Server(program)
+    server = Server(program, log="refused")
     # all its threads have begun then, and have what they take at their beginning
     time.sleep(1)
     limit = server.addresses() + MORE
@@ -265,16 +305,20 @@ def shortage(checks, program):
         try:
             it = server.connect()
             it.settimeout(5)
-            it.sendall(head("SendMessage", 8_000_000) + b" " * 7_999_999)
             held.append(it)
+            it.sendall(head("SendMessage", 8_000_000) + b" " * 7_999_999)
         except OSError:
             pass
-        if any("out of memory" in it for it in server.told()):
+        if select.select(held, [], [], 0)[0]:
             break
+    ended = {answer for _, answer in replies(held, len(held))}
+    # what a line repeats is told a second later
     time.sleep(2)
     lines = server.told()
-    checks.see("the server tells that it has no memory", any("out of memory" in it for it in lines), lines[-3:])
-    checks.see("it does not tell so more than once a second", lines.count(SHORT) <= time.monotonic() - begun + 2, lines.count(SHORT))
+    checks.see("a request that finds no memory is told so, or its connection ends", ended and ended <= {(500, MEMORY), None}, ended)
+    others = [it for it in lines if it != SHORT and not re.fullmatch(WANT, it)]
+    checks.see("the server tells of it, or that it has no memory for that, and nothing else", lines and not others, others[:3])
+    checks.see("it does not tell that more than once a second", lines.count(SHORT) <= time.monotonic() - begun + 2, lines.count(SHORT))
     for it in held:
         it.close()
     time.sleep(1)
@@ -291,7 +335,7 @@ def main():
         raise SystemExit("usage: clients/limits.py [--quick] [PROGRAM]")
     program = words[0] if words else subprocess.run([f"{ROOT}/tools/run", "--which", "sqs_server"], stdout=subprocess.PIPE, text=True, check=True).stdout.strip()
     checks = Checks()
-    for part in (bodies, shortage) if is_quick else (bodies, shortage, stillness):
+    for part in (bodies, waits, shortage) if is_quick else (bodies, waits, shortage, stillness):
         try:
             part(checks, program)
         except OSError as error:

@@ -15,7 +15,8 @@ is brought to where the step begins, with memory, and behind it is looked, with 
   - The server goes on, tells `sqs_server: out of memory`, but once a second at most and no more once there is memory, and when all is over has no thread of a
     queue that is gone.
 
-Where nothing was refused, that is a failed check, and so it is where no entry of a batch of sends failed by itself. It needs Linux and a C compiler, on x86-64.
+Where nothing was refused, that is a failed check, and so it is where no entry of a batch of sends failed by itself. A step is left after ten requests with
+faults: what stays of queues that are gone could make it longer each time. It needs Linux and a C compiler, on x86-64.
 With --quick it goes through batches of sends and statistics alone, where it refuses one allocation at a time, and through a list of queues, where all from one
 on, over a connection that was open before: that takes a minute or two, and `make test` does it.
 """
@@ -52,8 +53,8 @@ SETTLES = 2
 CALM = 3
 # When a receive counts as one that waits, in seconds.
 WAITS = 0.05
-# How many faults of a step are told.
-TOLD = 3
+# How many faults of a step are told, and after how many requests with faults it is left.
+TOLD, ENOUGH = 3, 10
 NAMES = ["ApproximateNumberOfMessages", "ApproximateNumberOfMessagesDelayed", "ApproximateNumberOfMessagesNotVisible"]
 # Each step has what is asked, what is answered, and the messages that are visible, delayed and in flight then; of a batch, behind each entry. A * stands for
 # any text in an answer, and UID for the number of the queue, and for what of an identity has it. What is asked behind `beside` is asked while a receive waits at
@@ -466,14 +467,14 @@ class Refusals:
 
 
 def gone_through(it, refusals, place, is_rest, is_new):
-    """Refuses memory to a step at each number, until one is beyond what it asks for. Returns how often what became of it, and the faults."""
-    words, faults = collections.Counter(), []
+    """Refuses memory to a step at each number, until one is beyond what it asks for or enough had faults. Returns how often what became of it, and the faults."""
+    words, faults, failed = collections.Counter(), [], it.failed
     for first in itertools.count(1):
         word, is_late, asked, refused, told = refusals.trial(place, first, is_rest, is_new)
         words.update([word] if refused else [], late=is_late)
         faults += [f"allocation {first}: {word}: {one}" for one in told]
         it.passed, it.failed = it.passed + (not told), it.failed + bool(told)
-        if refusals.server.process.poll() is not None or not refused and asked < first:
+        if it.failed - failed == ENOUGH or refusals.server.process.poll() is not None or not refused and asked < first:
             break
     it.equal(f"whether {refusals.steps[place].name()} was refused memory", first > 1, True)
     if refusals.steps[place].action == "SendMessageBatch" and not is_rest:
