@@ -46,6 +46,8 @@ WANT = r"\d\d:\d\d:\d\d\.\d{3} \S+ \S+ 500 OutOfMemory\b.*|sqs_server: (accept|c
 ROUNDS, QUIET, LATE = 4, 1, 30
 # On how many processors the server runs whose receives wait, so that few are too many, and how long a body may take to come that is sent, in seconds.
 PROCESSORS, COMES = 2, 0.1
+# For how long receives that may wait 20 seconds wait for sure, in seconds.
+WAITED = 19
 # How many bytes of addresses the server may have more than at its start, where memory is to be short: not those of three of the largest bodies; and how many
 # it has at the most where it has no address sanitizer.
 MORE, USUAL = 20 * 2**20, 2**40
@@ -235,14 +237,18 @@ def waits(checks, program):
     body = json.dumps({"QueueUrl": "quiet", "WaitTimeSeconds": 20}).encode()
     whole = head("ReceiveMessage", LARGEST) + body.ljust(LARGEST)
     parts = head("ReceiveMessage") + b"%x\r\n%s\r\n0\r\n\r\n" % (len(body), body)
-    many = [server.connect() for _ in range(server.threads * LARGE_AT_ONCE + 1)]
+    many, begun = [server.connect() for _ in range(server.threads * LARGE_AT_ONCE + 1)], time.monotonic()
     for place, it in enumerate(many):
         it.sendall(whole if place < server.threads else parts)
         time.sleep(COMES)
     left = taken_of(checks, server, "receives that wait", many)
     ask(server.connect(), "SendMessageBatch", QueueUrl="quiet", Entries=[{"Id": f"{it}", "MessageBody": "a"} for it in range(len(left))])
+    is_late = time.monotonic() - begun > WAITED
     answers = [reply(it) or (0, "none") for it in left]
-    checks.see("receives that wait: they are answered once there are messages", all('"Body":"a"' in text for _, text in answers), answers)
+    if is_late:
+        print("left out: that receives are answered once there are messages. This machine took so long that they may not have waited any more")
+    else:
+        checks.see("receives that wait: they are answered once there are messages", all('"Body":"a"' in text for _, text in answers), answers)
     # over the same connections, so that the same threads are asked
     statuses = {(ask(it, "SendMessage", QueueUrl="jobs", MessageBody="x" * 200_000) or ["none"])[0] for it in left}
     checks.see("once they are answered large ones are taken again", statuses == {200}, statuses)
