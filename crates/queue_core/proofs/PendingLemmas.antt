@@ -5,7 +5,7 @@ use Rattle.std.specs.Option.{option_map_or}
 use Rattle.std.specs.List.{list_any, All, AllPairs, Contains}
 use Rattle.std.proofs.lemmas.List.{append-nil}
 use Rattle.std.proofs.lemmas.List.Elements.{All-head, All-tail, All-append, All-weaker, All-map, All-contains, All-contains_itself, filter-append, filter_agree, Contains-append_left, Contains-append_right, Contains-append_cases, Contains-push}
-use Rattle.std.proofs.lemmas.List.Folds.{list_any-from_Any}
+use Rattle.std.proofs.lemmas.List.Folds.{list_any-append, list_any-from_Any}
 use Rattle.std.proofs.lemmas.List.Kept.{AllPairs-cons, AllPairs-filter}
 use Rattle.std.proofs.lemmas.Bool.{false≢true, true≢false, not-true, not_from_false, eqb-true, eq-eqb, ne_eqb, or_cases, and_parts}
 use Rattle.message.specs.Content.{ContentText}
@@ -24,7 +24,7 @@ use Rattle.queue_core.specs.Messages.{effect_of, contains_number, is_expired, is
 use Rattle.queue_core.specs.States.{is_live, waiting_state, same_state, is_in_state, is_numbered, message_numbered}
 use Rattle.queue_core.specs.Queue.{QueueHistory}
 use Rattle.queue_core.specs.Legal.{IsWhole, IsOpening}
-use Rattle.queue_core.proofs.PushLemmas.{ended-push, IsNew, numbered-cases, numbered-kept, course-kept, new_course, new_begun}
+use Rattle.queue_core.proofs.PushLemmas.{or_false, IsNew, numbered-cases, numbered-kept, course-kept, new_course, new_begun}
 use Rattle.queue_core.proofs.OfferLemmas.{Contains-filter, Contains-from_filter}
 use Rattle.queue_core.proofs.PairLemmas.{AllPairs-map}
 use Rattle.queue_core.proofs.CauseLemmas.{AllPairs-nil, AllPairs-head, AllPairs-tail, IsAbout, about-caused}
@@ -52,21 +52,30 @@ not_or false b = refl
 abbrev is_open : List (Entry ContentText) → Transfer → Bool
 is_open es t = not (list_any (λ later. ends_transfer t later.event) es)
 
-open-push : (es : List (Entry ContentText)) (e : Entry ContentText) (t : Transfer) → is_open (es ++ e ∷ []) t ≡ (is_open es t && not (ends_transfer t e.event))
-open-push es e t = ap not (ended-push es e t) ∙ not_or (list_any (λ later. ends_transfer t later.event) es) (ends_transfer t e.event)
+open-append : (es fs : List (Entry ContentText)) (t : Transfer) → is_open (es ++ fs) t ≡ (is_open es t && is_open fs t)
+open-append es fs t =
+    ap not (list_any-append (λ later. ends_transfer t later.event) es fs) ∙ not_or (list_any (λ later. ends_transfer t later.event) es) (list_any (λ later. ends_transfer t later.event) fs)
+
+pub pending_transfers-append : (xs ys : List (Entry ContentText)) → pending_transfers (xs ++ ys) ≡ filter (is_open ys) (pending_transfers xs) ++ pending_transfers ys
+pending_transfers-append [] ys = refl
+pending_transfers-append (x ∷ xs) ys =
+    let kept : Transfer → Bool = is_open ys in
+    let begun : List Transfer = departures x.event in
+    let here : filter (is_open (xs ++ ys)) begun ≡ filter kept (filter (is_open xs) begun) =
+    filter_agree (is_open (xs ++ ys)) (λ t. is_open xs t && kept t) (open-append xs ys) begun ∙ sym (filter_twice (is_open xs) kept begun) in
+    ap (λ (ts : List Transfer). ts ++ pending_transfers (xs ++ ys)) here
+    ∙ ap (λ (ts : List Transfer). filter kept (filter (is_open xs) begun) ++ ts) (pending_transfers-append xs ys)
+    ∙ sym (append_assoc (filter kept (filter (is_open xs) begun)) (filter kept (pending_transfers xs)) (pending_transfers ys))
+    ∙ ap (λ (ts : List Transfer). ts ++ pending_transfers ys) (sym (filter-append kept (filter (is_open xs) begun) (pending_transfers xs)))
 
 pub pending_transfers-push : (lines : List (Entry ContentText)) (e : Entry ContentText)
     → pending_transfers (lines ++ e ∷ []) ≡ filter (λ t. not (ends_transfer t e.event)) (pending_transfers lines) ++ departures e.event
-pending_transfers-push [] e = append-nil (filter (λ t. true) (departures e.event)) ∙ filter_all (departures e.event)
-pending_transfers-push (x ∷ xs) e =
-    let kept : Transfer → Bool = λ t. not (ends_transfer t e.event) in
-    let begun : List Transfer = departures x.event in
-    let here : filter (is_open (xs ++ e ∷ [])) begun ≡ filter kept (filter (is_open xs) begun) =
-    filter_agree (is_open (xs ++ e ∷ [])) (λ t. is_open xs t && kept t) (open-push xs e) begun ∙ sym (filter_twice (is_open xs) kept begun) in
-    ap (λ (ts : List Transfer). ts ++ pending_transfers (xs ++ e ∷ [])) here
-    ∙ ap (λ (ts : List Transfer). filter kept (filter (is_open xs) begun) ++ ts) (pending_transfers-push xs e)
-    ∙ sym (append_assoc (filter kept (filter (is_open xs) begun)) (filter kept (pending_transfers xs)) (departures e.event))
-    ∙ ap (λ (ts : List Transfer). ts ++ departures e.event) (sym (filter-append kept (filter (is_open xs) begun) (pending_transfers xs)))
+pending_transfers-push lines e =
+    pending_transfers-append lines (e ∷ [])
+    ∙ (ap (λ (ts : List Transfer). ts ++ (filter (λ t. true) (departures e.event) ++ []))
+    (filter_agree (is_open (e ∷ [])) (λ t. not (ends_transfer t e.event)) (λ t. ap not (or_false (ends_transfer t e.event))) (pending_transfers lines))
+    ∙ ap (λ (ts : List Transfer). filter (λ t. not (ends_transfer t e.event)) (pending_transfers lines) ++ ts)
+    (append-nil (filter (λ t. true) (departures e.event)) ∙ filter_all (departures e.event)))
 
 -- ---- elements of lists
 

@@ -1,4 +1,4 @@
--- What one entry more makes of what a journal says of its messages, and which messages it has by number.
+-- What two lists of entries, one behind the other, and one entry more make of what a journal says of its messages, and which messages it has by number.
 use Rattle.std.proofs.Common.{◌≡◌, ℕ, zero, suc, ◌+◌, ◌*◌, ◌≤◌, ◌<◌, Bool, true, false, cond, ◌&&◌, ◌||◌, ltb, leb, List, [], ◌∷◌, ◌++◌, length, drop, Option, Some, None, refl, sym, ap, subst, inl, inr, ◌∙◌, arith}
 use Rattle.std.specs.Prelude.{◌⊎◌, ◌-◌, min, nat_lt, slice_get, option_map, unwrap_or, sum_by}
 use Rattle.std.specs.Option.{option_map_or}
@@ -8,7 +8,7 @@ use Rattle.std.proofs.lemmas.Bool.{false≢true, lt-ltb, le-ltb, ltb-false, case
 use Rattle.std.proofs.lemmas.Grind.{flat_map-append}
 use Rattle.std.proofs.lemmas.List.{append-nil, append_assoc, drop-append-le, length-append, length-map}
 use Rattle.std.proofs.lemmas.List.Folds.{list_any-append}
-use Rattle.std.proofs.lemmas.List.Sums.{sum_by_push}
+use Rattle.std.proofs.lemmas.List.Sums.{sum_by_push, sum_by-append}
 use Rattle.std.proofs.lemmas.Option.{none-some, same_Some, slice_get-map, slice_get_past, slice_get_within}
 use Rattle.message.specs.Content.{ContentText}
 use Rattle.queue_config.specs.Settings.{QueueSettings, default_settings}
@@ -80,9 +80,12 @@ any-push test xs x = list_any-append test xs (x ∷ []) ∙ ap (λ (b : Bool). l
 
 -- ---- settings, the queue's end, and what was accepted
 
+pub settings_from-append : (s : QueueSettings) (xs ys : List Line) → settings_from s (xs ++ ys) ≡ settings_from (settings_from s xs) ys
+settings_from-append s [] ys = refl
+settings_from-append s (x ∷ xs) ys = settings_from-append (settings_after s x.event) xs ys
+
 pub settings_from-push : (s : QueueSettings) (lines : List Line) (e : Line) → settings_from s (lines ++ e ∷ []) ≡ settings_after (settings_from s lines) e.event
-settings_from-push s [] e = refl
-settings_from-push s (x ∷ xs) e = settings_from-push (settings_after s x.event) xs e
+settings_from-push s lines e = settings_from-append s lines (e ∷ [])
 
 pub closed-push : (lines : List Line) (e : Line) → is_closed (lines ++ e ∷ []) ≡ (is_closed lines || closes e.event)
 closed-push lines e = any-push (λ (x : Line). closes x.event) lines e
@@ -90,24 +93,35 @@ closed-push lines e = any-push (λ (x : Line). closes x.event) lines e
 pub accepted-push : (lines : List Line) (e : Line) (uid number : ℕ) → has_accepted (lines ++ e ∷ []) uid number ≡ (has_accepted lines uid number || accepts uid number e.event)
 accepted-push lines e uid number = any-push (λ (x : Line). accepts uid number x.event) lines e
 
-pub ended-push : (lines : List Line) (e : Line) (t : Transfer)
-    → list_any (λ later. ends_transfer t later.event) (lines ++ e ∷ []) ≡ (list_any (λ later. ends_transfer t later.event) lines || ends_transfer t e.event)
-ended-push lines e t = any-push (λ (x : Line). ends_transfer t x.event) lines e
-
 -- ---- where a message stands
 
-course_from-push : (number : ℕ) (c : Course) (xs : List Line) (e : Line) → course_from number c (xs ++ e ∷ []) ≡ course_after number (course_from number c xs) e
-course_from-push number c [] e = refl
-course_from-push number c (x ∷ xs) e = course_from-push number (course_after number c x) xs e
+pub course_from-append : (number : ℕ) (c : Course) (xs ys : List Line) → course_from number c (xs ++ ys) ≡ course_from number (course_from number c xs) ys
+course_from-append number c [] ys = refl
+course_from-append number c (x ∷ xs) ys = course_from-append number (course_after number c x) xs ys
 
 pub course-push : (lines : List Line) (e : Line) (m : Message) → m.place < length lines → course_of (lines ++ e ∷ []) m ≡ course_after m.number (course_of lines m) e
 course-push lines e m h =
-    ap (course_from m.number m.begun) (drop-append-le m.place lines (e ∷ []) (omega arith)) ∙ course_from-push m.number m.begun (drop m.place lines) e
+    ap (course_from m.number m.begun) (drop-append-le m.place lines (e ∷ []) (omega arith)) ∙ course_from-append m.number m.begun (drop m.place lines) (e ∷ [])
 
 -- ---- retention
 
 abbrev period : ℕ → QueueSettings → ℕ → RetentionPeriod
 period place s end = record { retention = s.retention_seconds; end = end; closing = place }
+
+cond-append : (b : Bool) (here : RetentionPeriod) (xs ys : List RetentionPeriod) → cond b (here ∷ (xs ++ ys)) (xs ++ ys) ≡ cond b (here ∷ xs) xs ++ ys
+cond-append true here xs ys = refl
+cond-append false here xs ys = refl
+
+-- the periods that are over in two lists of entries, one behind the other
+pub closed_periods_from-append : (place : ℕ) (s : QueueSettings) (xs ys : List Line) (end : ℕ) → end ≡ place + length xs
+    → closed_periods_from place s (xs ++ ys) ≡ closed_periods_from place s xs ++ closed_periods_from end (settings_from s xs) ys
+closed_periods_from-append place s [] ys end h =
+    let here : place ≡ end = omega arith in
+    ap (λ (i : ℕ). closed_periods_from i s ys) here
+closed_periods_from-append place s (x ∷ xs) ys end h =
+    let after : QueueSettings = settings_after s x.event in
+    ap (λ (ps : List RetentionPeriod). cond (closes_period x.event) (period place s x.at ∷ ps) ps) (closed_periods_from-append (suc place) after xs ys end (omega arith))
+    ∙ cond-append (closes_period x.event) (period place s x.at) (closed_periods_from (suc place) after xs) (closed_periods_from end (settings_from after xs) ys)
 
 module _ (test : RetentionPeriod → Bool) where
   -- the periods behind one entry, where those behind it are one more
@@ -120,13 +134,11 @@ module _ (test : RetentionPeriod → Bool) where
 
   any-closed-push : (place : ℕ) (s : QueueSettings) (lines : List Line) (e : Line) (closing : ℕ) → closing ≡ place + length lines
       → list_any test (closed_periods_from place s (lines ++ e ∷ [])) ≡ (list_any test (closed_periods_from place s lines) || (closes_period e.event && test (period closing (settings_from s lines) e.at)))
-  any-closed-push place s [] e closing h =
-      let here : place ≡ closing = omega arith in
-      by_closing (closes_period e.event) test (period place s e.at) []
-      ∙ (or_false (closes_period e.event && test (period place s e.at)) ∙ ap (λ (i : ℕ). closes_period e.event && test (period i s e.at)) here)
-  any-closed-push place s (x ∷ xs) e closing h =
-      any-entry (closes_period x.event) (period place s x.at) (closed_periods_from (suc place) (settings_after s x.event) xs) (closed_periods_from (suc place) (settings_after s x.event) (xs ++ e ∷ []))
-      (closes_period e.event && test (period closing (settings_from s (x ∷ xs)) e.at)) (any-closed-push (suc place) (settings_after s x.event) xs e closing (omega arith))
+  any-closed-push place s lines e closing h =
+      ap (list_any test) (closed_periods_from-append place s lines (e ∷ []) closing h)
+      ∙ (list_any-append test (closed_periods_from place s lines) (closed_periods_from closing (settings_from s lines) (e ∷ []))
+      ∙ ap (λ (b : Bool). list_any test (closed_periods_from place s lines) || b)
+      (by_closing (closes_period e.event) test (period closing (settings_from s lines) e.at) [] ∙ or_false (closes_period e.event && test (period closing (settings_from s lines) e.at))))
 
   -- all periods are those that are over, and the open one
   any-periods : (place : ℕ) (s : QueueSettings) (clock : ℕ) (lines : List Line) (closing : ℕ) → closing ≡ place + length lines
@@ -170,6 +182,15 @@ count-upto lines n = omega arith
 pub capped-same : (k : ℕ) → k ≤ greatest → min (k + 0) greatest ≡ k
 capped-same k h = omega arith
 
+-- two such sums together
+capped-both : (most a b : ℕ) → min (a + b) most ≡ min (min a most + min b most) most
+capped-both most a b = omega arith
+
+pub receives-append : (xs ys : List Line) (n : ℕ) → receive_count (xs ++ ys) n ≡ min (receive_count xs n + receive_count ys n) greatest
+receives-append xs ys n =
+    ap (λ (k : ℕ). min k greatest) (sum_by-append (λ (x : Line). receives_in n x.event) xs ys)
+    ∙ capped-both greatest (sum_by (λ (x : Line). receives_in n x.event) xs) (sum_by (λ (x : Line). receives_in n x.event) ys)
+
 receives-told : (lines : List Line) (e : Line) (n : ℕ) → receive_count (lines ++ e ∷ []) n ≡ min (receive_count lines n + receives_in n e.event) greatest
 receives-told lines e n =
     ap (λ (k : ℕ). min k greatest) (sum_by_push (λ (x : Line). receives_in n x.event) lines e)
@@ -183,14 +204,17 @@ first-assoc : (a b c : Option ℕ) → first_of_both a (first_of_both b c) ≡ f
 first-assoc None b c = refl
 first-assoc (Some time) b c = refl
 
-first-told : (lines : List Line) (e : Line) (n : ℕ) → first_receive_time (lines ++ e ∷ []) n ≡ first_of_both (first_receive_time lines n) (first_receive_in n e)
-first-told [] e n = first-alone (first_receive_in n e)
-first-told (x ∷ xs) e n =
-    ap (first_of_both (first_receive_in n x)) (first-told xs e n) ∙ first-assoc (first_receive_in n x) (first_receive_time xs n) (first_receive_in n e)
+pub first-append : (xs ys : List Line) (n : ℕ) → first_receive_time (xs ++ ys) n ≡ first_of_both (first_receive_time xs n) (first_receive_time ys n)
+first-append [] ys n = refl
+first-append (x ∷ xs) ys n =
+    ap (first_of_both (first_receive_in n x)) (first-append xs ys n) ∙ first-assoc (first_receive_in n x) (first_receive_time xs n) (first_receive_time ys n)
 
-last_receive_from-push : (n time : ℕ) (lines : List Line) (e : Line) → last_receive_from n time (lines ++ e ∷ []) ≡ last_receive_by n (last_receive_from n time lines) e
-last_receive_from-push n time [] e = refl
-last_receive_from-push n time (x ∷ xs) e = last_receive_from-push n (last_receive_by n time x) xs e
+first-told : (lines : List Line) (e : Line) (n : ℕ) → first_receive_time (lines ++ e ∷ []) n ≡ first_of_both (first_receive_time lines n) (first_receive_in n e)
+first-told lines e n = first-append lines (e ∷ []) n ∙ ap (first_of_both (first_receive_time lines n)) (first-alone (first_receive_in n e))
+
+pub last_receive_from-append : (n time : ℕ) (xs ys : List Line) → last_receive_from n time (xs ++ ys) ≡ last_receive_from n (last_receive_from n time xs) ys
+last_receive_from-append n time [] ys = refl
+last_receive_from-append n time (x ∷ xs) ys = last_receive_from-append n (last_receive_by n time x) xs ys
 
 none-more : (k : ℕ) → 0 + k ≡ k
 none-more k = omega arith
@@ -217,13 +241,16 @@ module _ (lines : List Line) (e : Line) (n : ℕ) (alone : StandsAlone e.event) 
   first-push = first-told lines e n ∙ ap (first_of_both (first_receive_time lines n)) (first_receive_in-alone n e alone)
 
   pub last-push : last_receive_time (lines ++ e ∷ []) n ≡ cond (offers_number n e.event) e.at (last_receive_time lines n)
-  last-push = last_receive_from-push n 0 lines e ∙ last_receive_by-alone n e alone (last_receive_time lines n)
+  last-push = last_receive_from-append n 0 lines (e ∷ []) ∙ last_receive_by-alone n e alone (last_receive_time lines n)
 
 -- ---- contents
 
+pub contents-append : {C : Type 0} (xs ys : List (Entry C)) → contents (xs ++ ys) ≡ contents xs ++ contents ys
+contents-append {C} xs ys = flat_map-append (λ (x : Entry C). contents_in x.event) xs ys
+
 pub contents-push : {C : Type 0} (lines : List (Entry C)) (e : Entry C) → contents (lines ++ e ∷ []) ≡ contents lines ++ contents_in e.event
 contents-push {C} lines e =
-    flat_map-append (λ (x : Entry C). contents_in x.event) lines (e ∷ []) ∙ ap (λ (cs : List (Option C)). contents lines ++ cs) (append-nil (contents_in e.event))
+    contents-append lines (e ∷ []) ∙ ap (λ (cs : List (Option C)). contents lines ++ cs) (append-nil (contents_in e.event))
 
 -- what is there of a content is there
 pub contained : {C : Type 0} (o : Option (Option C)) (content : C) → unwrap_or o None ≡ Some content → o ≡ Some (Some content)

@@ -54,9 +54,12 @@ created_by false (Some s) at a b h = refl
 created_by false None at a b h = absurd cc
 
 -- when the queue was created does not change
+pub created_time-append : (xs ys : List Line) → Begins xs → created_time (xs ++ ys) ≡ created_time xs
+created_time-append [] ys h = absurd h
+created_time-append (x ∷ xs) ys h = created_by (opens x.event) (effect_of x.event).since x.at (created_time (xs ++ ys)) (created_time xs) h
+
 pub created_time-push : (lines : List Line) (e : Line) → Begins lines → created_time (lines ++ e ∷ []) ≡ created_time lines
-created_time-push [] e h = absurd h
-created_time-push (x ∷ xs) e h = created_by (opens x.event) (effect_of x.event).since x.at (created_time (xs ++ e ∷ [])) (created_time xs) h
+created_time-push lines e h = created_time-append lines (e ∷ []) h
 
 known-push : (lines : List Line) (e : Line) → StandsAlone e.event → rows_known (lines ++ e ∷ []) ≡ rows_known lines
 known-push lines e alone =

@@ -1,4 +1,4 @@
--- What one entry more makes of what a journal comes to.
+-- What entries behind others, and one entry more, make of what a journal comes to.
 use Rattle.std.proofs.Common.{◌≡◌, ℕ, ◌+◌, cond, Option, ◌||◌, List, [], ◌∷◌, ◌++◌, length, refl, sym, ap, ◌∙◌}
 use Rattle.std.proofs.lemmas.List.FromFn.{length-map-range_with_len}
 use Rattle.queue_core.specs.declared.tally.Tally.{Tally}
@@ -10,9 +10,12 @@ use Rattle.queue_core.proofs.Scans.{StandsAlone}
 use Rattle.queue_core.proofs.SoundLemmas.{Begins, created_time-push}
 use Rattle.queue_core.proofs.PushLemmas.{Line, settings_from-push, closed-push, count-push}
 
+pub modified_from-append : (time : ℕ) (xs ys : List Line) → modified_from time (xs ++ ys) ≡ modified_from (modified_from time xs) ys
+modified_from-append time [] ys = refl
+modified_from-append time (x ∷ xs) ys = modified_from-append (modified_by time x) xs ys
+
 modified_from-told : (time : ℕ) (lines : List Line) (e : Line) → modified_from time (lines ++ e ∷ []) ≡ modified_by (modified_from time lines) e
-modified_from-told time [] e = refl
-modified_from-told time (x ∷ xs) e = modified_from-told (modified_by time x) xs e
+modified_from-told time lines e = modified_from-append time lines (e ∷ [])
 
 pub modified_from-push : (time : ℕ) (lines : List Line) (e : Line) → StandsAlone e.event → modified_from time (lines ++ e ∷ []) ≡ cond (gives_settings e.event) e.at (modified_from time lines)
 modified_from-push time lines e alone =
