@@ -1,16 +1,17 @@
 -- What is true of every name directory stays true as queues are added, changed and taken out.
-use Rattle.std.proofs.Common.{◌≡◌, ℕ, ◌+◌, ◌<◌, ◌≤◌, Bool, true, false, not, cond, List, [], ◌∷◌, ◌++◌, length, get_or, set, Option, Some, None, refl, sym, ap, subst, ◌∙◌, arith}
+use Rattle.std.proofs.Common.{◌≡◌, ℕ, ◌+◌, ◌<◌, ◌≤◌, Bool, true, false, not, cond, List, [], ◌∷◌, ◌++◌, length, get_or, set, map, Option, Some, None, refl, sym, ap, subst, ◌∙◌, arith}
 use Rattle.std.specs.Prelude.{nat_eq, remove, is_some}
-use Rattle.std.specs.List.{find, position, IsDistinct}
+use Rattle.std.specs.List.{find, list_any, position, IsDistinct}
 use Rattle.std.specs.Option.{option_map}
 use Rattle.std.specs.Str.{bytes_eq}
-use Rattle.std.proofs.lemmas.List.{length-append, length-map, set-get_or}
+use Rattle.std.proofs.lemmas.List.{map-append, length-append, length-map, set-get_or}
 use Rattle.std.proofs.lemmas.List.Filters.{length-filter_both}
 use Rattle.std.proofs.lemmas.List.Elements.{All-nil, All-filter, All-push, All-map, All-weaker}
 use Rattle.std.proofs.lemmas.List.Quantifiers.{position-Some}
-use Rattle.redrive.specs.Catalog.{Directory, is_directory_full, empty_directory, name_of, uid_of_name, has_uid, without_uid, retargeted, with_target, IsDirectory}
+use Rattle.redrive.specs.Keys.{KeyLists}
+use Rattle.redrive.specs.Catalog.{Directory, is_directory_full, empty_directory, name_of, uid_of_name, has_uid, without_uid, retargeted, with_target, IsDirectory, IsKeptDirectory}
 use Rattle.redrive.specs.declared.catalog.Registered.{Registered}
-use Rattle.redrive.proofs.KeyedLemmas.{places_left, IsDistinct-push, IsDistinct-filter, map-key, find-unused, filter-absent, find-position, find-no_position, map-absent, map-present, remove-present}
+use Rattle.redrive.proofs.KeyedLemmas.{absent-by, map-remove, places_left, IsDistinct-push, IsDistinct-filter, map-key, find-unused, filter-absent, find-position, find-no_position, map-absent, map-present, remove-present}
 
 abbrev uid_of : Registered → ℕ
 uid_of q = q.uid
@@ -19,7 +20,10 @@ pub IsDirectory-empty : IsDirectory empty_directory
 unfolding IsDistinct
 IsDirectory-empty = record { count = omega arith; names = tt; uids = tt; used = All-nil _; first = All-nil _; begun = omega arith; last = omega arith }
 
-no_uid : (o : Option Registered) → option_map (λ (q : Registered). q.uid) o ≡ None → o ≡ None
+pub IsKept-empty : (k : KeyLists) → k.uids ≡ [] → k.names ≡ [] → IsKeptDirectory empty_directory k
+IsKept-empty k uids names = record { directory = IsDirectory-empty; uids = uids; names = names }
+
+pub no_uid : (o : Option Registered) → option_map (λ (q : Registered). q.uid) o ≡ None → o ≡ None
 no_uid None h = refl
 no_uid (Some q) h = absurd cc
 
@@ -106,4 +110,42 @@ IsDirectory-with_target d uid target h =
       first = All-map (λ q. 1 ≤ q.uid) next d.queues (All-weaker (λ q. 1 ≤ q.uid) (λ q. 1 ≤ (next q).uid) (λ q l. rw (same_uid q) l) d.queues h.first);
       begun = h.begun;
       last = h.last;
+    }
+
+-- ---- the keys that are kept beside the queues
+
+-- a uid that no queue has had is not among them
+pub unused : (d : Directory) (k l : KeyLists) → IsKeptDirectory d k → l.uids ≡ k.uids → list_any (λ u. nat_eq u d.next_uid) l.uids ≡ false
+unused d k l h uids = absent-by uid_of (λ u. nat_eq u d.next_uid) l.uids d.queues (uids ∙ h.uids) (find-unused uid_of d.next_uid d.queues h.directory.used)
+
+-- nor is a name that finds no queue
+pub unnamed : (d : Directory) (k l : KeyLists) (name : List ℕ) → IsKeptDirectory d k → l.names ≡ k.names → uid_of_name d name ≡ None → list_any (λ n. bytes_eq n name) l.names ≡ false
+unnamed d k l name h names none = absent-by name_of (λ n. bytes_eq n name) l.names d.queues (names ∙ h.names) (no_uid (find (λ x. bytes_eq x.name name) d.queues) none)
+
+pub IsKept-added : (d : Directory) (k room l : KeyLists) (name : List ℕ) (target : ℕ) (queues : List Registered) → IsKeptDirectory d k → uid_of_name d name ≡ None → is_directory_full d ≡ false
+    → queues ≡ d.queues ++ record { name = name; uid = d.next_uid; target = target } ∷ [] → room.uids ≡ k.uids → room.names ≡ k.names
+    → l.uids ≡ room.uids ++ d.next_uid ∷ [] → l.names ≡ room.names ++ name ∷ [] → IsKeptDirectory (record { next_uid = d.next_uid + 1; queues = queues }) l
+IsKept-added d k room l name target queues h none full is room_uids room_names uids names =
+    let q : Registered = record { name = name; uid = d.next_uid; target = target } in
+    record {
+      directory = IsDirectory-added d name target queues h.directory none full is;
+      uids = uids ∙ ap (λ (us : List ℕ). us ++ d.next_uid ∷ []) (room_uids ∙ h.uids) ∙ sym (map-append uid_of d.queues (q ∷ [])) ∙ ap (map uid_of) (sym is);
+      names = names ∙ ap (λ (ns : List (List ℕ)). ns ++ name ∷ []) (room_names ∙ h.names) ∙ sym (map-append name_of d.queues (q ∷ [])) ∙ ap (map name_of) (sym is);
+    }
+
+pub IsKept-removed : (d : Directory) (k l : KeyLists) (uid place : ℕ) (queues : List Registered) → IsKeptDirectory d k → position (λ q. nat_eq q.uid uid) d.queues ≡ Some place
+    → queues ≡ remove d.queues place → l.uids ≡ remove k.uids place → l.names ≡ remove k.names place → IsKeptDirectory (record d { queues = queues }) l
+IsKept-removed d k l uid place queues h here is uids names = record {
+  directory = subst (λ (d : Directory). IsDirectory d) (sym (without-present d uid place queues h.directory here is)) (IsDirectory-without d uid h.directory);
+  uids = uids ∙ ap (λ (us : List ℕ). remove us place) h.uids ∙ sym (map-remove uid_of d.queues place) ∙ ap (map uid_of) (sym is);
+  names = names ∙ ap (λ (ns : List (List ℕ)). remove ns place) h.names ∙ sym (map-remove name_of d.queues place) ∙ ap (map name_of) (sym is);
+}
+
+pub IsKept-with_target : (d : Directory) (k : KeyLists) (uid target : ℕ) → IsKeptDirectory d k → IsKeptDirectory (with_target d uid target) k
+IsKept-with_target d k uid target h =
+    let next : Registered → Registered = λ q. retargeted uid target q in
+    record {
+      directory = IsDirectory-with_target d uid target h.directory;
+      uids = h.uids ∙ sym (map-key nat_eq uid_of next (λ q. retargeted-keeps uid_of (nat_eq q.uid uid) q (record q { target = target }) refl) d.queues);
+      names = h.names ∙ sym (map-key bytes_eq name_of next (λ q. retargeted-keeps name_of (nat_eq q.uid uid) q (record q { target = target }) refl) d.queues);
     }

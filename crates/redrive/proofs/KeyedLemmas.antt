@@ -1,14 +1,15 @@
--- Lists whose elements have distinct keys: one element more, fewer, or changed.
-use Rattle.std.proofs.Common.{◌≡◌, ◌≢◌, ℕ, zero, suc, ◌<◌, ◌^◌, Bool, true, false, not, ◌||◌, cond, List, [], ◌∷◌, ◌++◌, length, get_or, set, map, Option, Some, None, refl, sym, ap, subst, ◌∙◌, arith, eqb-true}
-use Rattle.std.specs.Prelude.{nat_eq, nat_lt, nat_le, filter, remove, slice_get}
-use Rattle.std.specs.List.{find, position, position_or_len, IsDistinct, All, AllByRecursion}
+-- Lists whose elements have distinct keys: one element more, fewer, or changed; and keys that are kept beside them.
+use Rattle.std.proofs.Common.{Bor, ◌≡◌, ◌≢◌, ℕ, zero, suc, ◌<◌, ◌^◌, Bool, true, false, not, ◌||◌, cond, List, [], ◌∷◌, ◌++◌, length, get_or, set, map, Option, Some, None, refl, sym, ap, subst, ◌∙◌, arith, eqb-true}
+use Rattle.std.specs.Prelude.{nat_eq, nat_lt, nat_le, filter, remove, slice_get, option_and_then, is_some, IfSome}
+use Rattle.std.specs.List.{find, list_any, position, position_or_len, IsDistinct, All, AllByRecursion}
 use Rattle.std.proofs.lemmas.Bool.{ne_eqb, eqb-false, ltb-false, or_parts}
 use Rattle.std.proofs.lemmas.Bool.Decides.{nat_tests}
 use Rattle.std.proofs.lemmas.List.Elements.{All-head, All-tail}
 use Rattle.std.proofs.lemmas.List.Folds.{find_at}
 use Rattle.std.proofs.lemmas.List.Quantifiers.{position-Some}
 use Rattle.std.proofs.lemmas.Option.{slice_get-get_or, slice_get_past, same_Some, none-some}
-use Rattle.std.specs.Option.{option_map}
+use Rattle.std.specs.Option.{option_map, option_copied}
+use Rattle.queue_config.proofs.ConfigLemmas.{position-map}
 
 -- while there is a place
 pub places_left : (n uid : ℕ) → (nat_le 1000 n || nat_le (2 ^ 62) uid) ≡ false → (n < 1000) × (uid < 2 ^ 62)
@@ -117,6 +118,49 @@ module _ {X : Type 0} (p : X → Bool) where
   pub find-other : (q : X → Bool) (xs : List X) (y : X) → find p xs ≡ Some y → q y ≡ true → (z : X) × (find q xs ≡ Some z)
   find-other q [] y is passes = absurd (none-some y is)
   find-other q (x ∷ xs) y is passes = cond-other q (p x) (q x) x y (find p xs) (find q xs) refl is passes (λ e. find-other q xs y e passes)
+
+-- ---- what is found by a list of keys beside the elements
+
+-- what is lent of a place
+pub lent-at : {X : Type 0} (xs : List X) (i : ℕ) (r : Option (Bor X)) → is_some r ≡ nat_lt i (length xs) → IfSome r (λ x. x.now ≡ get_or xs i x.now) → option_copied r ≡ slice_get xs i
+lent-at xs i None past h = sym (slice_get_past xs i (ltb-false i (length xs) (sym past)))
+lent-at xs i (Some x) within h =
+    let there : nat_lt i (length xs) ≡ true = sym within in
+    ap Some h ∙ sym (slice_get-get_or xs i x.now (grind (arith, nat_tests)))
+
+module _ {X : Type 0} (p : X → Bool) where
+  -- the first that passes a test is the one at its place
+  pub found-there : (xs : List X) → option_and_then (λ i. slice_get xs i) (position p xs) ≡ find p xs
+  found-there xs =
+      let first = position_or_len p xs in
+      by_place (nat_lt first (length xs)) refl ∙ sym (find_at p xs)
+    where
+      by_place : (b : Bool) → nat_lt (position_or_len p xs) (length xs) ≡ b → option_and_then (λ i. slice_get xs i) (cond b (Some (position_or_len p xs)) None) ≡ slice_get xs (position_or_len p xs)
+      by_place true e = refl
+      by_place false e = sym (slice_get_past xs (position_or_len p xs) (ltb-false (position_or_len p xs) (length xs) e))
+
+module _ {X K : Type 0} (key : X → K) (test : K → Bool) (keys : List K) (xs : List X) (same : keys ≡ map key xs) where
+  -- its place by its key is its place
+  pub placed-by : position test keys ≡ position (λ x. test (key x)) xs
+  placed-by = ap (position test) same ∙ position-map test key xs
+
+  -- what stands at the place of a key has that key
+  pub found-by : option_and_then (λ i. slice_get xs i) (position test keys) ≡ find (λ x. test (key x)) xs
+  found-by = ap (option_and_then (λ i. slice_get xs i)) placed-by ∙ found-there (λ x. test (key x)) xs
+
+  none-any : (ys : List X) → find (λ x. test (key x)) ys ≡ None → list_any test (map key ys) ≡ false
+  none-any [] none = refl
+  none-any (y ∷ ys) none = let p = none-cond (test (key y)) y (find (λ x. test (key x)) ys) none in rw (p.0, none-any ys p.1) refl
+
+  -- a key that finds nothing is not there
+  pub absent-by : find (λ x. test (key x)) xs ≡ None → list_any test keys ≡ false
+  absent-by none = ap (list_any test) same ∙ none-any xs none
+
+pub map-remove : {X Y : Type 0} (f : X → Y) (xs : List X) (i : ℕ) → map f (remove xs i) ≡ remove (map f xs) i
+map-remove f [] zero = refl
+map-remove f [] (suc i) = refl
+map-remove f (x ∷ xs) zero = refl
+map-remove f (x ∷ xs) (suc i) = ap (λ (ys : List _). f x ∷ ys) (map-remove f xs i)
 
 -- ---- elements with a number
 

@@ -1,5 +1,5 @@
 -- The queue of a uid at its place in the list: what is done there is done to the queue of the uid.
-use Rattle.std.proofs.Common.{◌≡◌, ℕ, ◌+◌, ◌<◌, ◌≤◌, true, false, List, length, get_or, set, Option, Some, None, Result, Ok, Err, refl, sym, ap, ◌∙◌}
+use Rattle.std.proofs.Common.{◌≡◌, ℕ, ◌+◌, ◌<◌, ◌≤◌, true, false, List, length, get_or, set, map, Option, Some, None, Result, Ok, Err, refl, sym, ap, ◌∙◌}
 use Rattle.std.specs.Prelude.{nat_eq, remove, slice_get, IfSome, OnOk, OnErr, IfErr}
 use Rattle.std.specs.List.{position}
 use Rattle.std.proofs.lemmas.List.{set-get_or}
@@ -12,16 +12,20 @@ use Rattle.message.specs.Fault.{Meets}
 use Rattle.queue_core.specs.declared.command.Command.{Command}
 use Rattle.queue_core.specs.declared.reply.Reply.{Reply}
 use Rattle.queue_core.specs.Messages.{is_closed}
-use Rattle.queue_core.specs.Queue.{QueueHistory, at_moment, outcome_at, takes_memory, after_answer}
+use Rattle.queue_core.specs.Queue.{QueueHistory, at_moment, outcome_at, takes_memory, IsExactWithRoom, after_answer}
 use Rattle.queue_core.specs.Cost.{most_ticks}
 use Rattle.redrive.specs.Cost.{change_ticks}
 use Rattle.redrive.specs.World.{World, queue_of_uid, queue_answer, takes_memory_in, with_queue_changed, world_after_command, closed_queue, take_answer, without_queue, world_after_delete, IsRegistry}
-use Rattle.redrive.specs.ByPlace.{with_place_changed, without_place, closes_queue}
-use Rattle.redrive.proofs.KeyedLemmas.{find-position, find-no_position, map-present, remove-present}
-use Rattle.redrive.proofs.RegistryLemmas.{some_queue, IsRegistry-after_step, IsRegistry-without, IsRegistry-moved}
+use Rattle.redrive.specs.Keys.{KeyLists}
+use Rattle.redrive.specs.ByPlace.{with_place_changed, without_place, closes_queue, IsKept}
+use Rattle.redrive.proofs.KeyedLemmas.{find-position, find-no_position, map-present, map-remove, remove-present}
+use Rattle.redrive.proofs.RegistryLemmas.{some_queue, IsRegistry-without, IsKept-after_step, IsKept-moved}
 
 abbrev uid_of : QueueHistory → ℕ
 uid_of q = q.uid
+
+abbrev name_of : QueueHistory → List ℕ
+name_of q = q.name
 
 -- its place in the list that is shown is its place in the list that is kept
 pub place-shown : {w x : World} {o : Option ℕ} {place : ℕ} (uid : ℕ) → w ≡ x → o ≡ position (λ q. nat_eq q.uid uid) x.queues → o ≡ Some place → position (λ q. nat_eq q.uid uid) w.queues ≡ Some place
@@ -73,14 +77,18 @@ module _ (w : World) (uid place : ℕ) (here : position (λ q. nat_eq q.uid uid)
       → takes_memory_in w uid at command ≡ false → r ≡ queue_answer w uid at command
   exact-at at command r exact none = rw found ((rw stands at exact) (rw found at none))
 
+  pub room-at : (at : ℕ) (command : Command) (r : Result Reply Fault) → IfSome (slice_get w.queues place) (λ q. IsExactWithRoom q (outcome_at q at command) r)
+      → IfSome (queue_of_uid w uid) (λ q. IsExactWithRoom q (outcome_at q at command) r)
+  room-at at command r room = rw found (rw stands at room)
+
   pub step-at : {T : Type 0} (at : ℕ) (command : Command) (r : Result T Fault) (new : World) → IsRegistry w
       → new ≡ with_place_changed w place (λ q. after_answer q at command r) → new ≡ world_after_command w uid at command r
   step-at at command r new kept is = is ∙ changed-at (λ q. after_answer q at command r) kept
 
-  pub IsRegistry-step_at : {T : Type 0} (at : ℕ) (command : Command) (r : Result T Fault) (new : World) → IsRegistry w → closes_queue command ≡ false
-      → new ≡ with_place_changed w place (λ q. after_answer q at command r) → IsRegistry new
-  IsRegistry-step_at at command r new kept stays is =
-      rw (is ∙ changed-at (λ q. after_answer q at command r) kept) (IsRegistry-after_step w uid at command r stays kept)
+  pub IsKept-step_at : {T : Type 0} (k : KeyLists) (at : ℕ) (command : Command) (r : Result T Fault) (new : World) → IsKept w k → closes_queue command ≡ false
+      → new ≡ with_place_changed w place (λ q. after_answer q at command r) → IsKept new k
+  IsKept-step_at k at command r new kept stays is =
+      rw (is ∙ changed-at (λ q. after_answer q at command r) kept.registry) (IsKept-after_step w k kept uid at command r stays)
 
   -- ---- a deletion
 
@@ -96,10 +104,16 @@ module _ (w : World) (uid place : ℕ) (here : position (λ q. nat_eq q.uid uid)
   delete-at at (Ok q) new kept ok err errors = ok ∙ without-at kept
   delete-at at (Err fault) new kept ok err errors = rw errors (err ∙ changed-at (λ q. at_moment q at) kept)
 
-  pub IsRegistry-delete_at : {T : Type 0} (at : ℕ) (r : Result T Fault) (new : World) → IsRegistry w → OnOk r (new ≡ without_place w place)
-      → OnErr r (new ≡ with_place_changed w place (λ q. at_moment q at)) → IsRegistry new
-  IsRegistry-delete_at at (Ok q) new kept ok err = rw (ok ∙ without-at kept) (IsRegistry-without w uid kept)
-  IsRegistry-delete_at at (Err fault) new kept ok err = rw (err ∙ changed-at (λ q. at_moment q at) kept) (IsRegistry-moved w uid at kept)
+  -- the keys of the queue at the place are taken out with it
+  pub IsKept-taken : (k l : KeyLists) (new : World) → IsKept w k → new ≡ without_place w place → l.uids ≡ remove k.uids place → l.names ≡ remove k.names place → IsKept new l
+  IsKept-taken k l new kept is uids names = record {
+    registry = rw (is ∙ without-at kept.registry) (IsRegistry-without w uid kept.registry);
+    uids = uids ∙ ap (λ (us : List ℕ). remove us place) kept.uids ∙ sym (map-remove uid_of w.queues place) ∙ ap (λ (w : World). map uid_of w.queues) (sym is);
+    names = names ∙ ap (λ (ns : List (List ℕ)). remove ns place) kept.names ∙ sym (map-remove name_of w.queues place) ∙ ap (λ (w : World). map name_of w.queues) (sym is);
+  }
+
+  pub IsKept-moved_at : (k : KeyLists) (at : ℕ) (new : World) → IsKept w k → new ≡ with_place_changed w place (λ q. at_moment q at) → IsKept new k
+  IsKept-moved_at k at new kept is = rw (is ∙ changed-at (λ q. at_moment q at) kept.registry) (IsKept-moved w k kept uid at)
 
 -- two changes that are alike for the queue of a uid
 pub changed-alike : (w : World) (uid : ℕ) (q : QueueHistory) → queue_of_uid w uid ≡ Some q → (f g : QueueHistory → QueueHistory) → IsRegistry w → f q ≡ g q

@@ -5,7 +5,7 @@ use Rattle.std.specs.List.{find, position, IsDistinct}
 use Rattle.std.specs.Option.{option_map, option_or}
 use Rattle.std.specs.Str.{bytes_eq}
 use Rattle.std.proofs.lemmas.Cmp.{nat_eq_equiv}
-use Rattle.std.proofs.lemmas.List.{length-map, length-append, length-take-le, drop_more, get_or_at, set_at, map_more}
+use Rattle.std.proofs.lemmas.List.{map-append, length-map, length-append, length-take-le, drop_more, get_or_at, set_at, map_more}
 use Rattle.std.proofs.lemmas.List.Elements.{All-nil, All-filter, All-push, All-map, All-weaker}
 use Rattle.std.proofs.lemmas.List.Filters.{length-filter_both}
 use Rattle.std.proofs.lemmas.List.Folds.{find-append}
@@ -23,7 +23,8 @@ use Rattle.queue_core.specs.Messages.{is_closed}
 use Rattle.queue_core.specs.Queue.{QueueHistory, at_moment, leaves_clock, reached, outcome_at, with_event, with_optional_event, after_answer, rebased, rebased_where}
 use Rattle.queue_core.specs.Whole.{without_limit, is_journal_full, whole_after}
 use Rattle.redrive.specs.World.{World, has_no_place, empty_world, queue_named, queue_of_uid, found_uid, with_queue, next_queue, without_queue, queue_answer, with_queue_changed, world_at_moment, IsRegistry}
-use Rattle.redrive.specs.ByPlace.{closes_queue}
+use Rattle.redrive.specs.Keys.{KeyLists}
+use Rattle.redrive.specs.ByPlace.{closes_queue, IsKept}
 use Rattle.redrive.proofs.KeyedLemmas.{find-map, find-passes, places_left, IsDistinct-push, IsDistinct-filter, map-key, find-unused, filter-absent, find-position, find-no_position, map-absent}
 use Rattle.redrive.proofs.ClosingLemmas.{unclosed-after_answer}
 
@@ -128,6 +129,48 @@ IsRegistry-after_step w uid at command answer stays h =
 
 pub IsRegistry-at_moment : (w : World) (at : ℕ) → IsRegistry w → IsRegistry (world_at_moment w at)
 IsRegistry-at_moment w at h = IsRegistry-map (λ q. at_moment q at) w (λ q. refl) (λ q. refl) (λ q. refl) (λ q k. k) h
+
+-- ---- the keys that are kept beside the queues
+
+pub IsKept-empty : (limits : QueueLimits) (k : KeyLists) → k.uids ≡ [] → k.names ≡ [] → IsKept (empty_world limits) k
+IsKept-empty limits k uids names = record { registry = IsRegistry-empty limits; uids = uids; names = names }
+
+-- the same keys
+pub IsKept-same : (w : World) (k l : KeyLists) → l.uids ≡ k.uids → l.names ≡ k.names → IsKept w k → IsKept w l
+IsKept-same w k l uids names h = record { registry = h.registry; uids = uids ∙ h.uids; names = names ∙ h.names }
+
+pub IsKept-with_queue : (w : World) (q : QueueHistory) (k l : KeyLists) → IsKept w k → IsRegistry (with_queue w q) → l.uids ≡ k.uids ++ q.uid ∷ [] → l.names ≡ k.names ++ q.name ∷ []
+    → IsKept (with_queue w q) l
+IsKept-with_queue w q k l h registry uids names = record {
+  registry = registry;
+  uids = uids ∙ ap (λ (us : List ℕ). us ++ q.uid ∷ []) h.uids ∙ sym (map-append (λ (x : QueueHistory). x.uid) w.queues (q ∷ []));
+  names = names ∙ ap (λ (ns : List (List ℕ)). ns ++ q.name ∷ []) h.names ∙ sym (map-append (λ (x : QueueHistory). x.name) w.queues (q ∷ []));
+}
+
+module _ (w : World) (k : KeyLists) (h : IsKept w k) where
+  IsKept-map : (f : QueueHistory → QueueHistory) → ((q : QueueHistory) → (f q).uid ≡ q.uid) → ((q : QueueHistory) → (f q).name ≡ q.name) → IsRegistry (record w { queues = map f w.queues })
+      → IsKept (record w { queues = map f w.queues }) k
+  IsKept-map f uid name registry = record {
+    registry = registry;
+    uids = h.uids ∙ sym (map-key nat_eq (λ (q : QueueHistory). q.uid) f uid w.queues);
+    names = h.names ∙ sym (map-key bytes_eq (λ (q : QueueHistory). q.name) f name w.queues);
+  }
+
+  pub IsKept-after_step : {T : Type 0} (uid at : ℕ) (command : Command) (answer : Result T Fault) → closes_queue command ≡ false
+      → IsKept (with_queue_changed w uid (λ q. after_answer q at command answer)) k
+  IsKept-after_step uid at command answer stays =
+      IsKept-map (λ q. cond (nat_eq q.uid uid) (after_answer q at command answer) q)
+      (λ q. at_uid-keeps (λ q. q.uid) (nat_eq q.uid uid) q (after_answer q at command answer) (after_answer-uid at command answer q))
+      (λ q. at_uid-keeps (λ q. q.name) (nat_eq q.uid uid) q (after_answer q at command answer) (after_answer-keeps (λ q. q.name) (λ q at. refl) (λ q event. refl) (λ q. refl) at command answer q))
+      (IsRegistry-after_step w uid at command answer stays h.registry)
+
+  pub IsKept-at_moment : (at : ℕ) → IsKept (world_at_moment w at) k
+  IsKept-at_moment at = IsKept-map (λ q. at_moment q at) (λ q. refl) (λ q. refl) (IsRegistry-at_moment w at h.registry)
+
+  pub IsKept-moved : (uid at : ℕ) → IsKept (with_queue_changed w uid (λ q. at_moment q at)) k
+  IsKept-moved uid at =
+      IsKept-map (λ q. cond (nat_eq q.uid uid) (at_moment q at) q) (λ q. at_uid-keeps (λ q. q.uid) (nat_eq q.uid uid) q (at_moment q at) refl)
+      (λ q. at_uid-keeps (λ q. q.name) (nat_eq q.uid uid) q (at_moment q at) refl) (IsRegistry-changed w uid (λ q. at_moment q at) (λ q. refl) (λ q. refl) (λ q. refl) (λ q k. k) h.registry)
 
 -- ---- the queue of a uid changed, where it stands
 

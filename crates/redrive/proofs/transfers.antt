@@ -8,6 +8,7 @@ pub mod Twins
 pub mod Fates
 pub mod Holders
 pub mod Laws
+pub mod Kept
 pub mod Answering
 pub mod Calls
 pub mod Targets

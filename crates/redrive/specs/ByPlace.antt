@@ -1,10 +1,11 @@
--- The queue at a place of the list: for private clauses.
-use Rattle.std.specs.Prelude.{ℕ, Bool, true, false, set, remove, slice_get}
+-- The queue at a place of the list, and what is kept of the list: for private clauses.
+use Rattle.std.specs.Prelude.{◌≡◌, ℕ, Bool, true, false, map, set, remove, slice_get}
 use Rattle.std.specs.Option.{option_map_or}
 use Rattle.queue_core.specs.declared.command.Command.{Command}
 use Rattle.queue_core.specs.declared.command.Command.TheVariants.{Close}
 use Rattle.queue_core.specs.Queue.{QueueHistory}
-use Rattle.redrive.specs.World.{World}
+use Rattle.redrive.specs.Keys.{KeyLists}
+use Rattle.redrive.specs.World.{World, IsRegistry}
 
 -- the world with the queue at a place changed
 abbrev pub with_place_changed : World → ℕ → (QueueHistory → QueueHistory) → World
@@ -18,3 +19,9 @@ without_place w place = record w { queues = remove w.queues place }
 abbrev pub closes_queue : Command → Bool
 closes_queue Close = true
 closes_queue _ = false
+
+-- a registry, and the uids and names of its queues as they are kept beside them
+pub record IsKept (w : World) (k : KeyLists) : Type 0 where
+  pub registry : IsRegistry w
+  pub uids : k.uids ≡ map (λ q. q.uid) w.queues
+  pub names : k.names ≡ map (λ q. q.name) w.queues

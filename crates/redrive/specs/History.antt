@@ -18,7 +18,7 @@ pub record AllQueues : Type 0 where
 abbrev pub queue_ever : AllQueues → ℕ → Option QueueHistory
 queue_ever all uid = option_or (queue_of_uid all.world uid) (find (λ q. q.uid == uid) all.deleted)
 
--- the whole journal of a uid
+-- the journal of a uid
 abbrev pub journal_of : AllQueues → ℕ → Option (List (Entry ContentText))
 journal_of all uid = option_map (λ q. q.lines) (queue_ever all uid)
 

@@ -1,3 +1,4 @@
+pub mod Keys
 pub mod Listing
 pub mod Listed
 pub mod Catalog

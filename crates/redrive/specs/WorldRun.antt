@@ -214,7 +214,7 @@ IsAsIfAlone w uid q (step ∷ steps) (answer ∷ answers) new =
 
 -- ---- what is told of the queues is recomputed from their journals
 
--- a look tells the counts and the age, and a receive offers the first messages of the order, that the whole journal gives: with a checkpoint for its first entry,
+-- a look tells the counts and the age, and a receive offers the first messages of the order, that the journal gives: with a checkpoint for its first entry,
 -- where one came first
 abbrev pub IsTold : QueueHistory → Command → Reply → Type 0
 IsTold q commands.Look (replies.Looked look) = look.gauges ≡ gauges_of q.lines q.clock
@@ -233,7 +233,7 @@ AreTold w [] answers = Unit {0}
 AreTold w (step ∷ steps) [] = Unit {0}
 AreTold w (step ∷ steps) (answer ∷ answers) = IsToldBy w step answer × AreTold (world_after w step answer) steps answers
 
--- what the whole journal of a queue gives at its clock: the counts and the age, the current minute, the row of a minute, and the state of the alarm at a place
+-- what the journal of a queue gives at its clock: the counts and the age, the current minute, the row of a minute, and the state of the alarm at a place
 abbrev pub metrics_of : ℕ → ℕ → QueueHistory → QueueMetrics
 metrics_of minute alarm q = record {
   uid = q.uid;
@@ -243,7 +243,7 @@ metrics_of minute alarm q = record {
   alarm = option_map (λ rule. alarm_state_in content_size q.lines q.clock rule) (slice_get q.rules alarm);
 }
 
--- the main theorem of the registry: each look, each receive, and at the end the counts, the age, each row and each alarm of every queue are what the whole journal of the queue gives
+-- the main theorem of the registry: each look, each receive, and at the end the counts, the age, each row and each alarm of every queue are what the journal of the queue gives
 pub record AreRecomputed (old new : World) (steps : List HouseStep) (answers : List Answer) (minute alarm : ℕ) (metrics : List QueueMetrics) : Type 0 where
   pub told : AreTold old steps answers
   pub measured : metrics ≡ map (λ q. metrics_of minute alarm q) new.queues

@@ -5,7 +5,8 @@ ghost use Rattle.std.specs.List.{position};
 ghost use Rattle.message.specs.Fault.{Meets};
 ghost use Rattle.redrive.specs.Listed.{items_of};
 
-use crate::listing::{add_name, in_order, is_same_name};
+use crate::keys::Keys;
+use crate::listing::{add_name, in_order};
 use message::{Fault, QueueName};
 use queue_config::QUEUE_LIMIT;
 use std::alloc::Global;
@@ -29,16 +30,18 @@ pub struct Registered {
 pub struct Catalog {
     next_uid: u64,
     queues: Vec<Registered>,
+    /// Their uids and names, by which their places are found.
+    keys: Keys,
 }
 
 impl Model for Catalog {
-    ghost use Rattle.redrive.specs.Catalog.{Directory, IsDirectory};
+    ghost use Rattle.redrive.specs.Catalog.{Directory, IsKeptDirectory};
 
     ghost Value = { Directory };
 
     ghost view = { λ c. record { next_uid = c.next_uid; queues = c.queues.items } };
 
-    ghost invariant = { λ c. IsDirectory (record { next_uid = c.next_uid; queues = c.queues.items }) };
+    ghost invariant = { λ c. IsKeptDirectory (record { next_uid = c.next_uid; queues = c.queues.items }) c.keys };
 }
 
 impl Catalog {
@@ -51,6 +54,7 @@ impl Catalog {
         Ok(Catalog {
             next_uid: 1,
             queues: Vec::new(alloc),
+            keys: Keys::new(alloc),
         })
     }
 
@@ -75,7 +79,9 @@ impl Catalog {
             return Err(Fault::OverLimit);
         }
         let uid = self.next_uid;
+        self.keys.reserve()?;
         self.queues.push(Registered { name, uid, target })?;
+        self.keys.push(uid, name);
         self.next_uid = uid + 1;
         Ok(uid)
     }
@@ -84,7 +90,7 @@ impl Catalog {
     fn place_of(&self, uid: u64) -> Option<usize>
         ensures { result ≡ position (λ q. q.uid == uid) self.now.queues }
     {
-        self.queues.iter().position(|queue| queue.uid == uid)
+        self.keys.place_of(uid)
     }
 
     /// Takes out the queue of a uid. No later queue gets its uid. The answer is whether it was there.
@@ -95,6 +101,7 @@ impl Catalog {
         match self.place_of(uid) {
             Some(place) => {
                 self.queues.remove(place);
+                self.keys.remove(place);
                 true
             }
             None => false,
@@ -120,10 +127,8 @@ impl Catalog {
         ensures found { result ≡ uid_of_name self.now name.now }
         ensures directory { IsDirectory self.now }
     {
-        self.queues
-            .iter()
-            .find(|queue| is_same_name(&queue.name, name))
-            .map(|queue| queue.uid)
+        let place = self.keys.place_named(name)?;
+        self.queues.get(place).map(|queue| queue.uid)
     }
 
     /// The names that begin with a prefix, in the order in which they were added. `OutOfMemory` is the only

@@ -159,10 +159,10 @@ impl House {
         ensures legal { (q : QueueHistory) → queue_of_uid self.old source ≡ Some q → IsLegal q }
         ensures cost { ticks.new ≤ ticks.old + hand_over_ticks self.old source at result }
     {
-        if !self.has_queue(source) {
+        let Some(queue) = self.state(source) else {
             return Err(Fault::QueueDoesNotExist);
-        }
-        match self.first_waiting(source) {
+        };
+        match queue.first_waiting() {
             Some((origin, target)) => {
                 self.hand_over_first(alloc, source, at, &origin, target, ticks)
             }

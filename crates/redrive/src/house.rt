@@ -5,11 +5,12 @@ ghost use Rattle.std.specs.List.{position};
 ghost use Rattle.std.specs.Option.{option_copied, option_map};
 ghost use Rattle.message.specs.Fault.{Meets};
 ghost use Rattle.queue_config.specs.Config.{names_of, configured_uid, rules_of};
-ghost use Rattle.queue_core.specs.Queue.{QueueHistory, at_moment};
+ghost use Rattle.queue_core.specs.Queue.{QueueHistory, at_moment, outcome_at, IsExactWithRoom};
 ghost use Rattle.redrive.specs.Listed.{items_of};
 ghost use Rattle.redrive.specs.WorldRun.{metrics_of};
 
-use crate::listing::{add_name, in_order, is_same_name};
+use crate::keys::Keys;
+use crate::listing::{add_name, in_order};
 use crate::queues::Queues;
 use crate::steps::QueueMetrics;
 use journal::{Moment, Ticks};
@@ -26,16 +27,19 @@ use std::marker::Model;
 #[derive(Debug, Drop)]
 pub struct House {
     queues: Queues,
+    /// Their uids and names, by which their places are found.
+    keys: Keys,
 }
 
 impl Model for House {
-    ghost use Rattle.redrive.specs.World.{World, IsRegistry};
+    ghost use Rattle.redrive.specs.World.{World};
+    ghost use Rattle.redrive.specs.ByPlace.{IsKept};
 
     ghost Value = { World };
 
     ghost view = { λ h. h.queues };
 
-    ghost invariant = { λ h. IsRegistry h.queues };
+    ghost invariant = { λ h. IsKept h.queues h.keys };
 }
 
 ghost use Rattle.redrive.specs.World.{named_target, has_all_requested, existing_answer, is_internal, has_target};
@@ -126,6 +130,7 @@ impl House {
     {
         House {
             queues: Queues::new(alloc, limits),
+            keys: Keys::new(alloc),
         }
     }
 
@@ -147,14 +152,12 @@ impl House {
     }
 
     /// The queue of a name.
-    fn queue_named(&self, name: &QueueName) -> Option<&QueueState>
+    pub fn named(&self, name: &QueueName) -> Option<&QueueState>
         ensures queue { option_copied result ≡ queue_named self.now name.now }
         ensures registry { IsRegistry self.now }
     {
-        self.queues
-            .as_slice()
-            .iter()
-            .find(|queue| is_same_name(&queue.name(), name))
+        let place = self.keys.place_named(name)?;
+        self.queues.as_slice().get(place)
     }
 
     /// The uid of the queue of a name.
@@ -162,7 +165,7 @@ impl House {
         ensures found { result ≡ found_uid self.now name.now }
         ensures registry { IsRegistry self.now }
     {
-        self.queue_named(name).map(|queue| queue.uid())
+        self.named(name).map(|queue| queue.uid())
     }
 
     /// The queue of a uid.
@@ -170,10 +173,8 @@ impl House {
         ensures state { option_copied result ≡ queue_of_uid self.now uid }
         ensures registry { IsRegistry self.now }
     {
-        self.queues
-            .as_slice()
-            .iter()
-            .find(|queue| queue.uid() == uid)
+        let place = self.keys.place_of(uid)?;
+        self.queues.as_slice().get(place)
     }
 
     /// Opens a queue of the next uid.
@@ -191,7 +192,10 @@ impl House {
         ensures ok { OnOk result (self.new ≡ with_queue self.old (next_queue self.old at name settings rules.items)) }
         ensures err { OnErr result (self.new ≡ self.old) }
     {
-        self.queues.open(alloc, at, name, settings, rules)
+        self.keys.reserve()?;
+        let uid = self.queues.open(alloc, at, name, settings, rules)?;
+        self.keys.push(uid, name);
+        Ok(uid)
     }
 
     /// Whether a queue has the uid.
@@ -244,7 +248,7 @@ impl House {
             return Err(Fault::InvalidAttributeValue);
         }
         let target = self.target_uid(&wish);
-        if let Some(queue) = self.queue_named(&name) {
+        if let Some(queue) = self.named(&name) {
             return existing_answer(queue, &wish, target);
         }
         if self.queues.has_no_place() {
@@ -258,10 +262,28 @@ impl House {
     fn place_of(&self, uid: u64) -> Option<usize>
         ensures { result ≡ position (λ q. q.uid == uid) self.now.queues }
     {
-        self.queues
-            .as_slice()
-            .iter()
-            .position(|queue| queue.uid() == uid)
+        self.keys.place_of(uid)
+    }
+
+    /// Does a command that closes no queue in the queue of a uid, which stands at a place.
+    fn command_at(
+        &mut self,
+        alloc: Global,
+        _uid: u64,
+        place: usize,
+        at: Moment,
+        command: &Command,
+        ticks: &mut Ticks,
+    ) -> Result<Reply, Fault>
+        requires stays { closes_queue command.now ≡ false }
+        requires here { position (λ q. q.uid == _uid) self.old.queues ≡ Some place }
+        ensures answer { Meets result (queue_answer self.old _uid at command.now) }
+        ensures exact { takes_memory_in self.old _uid at command.now ≡ false → result ≡ queue_answer self.old _uid at command.now }
+        ensures room { IfSome (queue_of_uid self.old _uid) (λ q. IsExactWithRoom q (outcome_at q at command.now) result) }
+        ensures state { self.new ≡ world_after_command self.old _uid at command.now result }
+        ensures cost { ticks.new ≤ ticks.old + command_ticks self.old _uid at command.now result }
+    {
+        self.queues.perform_at(alloc, place, at, command, ticks)
     }
 
     /// Does a command that closes no queue in the queue of a uid.
@@ -276,11 +298,12 @@ impl House {
         requires { closes_queue command.now ≡ false }
         ensures answer { Meets result (queue_answer self.old uid at command.now) }
         ensures exact { takes_memory_in self.old uid at command.now ≡ false → result ≡ queue_answer self.old uid at command.now }
+        ensures room { IfSome (queue_of_uid self.old uid) (λ q. IsExactWithRoom q (outcome_at q at command.now) result) }
         ensures state { self.new ≡ world_after_command self.old uid at command.now result }
         ensures cost { ticks.new ≤ ticks.old + command_ticks self.old uid at command.now result }
     {
         match self.place_of(uid) {
-            Some(place) => self.queues.perform_at(alloc, place, at, command, ticks),
+            Some(place) => self.command_at(alloc, uid, place, at, command, ticks),
             None => Err(Fault::QueueDoesNotExist),
         }
     }
@@ -315,13 +338,11 @@ impl House {
         }
     }
 
-    /// What refuses a command before it comes to the queue of a uid.
+    /// What refuses a command before it comes to the queue of a uid, which is there.
     fn step_refusal(&self, uid: u64, command: &Command) -> Option<Fault>
+        requires { has_queue self.now uid ≡ true }
         ensures { result ≡ step_refusal self.now uid command.now }
     {
-        if !self.has_queue(uid) {
-            return Some(Fault::QueueDoesNotExist);
-        }
         if is_internal(command) {
             return Some(Fault::UnsupportedOperation);
         }
@@ -336,7 +357,9 @@ impl House {
     /// those of dead letters ([`move_one`](House::move_one)), are `UnsupportedOperation`. A `Set` whose
     /// dead-letter queue is not there under the uid that is given, or is the queue itself, is
     /// `InvalidAttributeValue`. Each of these changes nothing, and needs no memory. With `OutOfMemory`
-    /// only that queue's clock has moved, and after `FirstParcel`, which leaves it, not even that.
+    /// only that queue's clock has moved, and after `FirstParcel`, which leaves it, not even that. That is
+    /// never the answer where the queue has room for one entry more and the command wants that alone, as with
+    /// [`QueueState::perform`](queue_core::QueueState::perform).
     pub fn step(
         &mut self,
         alloc: Global,
@@ -349,12 +372,16 @@ impl House {
         ensures absent { queue_of_uid self.old uid ≡ None → result ≡ Err Fault.QueueDoesNotExist }
         ensures refused { IfSome (step_refusal self.old uid command.now) (λ fault. result ≡ Err fault) }
         ensures exact { takes_memory_at self.old uid at command.now ≡ false → result ≡ step_answer self.old uid at command.now }
+        ensures room { step_refusal self.old uid command.now ≡ None → IfSome (queue_of_uid self.old uid) (λ q. IsExactWithRoom q (outcome_at q at command.now) result) }
         ensures state { self.new ≡ world_after_step self.old uid at command.now result }
         ensures cost { ticks.new ≤ ticks.old + step_ticks self.old uid at command.now result }
     {
+        let Some(place) = self.place_of(uid) else {
+            return Err(Fault::QueueDoesNotExist);
+        };
         match self.step_refusal(uid, command) {
             Some(fault) => Err(fault),
-            None => self.command_in(alloc, uid, at, command, ticks),
+            None => self.command_at(alloc, uid, place, at, command, ticks),
         }
     }
 
@@ -380,7 +407,11 @@ impl House {
             ≡ journal_of (record { world = self.old; deleted = deleted }) other) }
     {
         match self.place_of(uid) {
-            Some(place) => self.queues.close_and_take(alloc, place, at, ticks),
+            Some(place) => {
+                let queue = self.queues.close_and_take(alloc, place, at, ticks)?;
+                self.keys.remove(place);
+                Ok(queue)
+            }
             None => Err(Fault::QueueDoesNotExist),
         }
     }

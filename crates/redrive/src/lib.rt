@@ -16,6 +16,7 @@
 mod catalog;
 mod dead_letters;
 mod house;
+mod keys;
 mod laws;
 mod listing;
 mod moved;
@@ -28,11 +29,13 @@ mod transfer_laws;
 
 pub use catalog::{Catalog, Registered, UID_LIMIT};
 pub use house::House;
+pub use keys::Keys;
 pub use laws::{histories_begin, listed_names_ascend, refused_steps_change_nothing};
 pub use listing::{in_order, is_same_name};
 pub use moved::Moved;
 pub use steps::{HouseReply, HouseRun, HouseStep, QueueMetrics};
 pub use transfer_laws::{
     each_departure_has_its_fate, each_message_has_one_place, moves_are_steps, moves_leave_fewer,
-    no_queue_is_its_own_target, own_steps_are_history_steps, transfers_are_accepted_once,
+    no_queue_is_its_own_target, own_steps_are_history_steps, queues_stand_for_their_whole_journals,
+    transfers_are_accepted_once,
 };

@@ -4,7 +4,7 @@ ghost use Rattle.std.specs.Prelude.{◌≡◌, ◌+◌, ◌<◌, ◌≤◌, fals
 ghost use Rattle.message.specs.declared.fault.Fault.TheVariants.{OutOfMemory};
 ghost use Rattle.message.specs.Fault.{Meets};
 ghost use Rattle.queue_core.specs.Messages.{is_closed};
-ghost use Rattle.queue_core.specs.Queue.{at_moment, outcome_at, takes_memory, after_answer};
+ghost use Rattle.queue_core.specs.Queue.{at_moment, outcome_at, takes_memory, IsExactWithRoom, after_answer};
 ghost use Rattle.queue_core.specs.Cost.{most_ticks};
 ghost use Rattle.redrive.specs.Cost.{after_deletion, moment_ticks};
 ghost use Rattle.redrive.specs.World.{closed_queue};
@@ -120,6 +120,7 @@ impl Queues {
         ensures answer { IfSome (slice_get self.old.queues place) (λ q. Meets result (outcome_at q at command.now).reply) }
         ensures exact { IfSome (slice_get self.old.queues place) (λ q. takes_memory (outcome_at q at command.now) ≡ false
             → result ≡ (outcome_at q at command.now).reply) }
+        ensures room { IfSome (slice_get self.old.queues place) (λ q. IsExactWithRoom q (outcome_at q at command.now) result) }
         ensures state { self.new ≡ with_place_changed self.old place (λ q. after_answer q at command.now result) }
         ensures cost { IfSome (slice_get self.old.queues place) (λ q. ticks.new ≤ ticks.old + most_ticks q (after_answer q at command.now result)) }
     {

@@ -132,7 +132,7 @@ impl House {
     /// letters, confirm them, and see time pass. Then it tells of every queue that is there the counts, the age, what has
     /// happened in the current minute, the row of a minute, and the state of the alarm at a place among
     /// its own, counted from 0. Whatever the steps, the minute and the place are, what is told of a queue
-    /// is what its own whole journal gives, as if no other queue were there. A queue that is deleted is
+    /// is what its own journal gives, as if no other queue were there. A queue that is deleted is
     /// handed over closed. Where the two lists find no memory, nothing is done.
     pub fn run(
         &mut self,

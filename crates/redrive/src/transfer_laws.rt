@@ -31,11 +31,14 @@ pub fn queues_stand_for_their_whole_journals()
 
 /// A queue accepts a transfer once: whatever the steps are, and wherever memory runs out, no journal
 /// of a queue that is there or was deleted has two entries that accept the same message of the same
-/// source.
+/// source: no whole journal, nor one of which a checkpoint is the first entry.
 pub fn transfers_are_accepted_once()
-    ensures { (config : Configuration) (at : ℕ) (steps : List HistoryStep) (answers : List Answer)
+    ensures whole { (config : Configuration) (at : ℕ) (steps : List HistoryStep) (answers : List Answer)
         → AreHistoryAnswers (first_history config at) steps answers
         → EachAcceptedOnce (whole_after_steps (first_history config at) steps answers) }
+    ensures kept { (config : Configuration) (at : ℕ) (steps : List HistoryStep) (answers : List Answer)
+        → AreHistoryAnswers (first_history config at) steps answers
+        → EachAcceptedOnce (after_history_steps (first_history config at) steps answers) }
 {}
 
 /// In each queue that is there, each message that left for a dead-letter queue waits for it still, or
@@ -48,15 +51,20 @@ pub fn each_departure_has_its_fate()
         → EachHasItsFate (whole_after_steps (first_history config at) steps answers) }
 {}
 
-/// Each message is in one place at most: live in one queue under one number, or in transit from one.
-/// The premise, for this law alone, is that no queue is deleted while it relays a message: while the
-/// transfer by which the message came there is not confirmed at its source, although a next queue has
-/// accepted it from there. The source would take the message back, since it cannot know.
+/// Each message is in one place at most: live in one queue under one number, or in transit from one, as whole
+/// journals say, and as those do of which a checkpoint is the first entry. The premise, for this law alone, is
+/// that no queue is deleted while it relays a message: while the transfer by which the message came there is
+/// not confirmed at its source, although a next queue has accepted it from there. The source would take the
+/// message back, since it cannot know.
 pub fn each_message_has_one_place()
-    ensures { (config : Configuration) (at : ℕ) (steps : List HistoryStep) (answers : List Answer)
+    ensures whole { (config : Configuration) (at : ℕ) (steps : List HistoryStep) (answers : List Answer)
         → AreHistoryAnswers (first_history config at) steps answers
         → NoRelayDeleted (first_history config at) steps answers
         → EachHasOnePlace (whole_after_steps (first_history config at) steps answers) }
+    ensures kept { (config : Configuration) (at : ℕ) (steps : List HistoryStep) (answers : List Answer)
+        → AreHistoryAnswers (first_history config at) steps answers
+        → NoRelayDeleted (first_history config at) steps answers
+        → EachHasOnePlace (after_history_steps (first_history config at) steps answers) }
 {}
 
 /// The registry's own steps are steps of everything that it ever had: they are answered so, and leave

@@ -6,7 +6,7 @@ use Rattle.aws_json.specs.declared.request.Request.TheVariants as requests
 use Rattle.redrive.specs.declared.steps.HouseStep.{HouseStep}
 use Rattle.redrive.specs.declared.steps.HouseStep.TheVariants as steps
 use Rattle.redrive.specs.World.{World, new_world}
-use Rattle.redrive.specs.WorldRun.{Answer, AreHouseAnswers, AreTold, world_after_all}
+use Rattle.redrive.specs.WorldRun.{Answer, AreHouseAnswers, AreTold, world_after_all, history_after}
 use Rattle.redrive.specs.History.{AllQueues}
 use Rattle.redrive.specs.HistorySteps.{Own}
 use Rattle.redrive.specs.WholeSteps.{whole_after_steps}
@@ -16,7 +16,7 @@ use Rattle.sqs_replay.specs.declared.answer.Asked.TheVariants.{Client}
 use Rattle.sqs_replay.specs.declared.answer.Timed.{Timed}
 use Rattle.sqs_replay.specs.Served.{asked_of, text_of_line, world_of_line}
 
--- steps, the registry's answers to them, of which each look and each receive tells what the whole journal of its queue gives, and the registry that they leave
+-- steps, the registry's answers to them, of which each look and each receive tells what the journal of its queue gives, and the registry that they leave
 pub record Course (old new : World) : Type 0 where
   pub steps : List HouseStep
   pub answers : List Answer
@@ -59,8 +59,14 @@ AskNoDeletion (line ∷ lines) = (asks_deletion (asked_of line) ≡ false) × As
 abbrev pub everything_after : (config : Configuration) (new : World) → Course (new_world config 0) new → AllQueues
 everything_after config new course = whole_after_steps (first_history config 0) (map Own course.steps) course.answers
 
+-- the same with the journals that are there, of which a checkpoint may be the first entry; its registry is the one that the steps leave
+abbrev pub all_after : (config : Configuration) (new : World) → Course (new_world config 0) new → AllQueues
+all_after config new course = history_after (first_history config 0) course.steps course.answers
+
 -- no dead letter is accepted twice, each has its fate, and each message is in one place
 pub record KeepsDeadLetters (config : Configuration) (new : World) (course : Course (new_world config 0) new) : Type 0 where
   pub once : EachAcceptedOnce (everything_after config new course)
   pub fates : EachHasItsFate (everything_after config new course)
   pub places : NoRelayDeleted (first_history config 0) (map Own course.steps) course.answers → EachHasOnePlace (everything_after config new course)
+  pub kept_once : EachAcceptedOnce (all_after config new course)
+  pub kept_places : NoRelayDeleted (first_history config 0) (map Own course.steps) course.answers → EachHasOnePlace (all_after config new course)

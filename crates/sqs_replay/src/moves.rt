@@ -63,16 +63,6 @@ fn some_moves(
     Ok(())
 }
 
-/// How many messages the queue of a uid ever had.
-fn message_count_in(house: &House, uid: u64) -> u64
-    ensures { result ≡ message_count_in house.now uid }
-{
-    match house.state(uid) {
-        Some(queue) => queue.message_count(),
-        None => 0,
-    }
-}
-
 /// Moves every parcel of the queue of a name, where that queue is there.
 pub(crate) fn move_dead_letters(
     alloc: Global,
@@ -87,10 +77,10 @@ pub(crate) fn move_dead_letters(
     let Some(name) = queue else {
         return Ok(());
     };
-    let Some(source) = house.find(&name) else {
+    let Some(queue) = house.named(&name) else {
         return Ok(());
     };
-    let most = message_count_in(house, source);
+    let (source, most) = (queue.uid(), queue.message_count());
     some_moves(alloc, house, at, source, most, ticks)
 }
 

@@ -196,10 +196,12 @@ module _ (all whole : AllQueues) (h : AreTwins all whole) where
       told_alike (λ q. has_accepted q.lines p.origin.uid p.origin.number) (λ q w k. accepted_alike q w k p.origin.uid p.origin.number) false
       (queue_of_uid all.world p.target) (queue_of_uid whole.world p.target) (uid_alike p.target)
 
+  pub ever_alike : (uid : ℕ) → FoundAlike (queue_ever all uid) (queue_ever whole uid)
+  ever_alike uid =
+      or_alike (queue_of_uid all.world uid) (queue_of_uid whole.world uid) (find (λ q. nat_eq q.uid uid) all.deleted) (find (λ q. nat_eq q.uid uid) whole.deleted) (uid_alike uid) (gone_alike uid)
+
   pub was_accepted_alike : (uid source number : ℕ) → was_accepted all uid source number ≡ was_accepted whole uid source number
-  was_accepted_alike uid source number =
-      by_found (queue_ever all uid) (queue_ever whole uid)
-      (or_alike (queue_of_uid all.world uid) (queue_of_uid whole.world uid) (find (λ q. nat_eq q.uid uid) all.deleted) (find (λ q. nat_eq q.uid uid) whole.deleted) (uid_alike uid) (gone_alike uid))
+  was_accepted_alike uid source number = by_found (queue_ever all uid) (queue_ever whole uid) (ever_alike uid)
     where
       by_found : (o p : Option QueueHistory) → FoundAlike o p
           → option_map_or (λ lines. has_accepted lines source number) (option_map (λ (q : QueueHistory). q.lines) o) false

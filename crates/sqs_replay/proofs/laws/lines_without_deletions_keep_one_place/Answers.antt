@@ -6,9 +6,17 @@ use Rattle.sqs_replay.specs.Served.{world_of_line}
 use Rattle.sqs_replay.proofs.CourseLemmas.{Walk, configured-walk, course, spared}
 use Rattle.sqs_replay.proofs.laws.lines_without_deletions_keep_one_place.Goals as goal
 
-pub returns : goal.returns
-returns c = λ config lines are none.
+pub returns-clause-courses : goal.returns-clause-courses
+returns-clause-courses c = λ config new here none.
+    let kept = c.lines_keep_dead_letters.ensures config new here in
+    let all = spared (first_history config 0) here.steps here.answers none in
+    (kept.places all, kept.kept_places all)
+
+pub returns-clause-lines : goal.returns-clause-lines
+returns-clause-lines c = λ config lines are none.
     let left : World = state_after world_of_line (new_world config 0) lines in
     let walk : Walk false (new_world config 0) left = configured-walk false config lines (λ same. none) are in
     let here = course false (new_world config 0) left walk in
-    (here, (c.lines_keep_dead_letters.ensures config left here).places (spared (first_history config 0) walk.steps walk.answers (walk.quiet refl)))
+    let kept = c.lines_keep_dead_letters.ensures config left here in
+    let all = spared (first_history config 0) walk.steps walk.answers (walk.quiet refl) in
+    (here, kept.places all, kept.kept_places all)
