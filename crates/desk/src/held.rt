@@ -1,7 +1,8 @@
 //! What lies on a desk.
 
-ghost use Rattle.std.specs.Prelude.{◌≡◌, true, [], IfOk, IfSome};
+ghost use Rattle.std.specs.Prelude.{◌≡◌, ◌+◌, ◌≤◌, true, [], IfOk, IfSome};
 ghost use Rattle.queue_core.specs.Queue.{leaves_clock, reached, outcome_at, after_answer};
+ghost use Rattle.queue_core.specs.Cost.{most_ticks};
 ghost use Rattle.queue_core.specs.Legal.{IsLegal};
 ghost use Rattle.desk.specs.History.{IsAnswered};
 ghost use Rattle.desk.specs.Held.{told_behind};
@@ -59,6 +60,7 @@ fn come(state: &mut QueueState, at: Moment, command: &Command, ticks: &mut Ticks
     ensures rebases { result ≡ (outcome_at state.old at command.now).rebases }
     ensures legal { result ≡ true → IsLegal (reached state.old at command.now) }
     ensures state { state.new ≡ reached state.old at command.now }
+    ensures cost { ticks.new ≤ ticks.old + most_ticks state.old state.new }
 {
     if leaves_clock(command) {
         return false;
@@ -68,6 +70,7 @@ fn come(state: &mut QueueState, at: Moment, command: &Command, ticks: &mut Ticks
 }
 
 /// Performs a command, and tells whether a checkpoint has taken the place of all entries before that, unless memory ran out.
+/// It counts at most what the queue may to come to the moment, and what it may for the command.
 fn answer(
     alloc: Global,
     state: &mut QueueState,
@@ -79,6 +82,7 @@ fn answer(
     ensures rebases { result.1 ≡ (outcome_at state.old at command.now).rebases }
     ensures legal { result.1 ≡ true → IsLegal (reached state.old at command.now) }
     ensures state { state.new ≡ after_answer state.old at command.now result.0 }
+    ensures cost { ticks.new ≤ ticks.old + (most_ticks state.old (reached state.old at command.now) + most_ticks (reached state.old at command.now) state.new) }
 {
     let rebases = come(state, at, command, ticks);
     let reply = state.perform(alloc, at, command, ticks);

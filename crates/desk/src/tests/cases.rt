@@ -72,13 +72,17 @@ impl Drop for Talk {
 }
 
 impl Talk {
-    /// A desk to which no call was made.
-    fn open(rt: &HostRuntime) -> Result<Talk, Fault> {
-        Talk::with_limits(rt, Limits::default(), false)
-    }
-
-    /// The same for a queue with these limits.
-    fn with_limits(rt: &HostRuntime, limits: Limits, is_small: bool) -> Result<Talk, Fault> {
+    /// A desk to which no call was made. Where it is small, its queue's journal may weigh 4.
+    fn open(rt: &HostRuntime, is_small: bool) -> Result<Talk, Fault> {
+        let (max_lines, in_flight) = (4, 10);
+        let limits = if is_small {
+            Limits {
+                max_lines,
+                in_flight,
+            }
+        } else {
+            Limits::default()
+        };
         let (alloc, ticks, press) = (rt.alloc(), Ticks::new(rt), Counting { turns: 0 });
         let text = String::with_capacity(alloc, 200)?;
         let (desk, mut p) = Desk::new(rt, alloc, open_with(alloc, limits)?, press)?;
@@ -394,7 +398,7 @@ p shows 4000 send d => Some((6, 0, 5, 4000))
 #[test]
 fn cases(rt: HostRuntime) -> Result<(), Fail> {
     for case in CASES.split("\n\n") {
-        Talk::open(&rt)?.hold(&rt, case, false)?;
+        Talk::open(&rt, false)?.hold(&rt, case, false)?;
     }
     Ok(())
 }
@@ -419,11 +423,7 @@ p shows 5000 close => Some((9, 1, 5, 5000))
 /// A journal that begins anew at a desk.
 #[test]
 fn begun_anew(rt: HostRuntime) -> Result<(), Fail> {
-    let limits = Limits {
-        max_lines: 4,
-        in_flight: 10,
-    };
-    Talk::with_limits(&rt, limits, true)?.hold(&rt, ANEW, false)?;
+    Talk::open(&rt, true)?.hold(&rt, ANEW, false)?;
     Ok(())
 }
 
@@ -449,11 +449,31 @@ p asks 1500 send e => QueueDoesNotExist
 --
 0 visible, 9 entries at 1500, closed; QueueDoesNotExist";
 
+/// Calls of which the second receive and the third send begin the journal anew, which may weigh 4. A call that finds no memory
+/// for the checkpoint leaves it as it was.
+const REFUSED_ANEW: &str = "a checkpoint that finds no memory is made when the call is made again
+p asks 1000 send a => sent 0
+p asks 1000 receive 1 => offered 0.1 a of 1000
+p asks 1000 send b => sent 1
+p asks 1100 receive 1 => offered 1.1 b of 1000
+p asks 0 look => 0 visible, 4 entries at 1100
+p asks 1200 send c => sent 2
+p asks 0 look => 1 visible, 4 entries at 1200
+p asks 1300 receive 1 => JournalFull
+p asks 1400 close => Done
+--
+0 visible, 5 entries at 1400, closed; QueueDoesNotExist";
+
 /// A desk that is made once more where it finds no memory, and then a case. How often it found none.
-fn held_again<R: Wait>(host: &HostRuntime, rt: &R, case: &str) -> Result<u32, Fail> {
-    match Talk::open(host) {
+fn held_again<R: Wait>(
+    host: &HostRuntime,
+    rt: &R,
+    case: &str,
+    is_small: bool,
+) -> Result<u32, Fail> {
+    match Talk::open(host, is_small) {
         Err(Fault::OutOfMemory) => {
-            let refused = Talk::open(host)?.hold(rt, case, true)?;
+            let refused = Talk::open(host, is_small)?.hold(rt, case, true)?;
             Ok(refused.saturating_add(1))
         }
         talk => talk?.hold(rt, case, true),
@@ -468,8 +488,11 @@ fn held_again<R: Wait>(host: &HostRuntime, rt: &R, case: &str) -> Result<u32, Fa
 fn refused_memory(rt: HostRuntime) -> Result<(), Fail> {
     let (first, _) = CASES.split_once("\n\n").ok_or("a case")?;
     let mut refused: u32 = 0;
-    for case in [first, REFUSED, first, REFUSED] {
-        refused = refused.saturating_add(held_again(&rt, &rt, case)?);
+    for _ in 0..2 {
+        for case in [first, REFUSED] {
+            refused = refused.saturating_add(held_again(&rt, &rt, case, false)?);
+        }
+        refused = refused.saturating_add(held_again(&rt, &rt, REFUSED_ANEW, true)?);
     }
     assert!(rt; refused <= 1);
     Ok(())
