@@ -160,6 +160,8 @@ impl Talk {
 /// one what the client is told: that entry fails by itself, and the one behind it is asked all the same.
 const STARVED: &str =
     r#"SendMessageBatch {"QueueUrl":"jobs","Entries":[{"Id":"x","MessageBody":"a"},{"Id":"y","MessageBody":"a"}]} => Send 0 => {"Failed":[{"Code":"OutOfMemory","Id":"x","Message":"Out of memory.","SenderFault":false}],"Successful":[{"Id":"y","MD5OfMessageBody":"0cc175b9c0f1b6a831c399e269772661","MessageId":"00000000-0000-0001-0000-000000000000"}]}
+DeleteMessageBatch {"QueueUrl":"jobs","Entries":[{"Id":"x","ReceiptHandle":"000000000000000100000000000000000000000000000001"},{"Id":"y","ReceiptHandle":"000000000000000100000000000000000000000000000001"}]} => Delete 0 => {"Failed":[{"Code":"OutOfMemory","Id":"x","Message":"Out of memory.","SenderFault":false},{"Code":"ReceiptHandleIsInvalid","Id":"y","Message":"The receipt handle is not valid.","SenderFault":true}],"Successful":[]}
+ChangeMessageVisibilityBatch {"QueueUrl":"jobs","Entries":[{"Id":"x","ReceiptHandle":"000000000000000100000000000000000000000000000001","VisibilityTimeout":1},{"Id":"y","ReceiptHandle":"000000000000000100000000000000000000000000000001","VisibilityTimeout":1}]} => Change 0 => {"Failed":[{"Code":"OutOfMemory","Id":"x","Message":"Out of memory.","SenderFault":false},{"Code":"ReceiptHandleIsInvalid","Id":"y","Message":"The receipt handle is not valid.","SenderFault":true}],"Successful":[]}
 "#;
 
 /// What is asked for a batch behind its first entry, which finds no memory, and what its client is told.
