@@ -24,7 +24,7 @@ BIND = "◌>>=◌"
 # Words of the language itself.
 LANGUAGE = {"Type", "Unit", "tt", "record", "if", "then", "else", "do", "let", "in", "rw", "omega", "as", "Some", "None", "Ok", "Err", "_", "₁"}
 
-# What a name stands for: something in a file of `specs/`, such a file, or something in a module of Rust code.
+# What a name stands for: something in a file of `specs/`, such a file, which goes by its path there with dots, or something in a module of Rust code.
 Definition = namedtuple("Definition", "crate file name")
 Book = namedtuple("Book", "crate file")
 Item = namedtuple("Item", "crate module name")
@@ -579,8 +579,10 @@ class Sources:
         for crate in self.repository.names:
             folder = self.repository.folder(crate)
             for path in crates.files_below(f"{folder}/specs"):
-                if path.endswith(".antt") and os.path.dirname(path) == f"{folder}/specs":
-                    self.specs[Book(crate, os.path.basename(path).removesuffix(".antt"))] = Spec(crate, path)
+                # (a file beside a folder of its name only lists what is in there)
+                if path.endswith(".antt") and not os.path.isdir(path.removesuffix(".antt")):
+                    file = os.path.relpath(path, f"{folder}/specs").removesuffix(".antt").replace(os.sep, ".")
+                    self.specs[Book(crate, file)] = Spec(crate, path)
             for path in crates.files_below(f"{folder}/src"):
                 if path.endswith(".rt"):
                     self.read_code(crate, path, f"{folder}/src")
@@ -603,9 +605,11 @@ class Sources:
         crate, rest = path[1], path[3:]
         if rest[0] in ("declared", "contracts"):
             return self.generated(crate, rest[1:])
-        if len(rest) == 1:
-            return Book(crate, rest[0])
-        return self.defined(crate, rest[0], rest[1])
+        for count in range(len(rest), 0, -1):
+            book = Book(crate, ".".join(rest[:count]))
+            if book in self.specs:
+                return book if count == len(rest) else self.defined(*book, rest[count])
+        return None
 
     def generated(self, crate, path):
         """Returns the Rust type that a path below `declared` is of."""

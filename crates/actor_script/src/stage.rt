@@ -234,7 +234,7 @@ impl Stage {
         let (settings, target) = settings(alloc, words)?;
         let (client, place) = served(&self.host, alloc, uid, name, settings, limits)?;
         self.places.push(place)?;
-        self.directory.serve(rt, client, target)?;
+        self.directory.serve(rt, alloc, client, target)?;
         Ok(uid)
     }
 
@@ -347,7 +347,7 @@ impl Stage {
     fn serve_late<R: Wait>(&self, rt: &R, uid: &str) -> Result<u64, Fault> {
         let client = self.client(rt, uid)?;
         self.directory.remove(rt, client.uid);
-        self.directory.serve(rt, client, 0)?;
+        self.directory.serve(rt, self.host.alloc(), client, 0)?;
         Ok(1)
     }
 

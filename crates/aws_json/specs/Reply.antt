@@ -1,11 +1,11 @@
 -- Replies as JSON data (AWS JSON 1.0, Amazon SQS API Reference); keys stand in byte order.
-use Rattle.std.specs.Prelude.{ℕ, nat_le, ◌++◌, ◌==◌, ◌||◌, ◌/◌, [], ◌∷◌, length, Bool, false, is_some, if◌then◌else◌, List, codes, decimal, Option, Some, None, option_map, Result, Ok, Err}
+use Rattle.std.specs.Prelude.{ℕ, ◌++◌, ◌==◌, ◌||◌, ◌/◌, [], ◌∷◌, length, Bool, false, is_some, if◌then◌else◌, List, codes, decimal, Option, Some, None, option_map, Result, Ok, Err}
 use Rattle.attribute_md5.specs.Digest.{body_digest, attributes_digest}
 use Rattle.base64.specs.Engines.{standard}
 use Rattle.base64.specs.GeneralPurpose.{encode_of}
 use Rattle.message.specs.Attribute.{AttributeText}
 use Rattle.message.specs.Content.{ContentText}
-use Rattle.message.specs.Fault.{fault_code}
+use Rattle.message.specs.Fault.{is_of_sender}
 use Rattle.message.specs.Id.{message_id_text}
 use Rattle.message.specs.declared.fault.Fault.{Fault}
 use Rattle.message.specs.declared.id.MessageId.{MessageId}
@@ -189,7 +189,7 @@ failed_data id fault =
     object (member (codes "Code") (string (fault_name fault))
     (member (codes "Id") (string id)
     (member (codes "Message") (string (fault_message fault))
-    (member (codes "SenderFault") (boolean (nat_le (fault_code fault) 16)) no_members))))
+    (member (codes "SenderFault") (boolean (is_of_sender fault)) no_members))))
 
 abbrev pub failed_item : List ℕ → Result EntryReply Fault → Items → Items
 failed_item id (Ok reply) rest = rest

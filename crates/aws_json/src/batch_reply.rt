@@ -70,7 +70,7 @@ fn failed_value(alloc: Global, id: &QueueName, fault: Fault) -> Result<Value, Fa
     let code = String::from_str(alloc, fault_name(fault))?;
     let id = String::from_str(alloc, id.as_text())?;
     let message = String::from_str(alloc, fault_message(fault))?;
-    let is_of_sender = fault.code() <= 16;
+    let is_of_sender = fault.is_of_sender();
     Ok(json!(in alloc; {"Code": code, "Id": id, "Message": message, "SenderFault": is_of_sender})?)
 }
 

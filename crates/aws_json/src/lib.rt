@@ -14,7 +14,7 @@
 //! - [`read_object`]: the JSON object that a body is. [`read_queue`]: the queue that it names.
 //!
 //! Each contract but that of [`explain`] is exact: it names the value, or the one refusal, that a
-//! definition in `specs/` computes from the bytes. Want of memory is the one thing that may come in
+//! definition in `specs/` computes from the bytes. Lack of memory is the one thing that may come in
 //! its place.
 #![tactic(auto)]
 

@@ -115,7 +115,7 @@ impl<R: Wait + Drop> Publisher<R> {
         }
     }
 
-    /// Prints a turn. `None` is want of memory, or that no more turns can be counted: the readers see what
+    /// Prints a turn. `None` is lack of memory, or that no more turns can be counted: the readers see what
     /// they saw.
     fn publish<W: Wait>(&mut self, rt: &W, alloc: Global, turn: Turn) -> Option<Told>
         requires { IsPublicationRecord (self.old.turns ++ turn ∷ []) }

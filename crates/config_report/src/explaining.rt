@@ -11,7 +11,7 @@ use std::alloc::{AllocError, Global};
 
 /// The line for the bytes of a configuration that `config_from_bytes` refused: the path and the number of
 /// the line, the table, and what is wrong there. It ends without a line feed. None where there is nothing
-/// to tell of the bytes, as of want of memory, and of a fault that they do not have.
+/// to tell of the bytes, as of lack of memory, and of a fault that they do not have.
 pub fn report(
     alloc: Global,
     path: &str,

@@ -48,7 +48,7 @@ fn spelled(alloc: Global, text: &str) -> Result<Vec<u8>, AllocError> {
 }
 
 /// Asserts that a configuration is refused as its case says, and what is told of it; and that nothing is
-/// told of want of memory.
+/// told of lack of memory.
 fn is_told(rt: &impl Abort, alloc: Global, text: &str, wanted: &str) -> Result<(), Fail> {
     let bytes = spelled(alloc, text)?;
     let read = config_from_bytes(alloc, &bytes);

@@ -7,7 +7,7 @@ use Rattle.queue_core.specs.declared.reply.Reply.{Reply}
 use Rattle.queue_core.specs.Queue.{QueueHistory, outcome_at, after_answer, IsExact, IsExactWithRoom}
 use Rattle.desk.specs.declared.view.Call.{Call}
 
--- an answer that the queue of one thread gives to a command at a time: that of the definitions, or want of memory where it takes memory, and where it takes no more
+-- an answer that the queue of one thread gives to a command at a time: that of the definitions, or lack of memory where it takes memory, and where it takes no more
 -- than the place of an entry, only if there is no room for one
 pub record IsAnswered (q : QueueHistory) (at : ℕ) (command : Command) (reply : Result Reply Fault) : Type 0 where
   pub answer : Meets reply (outcome_at q at command).reply

@@ -158,7 +158,7 @@ impl<P: Press> Held<P> {
         reply
     }
 
-    /// Tells the press of the queue as a command has left it. `None` is want of memory, for the turn or for the
+    /// Tells the press of the queue as a command has left it. `None` is lack of memory, for the turn or for the
     /// press; and the question for a parcel, which changes nothing, is not told.
     pub(crate) fn tell<R: Wait>(
         &mut self,
@@ -178,7 +178,7 @@ impl<P: Press> Held<P> {
         }
     }
 
-    /// Prints the turn. `None` is want of memory, for the turn or for the press.
+    /// Prints the turn. `None` is lack of memory, for the turn or for the press.
     fn print<R: Wait>(&mut self, rt: &R, alloc: Global) -> Option<P::Told>
         ensures told { IfSome result (λ told. IsToldOf (P.tells self.old.place) self.old.queue told) }
         ensures same { self.new ≡ self.old }

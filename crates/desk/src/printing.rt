@@ -28,7 +28,7 @@ pub trait Press: Drop {
         ensures told { IfSome result (λ told. (turn : TurnReport) → tells (place self.now) turn told) }
         ensures every { IfSome result (λ told. (turns : List TurnReport) → stands self.now turns) };
 
-    /// Prints a turn, before it ends. `None` is want of memory: the press stands for what it stood for.
+    /// Prints a turn, before it ends. `None` is lack of memory: the press stands for what it stood for.
     /// Its place stays.
     fn print<R: Wait>(&mut self, rt: &R, alloc: Global, turn: Turn) -> Option<Self::Told>
         requires { IsNextIn (stands self.old) turn }

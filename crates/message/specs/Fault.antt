@@ -1,5 +1,5 @@
 -- The table of refusals, and what a call answers where memory may run out.
-use Rattle.std.specs.Prelude.{◌≡◌, ℕ, ⊤, Bool, true, false, List, codes, Result, Err, MatchBool}
+use Rattle.std.specs.Prelude.{◌≡◌, ℕ, nat_eq, ⊤, Bool, true, false, List, codes, Result, Err, MatchBool}
 use Rattle.message.specs.declared.fault.Fault.{Fault}
 use Rattle.message.specs.declared.fault.Fault.TheVariants.{QueueDoesNotExist, QueueNameExists, InvalidAttributeName, InvalidAttributeValue, InvalidParameterValue, InvalidMessageContents, ReceiptHandleIsInvalid, MessageNotInflight, OverLimit, EmptyBatchRequest, TooManyEntriesInBatchRequest, BatchEntryIdsNotDistinct, InvalidBatchEntryId, BatchRequestTooLong, UnsupportedOperation, SerializationException, JournalFull, OutOfMemory, Spent, ActorGone}
 
@@ -43,6 +43,10 @@ fault_code fault = (row_of fault).code
 
 abbrev pub fault_status : Fault → ℕ
 fault_status fault = (row_of fault).status
+
+-- whether a refusal is a fault of the client's
+abbrev pub is_of_sender : Fault → Bool
+is_of_sender fault = nat_eq (fault_status fault) 400
 
 abbrev pub fault_name : Fault → List ℕ
 fault_name fault = (row_of fault).name

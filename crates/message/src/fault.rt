@@ -1,7 +1,7 @@
 //! Why a request is refused.
 
 ghost use Rattle.std.specs.Prelude.{◌≡◌, Some};
-ghost use Rattle.message.specs.Fault.{fault_code, fault_message, fault_name, fault_status};
+ghost use Rattle.message.specs.Fault.{fault_code, fault_message, fault_name, fault_status, is_of_sender};
 ghost use Rattle.message.specs.declared.fault.Fault.TheVariants.{OutOfMemory};
 
 use std::alloc::{AllocError, AllocFailed};
@@ -70,6 +70,13 @@ impl Fault {
         ensures { result ≡ fault_status self }
     {
         if self.code() <= 16 { 400 } else { 500 }
+    }
+
+    /// Whether it is a fault of the client's.
+    pub fn is_of_sender(self) -> bool
+        ensures { result ≡ is_of_sender self }
+    {
+        self.status() == 400
     }
 
     /// The refusal's name, as a client reads it.

@@ -102,7 +102,7 @@ fn told(alloc: Global, line: &str) -> Result<String, Fault> {
     }
 }
 
-/// What is told of a text in three parts, or the name of its refusal, which is no want of memory.
+/// What is told of a text in three parts, or the name of its refusal, which is no lack of memory.
 fn answer(alloc: Global, before: &str, choice: &str, after: &str) -> Result<String, Fault> {
     let text = format!(in alloc; "{before}{choice}{after}")?;
     match told(alloc, text.as_str()) {

@@ -1,11 +1,11 @@
 //! The directory of the queues that are served: names, mailboxes and desks.
 
-ghost use Rattle.std.specs.Prelude.{◌≡◌, ◌⊎◌, ◌==◌, ◌+◌, [], ◌∷◌, ◌++◌, map, false, true, Result, Ok, Err, None, Some, IfSome, IfOk, IfErr, OnOk, OnErr, option_map, slice_get};
+ghost use Rattle.std.specs.Prelude.{◌≡◌, ◌⊎◌, ◌==◌, ◌||◌, [], ◌∷◌, ◌++◌, map, false, true, Result, Ok, Err, None, IfSome, IfOk, IfErr, OnOk, OnErr, is_some};
 ghost use Rattle.std.specs.Arc.{arc_value};
 ghost use Rattle.std.specs.List.{All, position};
 ghost use Rattle.std.specs.Str.{bytes_eq};
 ghost use Rattle.message.specs.declared.fault.Fault.TheVariants.{OutOfMemory, QueueDoesNotExist, QueueNameExists, OverLimit};
-ghost use Rattle.redrive.specs.Catalog.{IsDirectory, has_uid, names_listed, with_target, without_uid};
+ghost use Rattle.redrive.specs.Catalog.{IsDirectory, empty_directory, has_uid, names_listed, with_target, without_uid};
 ghost use Rattle.message.specs.declared.fault.Fault.{Fault};
 ghost use Rattle.queue_core.specs.declared.command.Command.TheVariants as commands;
 ghost use Rattle.queue_core.specs.declared.reply.Reply.{Reply};
@@ -22,12 +22,11 @@ use crate::readers::{Readers, Shown};
 use board::Sheet;
 use crossbeam_channel::Sender;
 use desk::{Desk, Gate, NoGate, Pass, Press};
-use indexmap::IndexMap;
 use journal::Moment;
 use message::{Fault, QueueName};
 use queue_config::Limits;
 use queue_core::Command;
-use redrive::{Catalog, in_order, is_same_name};
+use redrive::{Catalog, Keys, in_order};
 use std::alloc::Global;
 use std::marker::Model;
 use std::sync::{Arc, Mutex, Wait};
@@ -78,7 +77,7 @@ impl<P: Press, S: Drop> Served<P, S> {
     fn again(&mut self) -> Result<Served<P, S>, Fault>
         ensures errors { IfErr result (λ fault. fault ≡ OutOfMemory) }
         ensures other { IfOk result (λ queue. (queue.uid ≡ self.old.uid) × (queue.name ≡ self.old.name) × (arc_value queue.desk ≡ arc_value self.old.desk) × IsNewPass self.old.pass queue.pass) }
-        ensures same { (self.new.uid ≡ self.old.uid) × (self.new.pass ≡ self.old.pass) }
+        ensures same { (self.new.uid ≡ self.old.uid) × (self.new.name ≡ self.old.name) × (self.new.pass ≡ self.old.pass) }
     {
         let desk = Arc::try_clone(&self.desk)?;
         let mailbox = self.mailbox.clone()?;
@@ -161,75 +160,50 @@ impl<P: Press, S: Drop> Served<P, S> {
     }
 }
 
-/// What lies under the directory's lock: the names, and the queues that are served. Where each of these lies is kept by
-/// its name, so that a request finds its queue by a hash. That is looked at and not relied on: where it is not so, all are
-/// gone through.
+/// What lies under the directory's lock: the names, and the queues that are served, each once and under a name of its own.
 #[derive(Drop)]
 struct Entries<P: Press, S: Drop> {
     catalog: Catalog,
     served: Vec<Served<P, S>>,
-    places: IndexMap<QueueName, usize>,
+    /// The uids and names of those that are served, by which their places are found.
+    keys: Keys,
+    ghost uids: { keys.uids ≡ map (λ queue. queue.uid) served.items },
+    ghost names: { keys.names ≡ map (λ queue. queue.name) served.items },
 }
 
 impl<P: Press, S: Drop> Entries<P, S> {
+    /// No names and no queues. `OutOfMemory` is the only refusal.
+    fn new(alloc: Global) -> Result<Entries<P, S>, Fault>
+        ensures catalog { IfOk result (λ entries. entries.catalog ≡ empty_directory) }
+        ensures served { IfOk result (λ entries. entries.served.items ≡ []) }
+        ensures errors { IfErr result (λ fault. fault ≡ OutOfMemory) }
+    {
+        Ok(Entries {
+            catalog: Catalog::new(alloc)?,
+            served: Vec::new(alloc),
+            keys: Keys::new(alloc),
+        })
+    }
+
     /// The place of the queue of a uid.
     fn place_of(&self, uid: u64) -> Option<usize>
         ensures { result ≡ position (λ queue. queue.uid == uid) self.now.served.items }
     {
-        self.served.iter().position(|queue| queue.uid == uid)
+        self.keys.place_of(uid)
     }
 
-    /// The place of the queue of a name, as it is kept by the name.
-    fn kept_place(&self, name: &QueueName) -> Option<usize>
-        ensures { IfSome result (λ place. option_map (λ queue. bytes_eq queue.name name.now) (slice_get self.now.served.items place) ≡ Some true) }
-    {
-        let place = *self.places.get(name)?;
-        let queue = self.served.get(place)?;
-        if is_same_name(&queue.name, name) {
-            Some(place)
-        } else {
-            None
-        }
-    }
-
-    /// The place of the first queue of a name, found by going through all.
-    fn scanned_place(&self, name: &QueueName) -> Option<usize>
-        ensures first { result ≡ position (λ queue. bytes_eq queue.name name.now) self.now.served.items }
-        ensures found { IfSome result (λ place. option_map (λ queue. bytes_eq queue.name name.now) (slice_get self.now.served.items place) ≡ Some true) }
-    {
-        self.served
-            .iter()
-            .position(|queue| is_same_name(&queue.name, name))
-    }
-
-    /// The place of a queue of a name.
+    /// The place of the queue of a name.
     fn place_named(&self, name: &QueueName) -> Option<usize>
-        ensures found { IfSome result (λ place. option_map (λ queue. bytes_eq queue.name name.now) (slice_get self.now.served.items place) ≡ Some true) }
-        ensures absent { result ≡ None → position (λ queue. bytes_eq queue.name name.now) self.now.served.items ≡ None }
+        ensures { result ≡ position (λ queue. bytes_eq queue.name name.now) self.now.served.items }
     {
-        match self.kept_place(name) {
-            Some(place) => Some(place),
-            None => self.scanned_place(name),
-        }
+        self.keys.place_named(name)
     }
 
-    /// Keeps where the queues lie, as far as there is memory for it.
-    fn keep_places(&mut self)
-        ensures served { self.new.served ≡ self.old.served }
-        ensures catalog { self.new.catalog ≡ self.old.catalog }
+    /// Whether a queue is served under a uid or under a name.
+    fn is_served(&self, uid: u64, name: &QueueName) -> bool
+        ensures { result ≡ (is_some (position (λ queue. queue.uid == uid) self.now.served.items) || is_some (position (λ queue. bytes_eq queue.name name.now) self.now.served.items)) }
     {
-        self.places.clear();
-        for (place, queue) in self.served.iter().enumerate() {
-            let _ = self.places.insert(queue.name, place);
-        }
-    }
-
-    /// The uid of a name.
-    fn uid_of(&self, name: &QueueName) -> Option<u64> {
-        match self.kept_place(name) {
-            Some(place) => Some(self.served[place].uid),
-            None => self.catalog.find(name),
-        }
+        self.place_of(uid).is_some() || self.place_named(name).is_some()
     }
 
     /// The queue of a name once more, where it is served.
@@ -258,20 +232,25 @@ impl<P: Press, S: Drop> Entries<P, S> {
         }
     }
 
-    /// Adds the queue of a uid that has a name.
-    fn serve(&mut self, queue: Served<P, S>, target: u64) -> Result<(), Fault>
+    /// Adds the queue of a uid that has a name. It is `QueueNameExists` where one is served under that uid or name.
+    fn serve(&mut self, alloc: Global, queue: Served<P, S>, target: u64) -> Result<(), Fault>
         ensures ok { OnOk result (self.new.served.items ≡ self.old.served.items ++ queue ∷ []) }
         ensures target { OnOk result (self.new.catalog ≡ with_target self.old.catalog queue.uid target) }
         ensures named { OnOk result (has_uid self.old.catalog queue.uid ≡ true) }
         ensures err { OnErr result (self.new.served.items ≡ self.old.served.items) }
-        ensures errors { IfErr result (λ fault. (fault ≡ QueueDoesNotExist) ⊎ (fault ≡ OutOfMemory)) }
+        ensures once { (is_some (position (λ q. q.uid == queue.uid) self.old.served.items) || is_some (position (λ q. bytes_eq q.name queue.name) self.old.served.items)) ≡ true → result ≡ Err QueueNameExists }
+        ensures errors { IfErr result (λ fault. (fault ≡ QueueDoesNotExist) ⊎ (fault ≡ QueueNameExists) ⊎ (fault ≡ OutOfMemory)) }
     {
+        if self.is_served(queue.uid, &queue.name) {
+            return Err(Fault::QueueNameExists);
+        }
         self.served.reserve(1)?;
+        self.keys.reserve(alloc)?;
         if !self.catalog.set_target(queue.uid, target) {
             return Err(Fault::QueueDoesNotExist);
         }
         queue.duties.set_target(target);
-        let _ = self.places.insert(queue.name, self.served.len());
+        self.keys.push(queue.uid, queue.name);
         self.served.push_reserved(queue);
         Ok(())
     }
@@ -295,7 +274,7 @@ impl<P: Press, S: Drop> Entries<P, S> {
         match self.place_of(uid) {
             Some(place) => {
                 let queue = self.served.remove(place);
-                self.keep_places();
+                self.keys.remove(place);
                 Some(queue)
             }
             None => None,
@@ -349,14 +328,9 @@ impl<P: Press, S: Drop> Directory<P, S> {
         ensures ok { IfOk result (λ directory. directory ≡ limits) }
         ensures errors { IfErr result (λ fault. fault ≡ OutOfMemory) }
     {
-        let entries = Entries {
-            catalog: Catalog::new(alloc)?,
-            served: Vec::new(alloc),
-            places: IndexMap::new(alloc),
-        };
         Ok(Directory {
             limits,
-            entries: Mutex::new(entries),
+            entries: Mutex::new(Entries::new(alloc)?),
             readers: Mutex::new(Readers::new(alloc)),
         })
     }
@@ -382,17 +356,23 @@ impl<P: Press, S: Drop> Directory<P, S> {
     }
 
     /// Adds the queue of a uid that was entered, and gives it its target, 0 for none. It is
-    /// `QueueDoesNotExist` where the uid was taken out meanwhile. A refused queue is dropped, and its name
-    /// stays.
-    pub fn serve<R: Wait>(&self, rt: &R, queue: Served<P, S>, target: u64) -> Result<(), Fault>
-        ensures errors { IfErr result (λ fault. (fault ≡ QueueDoesNotExist) ⊎ (fault ≡ OutOfMemory)) }
+    /// `QueueDoesNotExist` where the uid was taken out meanwhile, and `QueueNameExists` where a queue of that uid
+    /// or name is served already. A refused queue is dropped, and its name stays.
+    pub fn serve<R: Wait>(
+        &self,
+        rt: &R,
+        alloc: Global,
+        queue: Served<P, S>,
+        target: u64,
+    ) -> Result<(), Fault>
+        ensures errors { IfErr result (λ fault. (fault ≡ QueueDoesNotExist) ⊎ (fault ≡ QueueNameExists) ⊎ (fault ≡ OutOfMemory)) }
     {
-        self.entries.lock(rt).serve(queue, target)
+        self.entries.lock(rt).serve(alloc, queue, target)
     }
 
     /// The uid of a name.
     pub fn uid_of<R: Wait>(&self, rt: &R, name: &QueueName) -> Option<u64> {
-        self.entries.lock(rt).uid_of(name)
+        self.entries.lock(rt).catalog.find(name)
     }
 
     /// The queue of a uid: its desk, its mailbox, and a pass of its own. `None` where it has its name and is not

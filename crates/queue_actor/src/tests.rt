@@ -139,7 +139,7 @@ fn entered<R: Wait>(rt: &R, host: &HostRuntime, queues: &Shared) -> Result<Place
     let (alloc, name) = (host.alloc(), QueueName::read("jobs")?);
     let uid = queues.enter(rt, alloc, name)?;
     let (client, place) = served(host, alloc, uid, name, Limits::default())?;
-    queues.serve(rt, client, 0)?;
+    queues.serve(rt, alloc, client, 0)?;
     Ok(place)
 }
 

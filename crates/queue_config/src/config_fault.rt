@@ -38,7 +38,7 @@ pub enum ConfigFault {
 }
 
 impl ConfigFault {
-    /// The fault's number: 1 to 6 in the order of the variants, and 18 for want of memory, as among
+    /// The fault's number: 1 to 6 in the order of the variants, and 18 for lack of memory, as among
     /// the refusals of requests.
     pub fn code(self) -> u8
         ensures { result ≡ config_fault_code self }

@@ -1,4 +1,4 @@
--- No entry of a legal journal is a checkpoint: so it weighs as much as it has entries, and keeps no more messages than these.
+-- No entry of a whole journal is a checkpoint: so it weighs as much as it has entries, and keeps no more messages than these.
 use Rattle.std.proofs.Common.{◌≡◌, ℕ, ◌+◌, ◌≤◌, ◌||◌, List, [], ◌∷◌, ◌++◌, length, Option, refl, ap, ◌∙◌, arith}
 use Rattle.std.specs.Prelude.{unwrap_or}
 use Rattle.std.specs.Option.{option_map_or}

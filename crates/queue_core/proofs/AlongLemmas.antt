@@ -1,4 +1,4 @@
--- What holds of the opening of a queue, and with lines also of them and one entry that a command adds, holds of a legal journal.
+-- What holds of a queue's opening, and goes on to hold with each entry that a command adds, holds of a whole journal.
 use Rattle.std.proofs.Common.{List, [], ◌∷◌, ◌++◌, sym, subst, append_assoc}
 use Rattle.std.proofs.lemmas.List.{append-nil}
 use Rattle.message.specs.Content.{ContentText}

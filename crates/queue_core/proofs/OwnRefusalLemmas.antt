@@ -32,7 +32,7 @@ use Rattle.queue_core.proofs.RefusalLemmas.{all-placed, StandsAs-refused}
 
 -- ---- which refusals are entries
 
--- the queue's own refusal is an entry, and no other, which is none of want of memory
+-- the own refusal of a queue is an entry, and no other; it is not for lack of memory
 abbrev AddsFor : Option (Event ContentText) → Fault → Type 0
 AddsFor event fault = MatchBool (is_own_refusal fault) (event ≡ Some (Refused fault)) ((event ≡ None) × (is_out_of_memory {T = Reply} (Err fault) ≡ false))
 

@@ -1,4 +1,4 @@
--- What is so of every legal journal, with which it begins: entries in order, of a queue that was opened before its clock, which tell nothing of a message
+-- What is so of every journal, proved of whole ones: the entries are in order, of a queue that was opened before its clock, and tell nothing of a message
 -- that is not there yet; transfers of the messages that wait, each once; and no row of a minute that is not over.
 use Rattle.std.proofs.Common.{◌≡◌, ℕ, ◌≤◌, ◌<◌, Bool, true, false, cond, ◌||◌, List, [], ◌∷◌, ◌++◌, Option, Some, None, refl, sym, ap, subst, ◌∙◌, arith}
 use Rattle.std.specs.Prelude.{is_some, unwrap_or}

@@ -1,4 +1,4 @@
--- What the entries of a legal journal are counted as is small: no sum comes near the greatest number of a row.
+-- What the entries of a whole journal are counted as is small: no sum comes near the greatest number of a row.
 use Rattle.std.proofs.Common.{◌≡◌, ℕ, suc, ◌+◌, ◌*◌, ◌^◌, ◌≤◌, min, Bool, true, false, cond, eqb, List, [], ◌∷◌, ◌++◌, map, length, Option, Some, sym, ap, subst, ◌∙◌, arith}
 use Rattle.std.specs.Prelude.{IfSome, filter, nat_lt, unwrap_or}
 use Rattle.std.specs.List.{AllByRecursion}

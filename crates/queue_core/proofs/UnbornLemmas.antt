@@ -1,4 +1,4 @@
--- No entry of a legal journal offers a message that is not there yet, or tells of its receives.
+-- No entry of a whole journal offers a message that is not there yet, or tells of its receives.
 use Rattle.std.proofs.Common.{◌≡◌, ℕ, ◌≤◌, min, Bool, false, cond, List, [], ◌∷◌, ◌++◌, Option, Some, None, refl, sym, ap, ◌∙◌, arith}
 use Rattle.std.specs.Option.{option_map_or}
 use Rattle.std.specs.Prelude.{sum_by}

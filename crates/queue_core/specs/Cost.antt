@@ -62,7 +62,7 @@ is_touched q r number = not (same_standing (state_numbered q number) (state_numb
 abbrev pub touched_count : QueueHistory → QueueHistory → ℕ
 touched_count q r = count_by (λ number. is_touched q r number) (range_with_len 0 (message_count q.lines))
 
--- the most that a call may cost which makes another queue of one: the one in (w + 1) pays for a message that begins, or a change that leaves its message as it was
+-- the most that a call may cost which makes another queue of one: the last 1 pays for a message that begins, or a change that leaves its message as it was
 abbrev pub most_ticks : QueueHistory → QueueHistory → ℕ
 most_ticks q r = 24 * (binary_digits (kept_count q.lines q.clock + 1) + 1) * (touched_count q r + 1)
 

@@ -54,7 +54,8 @@ abbrev pub NamesOrLetGo : List (Entry ContentText) → ℕ → ContentText → T
 NamesOrLetGo lines number content =
     (content_numbered lines number ≡ Some content) ⊎ ((content_numbered lines number ≡ None) × (is_removed_number lines number ≡ true))
 
--- the queue that a call comes to and a refusal leaves but for its own entry: with a checkpoint in the place of all entries where its journal is at the limit, unless memory runs out
+-- what a refused command leaves, without the refusal's entry: the queue at that moment, with a checkpoint in the place of all entries if one came first and
+-- memory did not run out
 abbrev pub left_by_refusal : QueueHistory → ℕ → Command → Fault → QueueHistory
 left_by_refusal q at command fault = rebased_where ((outcome_at q at command).rebases && not (is_out_of_memory {T = Reply} (Err fault))) (reached q at command)
 

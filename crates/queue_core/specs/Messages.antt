@@ -21,21 +21,21 @@ use Rattle.queue_core.specs.declared.facts.Status.TheVariants.{Present, Removed,
 
 -- ---- what an event does
 
--- how often a message was received, and when first and last: 0 where it never was
+-- how often a message was received, and when first and last: 0, None and 0 if never
 pub record Receives : Type 0 where
   pub count : ℕ
   pub first : Option ℕ
   pub last : ℕ
 
--- what is known of a message that was there before the event with which it begins: when it came and was first sent, where it stood, and whether it had expired
+-- what a checkpoint says of a message: when it came and was first sent, where it stood, and whether it had expired
 pub record Past : Type 0 where
   pub enqueue_time : ℕ
   pub first_send_time : ℕ
   pub course : Course
   pub ran_out : Bool
 
--- the beginning of a message: what it holds, unless it is gone, how many seconds later it is first due, where it came from, where it was not sent here, and
--- its past, where it was there before
+-- the beginning of a message: its content, None if it is gone; the seconds until it is first due; its origin if it is a dead letter; its past if a checkpoint
+-- begins it
 pub record Birth (C : Type 0) : Type 0 where
   pub content : Option C
   pub delay : ℕ
@@ -47,7 +47,7 @@ pub record Since : Type 0 where
   pub created : ℕ  -- when the queue was opened
   pub modified : ℕ  -- when it last got settings
   pub receives : ℕ → Receives  -- by number
-  pub pending : List Transfer  -- the transfers that are not confirmed, in the order in which the messages left
+  pub pending : List Transfer  -- the transfers that no entry had ended, in the order in which the messages left
   pub rows : List Row  -- of the minutes that are over, as far as they are shown
 
 -- what an event does to a queue and to its messages
@@ -420,7 +420,7 @@ abbrev pub is_removed_status : Status → Bool
 is_removed_status Removed = true
 is_removed_status _ = false
 
--- deleted, or there when the queue was purged, or in a queue that was closed
+-- deleted, or there when the queue was purged or closed; behind a checkpoint also what that does not keep
 abbrev pub is_removed : {C : Type 0} → List (Entry C) → Message → Bool
 is_removed lines m = is_removed_status (course_of lines m).status
 
@@ -439,7 +439,7 @@ abbrev pub is_waiting_status : ℕ → Status → Bool
 is_waiting_status target (Waiting own) = own == target
 is_waiting_status target _ = false
 
--- whether a message has left for the dead-letter queue of a uid, and the transfer is not confirmed
+-- whether a message has left for the dead-letter queue of a uid, and neither was confirmed nor came back, in a queue that is not closed
 abbrev pub waits_for : {C : Type 0} → List (Entry C) → ℕ → Message → Bool
 waits_for lines target m = is_waiting_status target (course_of lines m).status
 

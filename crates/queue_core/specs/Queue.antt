@@ -75,7 +75,7 @@ takes_memory outcome = outcome.rebases || adds_entry outcome || hands_over outco
 abbrev pub has_room : QueueHistory → Bool
 has_room q = nat_le 1 q.spare
 
--- whether an entry wants no memory but for its own place: a clause for each event, and none left out
+-- whether an entry needs no memory but for its own place: a clause for each event, and none left out
 abbrev pub wants_place_alone : Event ContentText → Bool
 wants_place_alone (Opened uid settings) = false
 wants_place_alone (Sent delay content) = false
@@ -92,19 +92,19 @@ wants_place_alone (Refused fault) = true
 wants_place_alone Closed = true
 wants_place_alone (Base base) = false
 
--- what adds no entry, hands over no parcel and makes no checkpoint wants no memory: its answer is the outcome's reply, and never want of memory in its place
+-- what adds no entry, hands over no parcel and makes no checkpoint needs no memory: its answer is the outcome's reply, never OutOfMemory
 abbrev pub IsExact : Outcome → Result Reply Fault → Type 0
 IsExact outcome answer = takes_memory outcome ≡ false → answer ≡ outcome.reply
 
--- the reply of what wants no memory, and none where memory is wanted
+-- the reply of what needs no memory, and none if memory is needed
 abbrev pub reply_without_memory : Outcome → Option (Result Reply Fault)
 reply_without_memory outcome = if takes_memory outcome then None else Some outcome.reply
 
--- what wants memory for no more than the place of its entry
+-- what needs memory for no more than the place of its entry
 abbrev pub wants_room_alone : Outcome → Bool
 wants_room_alone outcome = not outcome.rebases && option_map_or wants_place_alone outcome.event true && not (hands_over outcome.reply)
 
--- where there is room for one entry more, such a command never answers want of memory: its answer is the outcome's reply
+-- if there is room for one more entry, such a command is never answered OutOfMemory: its answer is the outcome's reply
 abbrev pub IsExactWithRoom : QueueHistory → Outcome → Result Reply Fault → Type 0
 IsExactWithRoom q outcome answer = has_room q ≡ true → wants_room_alone outcome ≡ true → answer ≡ outcome.reply
 
@@ -273,7 +273,7 @@ arrive_outcome q p =
     if has_accepted q.lines p.origin.uid p.origin.number then answering (Ok (replies.Arrived arrivals.Again))
     else adding (Arrived p.origin p.content) (Ok (replies.Arrived arrivals.New))
 
--- whether the message of a number has left, and its transfer is not confirmed
+-- whether the message of a number waits for a dead-letter queue
 abbrev pub is_pending : QueueHistory → ℕ → Bool
 is_pending q number = is_numbered (λ m. awaits_transfer q.lines m) q.lines number
 
@@ -301,7 +301,7 @@ parcel_of q t m content = record { origin = origin_of q m; target = t.target; co
 abbrev pub transferred_parcel : QueueHistory → Transfer → Option Parcel
 transferred_parcel q t = option_and_then (λ m. option_map (λ content. parcel_of q t m content) (content_of q.lines m)) (message_numbered q.lines t.number)
 
--- the first transfer that is not confirmed
+-- the first transfer that is pending
 abbrev pub first_transfer : QueueHistory → Option Transfer
 first_transfer q = slice_get (pending_transfers q.lines) 0
 
@@ -321,7 +321,7 @@ look_of q = record {
   closed = is_closed q.lines;
 }
 
--- in the journal as it stands
+-- the outcome of a command in the journal as it stands: no checkpoint comes first
 abbrev pub outcome_in : QueueHistory → Command → Outcome
 outcome_in q (commands.Send content delay) = with_room q (send_outcome q content delay)
 outcome_in q (commands.Receive maximum timeout) = with_room q (receive_outcome q maximum timeout)
@@ -336,7 +336,7 @@ outcome_in q commands.Close = close_outcome q
 outcome_in q commands.Look = answering (Ok (replies.Looked (look_of q)))
 outcome_in q commands.FirstParcel = answering (Ok (replies.Parcel (first_parcel_of q)))
 
--- whether a command is one that a closed queue or a full journal refuses
+-- whether a full journal refuses a command: a checkpoint comes only before such a one
 abbrev pub wants_open : Command → Bool
 wants_open commands.Close = false
 wants_open commands.Look = false
@@ -347,7 +347,7 @@ abbrev pub unless_some : Option Fault → Bool → Bool
 unless_some None b = b
 unless_some (Some fault) b = false
 
--- whether a checkpoint comes first: where the journal is at its limit, and nothing refuses the command
+-- whether a checkpoint comes first: the journal is at its limit, the queue is neither closed nor full, and the command is not Close, Look or FirstParcel
 abbrev pub rebases : QueueHistory → Command → Bool
 rebases q command = unless_some (first_refusal q) (wants_open command && is_at_limit q)
 
@@ -386,7 +386,7 @@ after_outcome q outcome answer = if is_out_of_memory answer then q else with_opt
 abbrev pub after_answer : {T : Type 0} → QueueHistory → ℕ → Command → Result T Fault → QueueHistory
 after_answer q at command answer = after_outcome (reached q at command) (outcome_at q at command) answer
 
--- the reply that a part of it stands for
+-- the answer of a call for one command, as a `Reply`
 abbrev pub as_reply : {T : Type 0} → (T → Reply) → Result T Fault → Result Reply Fault
 as_reply reply (Ok x) = Ok (reply x)
 as_reply reply (Err fault) = Err fault

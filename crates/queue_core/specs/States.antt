@@ -15,7 +15,7 @@ use Rattle.queue_core.specs.Messages.{messages, is_present, awaits_transfer, is_
 abbrev pub is_live : {C : Type 0} → List (Entry C) → ℕ → Message → Bool
 is_live lines clock m = is_present lines m && not (is_expired lines clock m)
 
--- visible from its due time on; before it delayed where it was never received nor brought back, and else in flight
+-- visible from its due time on; before that delayed if it was never received nor brought back, else in flight
 abbrev pub waiting_state : {C : Type 0} → List (Entry C) → ℕ → Message → MessageState
 waiting_state lines clock m =
     if nat_le (due_time lines m) clock then Visible
@@ -47,7 +47,7 @@ count_in_state state lines clock = count_by (λ m. is_in_state state lines clock
 abbrev pub kept_count : {C : Type 0} → List (Entry C) → ℕ → ℕ
 kept_count lines clock = count_by (λ m. is_live lines clock m || awaits_transfer lines m) (messages lines)
 
--- how often a message was received that keeps failing, at the least (Amazon SQS, of ApproximateAgeOfOldestMessage)
+-- from so many receives on a message keeps failing (Amazon SQS, of ApproximateAgeOfOldestMessage)
 abbrev pub failing_receives : ℕ
 failing_receives = 3
 

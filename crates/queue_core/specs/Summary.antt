@@ -1,4 +1,5 @@
--- What a queue has to know of its journal, free of what it is kept in. Queues of one uid and name of which this is the same answer alike.
+-- What a queue has to know of its journal, whatever that is kept in. Queues of one uid, name, clock and in-flight limit with the same summary answer alike, if
+-- both are full or neither is.
 use Rattle.std.specs.Prelude.{ℕ, Bool, if◌then◌else◌, List, map, Option, Some, None, option_and_then}
 use Rattle.std.specs.List.{range_with_len}
 use Rattle.message.specs.Content.{ContentText, content_size}

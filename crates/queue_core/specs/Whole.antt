@@ -30,7 +30,7 @@ whole_after_all w [] answers = w
 whole_after_all w (step ∷ steps) [] = w
 whole_after_all w (step ∷ steps) (answer ∷ answers) = whole_after_all (whole_after w step.at step.command answer) steps answers
 
--- a command that does not find the first queue's journal full adds the same entry to both journals, and has the same reply, but for the number of lines
+-- a command that does not find the first queue's journal full adds the same entry to both journals, and has the same reply, but for the weight
 abbrev pub AnswersAsWhole : QueueHistory → QueueHistory → ℕ → Command → Type 0
 AnswersAsWhole q w at command =
     is_journal_full (outcome_at q at command).reply ≡ false → AnswersAs (reached q at command) (reached (without_limit w) at command) command

@@ -26,7 +26,7 @@ pub struct Message {
 pub enum Status {
     /// It is there, or has expired.
     Present,
-    /// It was deleted, or was there when the queue was purged, or the queue was closed.
+    /// It was deleted, or was there when the queue was purged or closed, or a checkpoint did not keep it.
     Removed,
     /// It has left for the dead-letter queue of a uid, which has not confirmed the transfer.
     Waiting { target: u64 },

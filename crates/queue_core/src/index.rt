@@ -304,7 +304,7 @@ impl MessageIndex {
 
 impl MessageIndex {
     /// Makes all growths that an event wants: that of a message that it begins, or of the queue of those that leave.
-    /// No other event wants memory. `OutOfMemory` is the only refusal.
+    /// No other event needs memory. `OutOfMemory` is the only refusal.
     pub(crate) fn make_room(&mut self, alloc: Global, event: &Event<Content>) -> Result<(), Fault>
         requires indexed { IsIndexed self.old }
         requires few { index_map_len self.old.records < 2 ^ 31 }

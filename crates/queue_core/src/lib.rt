@@ -16,9 +16,9 @@
 //! - `Ranges`, `Legal`: what commands carry, and which journals a queue can have;
 //! - `Summary`, `Standing`: what a queue has to know of its journal, and what follows from that alone.
 //!
-//! Want of memory of a command moves the clock and nothing else, and a command that adds no entry and
-//! makes no checkpoint, but `FirstParcel`, never wants memory. That alone leaves the clock as it is, and may want memory without an
-//! entry, for the parcel that it hands over. [`QueueState::run`] performs a list of commands: its answers are those of the
+//! A command that is refused memory moves the clock and nothing else. One that adds no entry and makes no
+//! checkpoint, but `FirstParcel`, needs none. That alone leaves the clock as it is, and may need memory for
+//! the parcel that it hands over. [`QueueState::run`] performs a list of commands: its answers are those of the
 //! definitions one after another. What follows from the definitions, as that no message is offered
 //! before its due time, stands in the laws, which are functions without a body.
 #![tactic(auto)]
@@ -73,7 +73,8 @@ pub use reading::{closes, gives_settings, settings_after};
 pub use receive_laws::a_receive_stops_behind_its_last_offer;
 pub use reply::{Look, Posted, Reply};
 pub use standing_laws::{
-    a_checkpoint_stands_for_its_entries, answers_follow_from_a_summary, summaries_go_on_alike,
+    a_checkpoint_stands_for_its_entries, answers_follow_from_a_summary, checkpoints_are_equivalent,
+    summaries_go_on_alike,
 };
 pub use state::QueueState;
 pub use sum_laws::no_number_of_a_row_is_cut;

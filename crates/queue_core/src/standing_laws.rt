@@ -27,7 +27,7 @@ ghost use Rattle.queue_core.specs.Whole.{AnswerAsWhole, whole_after_all};
 
 /// Two queues of the same uid, name, clock and in-flight limit whose journals come to the same, and which are
 /// both full or both not, answer each command alike and add the same entry, whatever else their journals
-/// hold. Only the weight differs that a look tells. Want of memory is none of this.
+/// hold. Only the weight differs that a look tells. Lack of memory is none of this.
 pub fn answers_follow_from_a_summary()
     ensures answers { (q w : QueueHistory) (command : Command) → IsLegal q → IsLegal w → StandsFor q w → is_full q ≡ is_full w → AnswersAs q w command }
     ensures gauges { (q w : QueueHistory) → IsLegal q → IsLegal w → StandsFor q w → gauges_of q.lines q.clock ≡ gauges_of w.lines w.clock }
@@ -53,7 +53,7 @@ pub fn a_checkpoint_stands_for_its_entries()
 /// A queue whose journal begins anew wherever that makes room is the queue with its whole journal and no
 /// limit. Two queues that stand for each other, as one does with itself, come to the same commands at the same
 /// moments; the first has its limit, the second has none. Each command adds the same entry to both journals,
-/// and has the same reply, but for the number of lines that a look tells. A command that finds the first
+/// and has the same reply, but for the weight that a look tells. A command that finds the first
 /// queue's journal full, or no memory, only comes to its moment in the second too. At the end the two stand for
 /// each other still, with the counts, the age, the order, the rows, the alarms and whatever else follows from
 /// that.

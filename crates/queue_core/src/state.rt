@@ -47,7 +47,7 @@ struct Scan {
 /// journal's lines, and its spare: for how many entries more there is room for sure. [`QueueState::reserve`]
 /// makes such room, and each entry takes one place of it, where there is one. A queue that is opened has none.
 ///
-/// Where there is room for one entry more and no checkpoint comes first, a command wants memory only where it begins a
+/// Where there is room for one entry more and no checkpoint comes first, a command needs memory only where it begins a
 /// message, is a receive or hands over a parcel: every other one, and every refusal, is never answered `OutOfMemory`.
 ///
 /// Each command but `FirstParcel` acts at the later of the moment that it is handed and the queue's

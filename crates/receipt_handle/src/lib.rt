@@ -6,7 +6,7 @@
 //!   nothing when they run; their contracts are theorems.
 //!
 //! A handle's text is 48 lower-case hex digits. The contracts promise that `write` gives exactly
-//! this text and is refused for want of memory alone, that `read` takes exactly these texts, takes
+//! this text and is refused for lack of memory alone, that `read` takes exactly these texts, takes
 //! no memory and refuses every other text as `ReceiptHandleIsInvalid`, that what is written is read
 //! back, and that no two texts are one handle. They don't promise that a handle can't be guessed,
 //! and they ask no queue whether it gave the handle. The definitions stand in `specs/`.

@@ -10,7 +10,8 @@ use Rattle.queue_core.specs.declared.facts.Message.{Message}
 use Rattle.queue_core.specs.declared.facts.Status.{Status}
 use Rattle.queue_core.specs.declared.facts.Status.TheVariants.{Waiting, Transferred}
 use Rattle.queue_core.specs.declared.facts.Transfer.{Transfer}
-use Rattle.queue_core.specs.Messages.{effect_of, contains_number, message_id, course_of, is_returned, loses, ends_transfer, accepts}
+use Rattle.queue_core.specs.Messages.{effect_of, contains_number, message_id, course_of, is_returned, loses, ends_transfer}
+use Rattle.queue_core.specs.Accepted.{accepted_keys}
 use Rattle.queue_core.specs.States.{is_live, message_numbered, is_numbered}
 use Rattle.queue_core.specs.Queue.{QueueHistory}
 use Rattle.redrive.specs.declared.steps.HouseStep.TheVariants as steps
@@ -26,9 +27,9 @@ first_history config at = record { world = new_world config at; deleted = [] }
 
 -- ---- which transfers were accepted
 
--- how many entries accept the transfer of a number from the queue of a uid
+-- how often the transfer of a number from the queue of a uid is among those that a journal accepts
 abbrev pub acceptance_count : {C : Type 0} → List (Entry C) → ℕ → ℕ → ℕ
-acceptance_count lines source number = count_by (λ e. accepts source number e.event) lines
+acceptance_count lines source number = count_by (λ key. (key.uid == source) && (key.number == number)) (accepted_keys lines)
 
 -- no journal, of a queue that is there or was deleted, accepts a transfer twice
 abbrev pub EachAcceptedOnce : AllQueues → Type 0

@@ -68,7 +68,7 @@ impl Catalog {
     /// Adds a queue of a name that is not there, and answers its uid. It is `OverLimit` where there are
     /// 1,000 queues or no uid is left, which needs no memory. A refused queue, also with `OutOfMemory`,
     /// is not added and uses up no uid.
-    pub fn add(&mut self, _alloc: Global, name: QueueName, target: u64) -> Result<u64, Fault>
+    pub fn add(&mut self, alloc: Global, name: QueueName, target: u64) -> Result<u64, Fault>
         requires { uid_of_name self.old name ≡ None }
         ensures answer { Meets result (add_answer self.old) }
         ensures full { is_directory_full self.old ≡ true → result ≡ Err Fault.OverLimit }
@@ -79,7 +79,7 @@ impl Catalog {
             return Err(Fault::OverLimit);
         }
         let uid = self.next_uid;
-        self.keys.reserve()?;
+        self.keys.reserve(alloc)?;
         self.queues.push(Registered { name, uid, target })?;
         self.keys.push(uid, name);
         self.next_uid = uid + 1;

@@ -62,15 +62,6 @@ impl House {
         }
     }
 
-    /// Where the first parcel of the queue of a uid comes from, and the uid of the queue that it is for. It
-    /// takes no memory.
-    fn first_waiting(&self, source: u64) -> Option<(Origin, u64)>
-        ensures first { result ≡ option_map (λ p. (p.origin, p.target)) (first_parcel_in self.now source) }
-        ensures legal { (q : QueueHistory) → queue_of_uid self.now source ≡ Some q → IsLegal q }
-    {
-        self.state(source)?.first_waiting()
-    }
-
     /// What the queue of a uid answers at its clock to a parcel from this origin, where that takes no memory.
     fn arrival_answer(&self, target: u64, origin: &Origin) -> Option<Result<Arrival, Fault>>
         ensures { (parcel : Parcel) → parcel.origin ≡ origin.now

@@ -192,7 +192,7 @@ impl House {
         ensures ok { OnOk result (self.new ≡ with_queue self.old (next_queue self.old at name settings rules.items)) }
         ensures err { OnErr result (self.new ≡ self.old) }
     {
-        self.keys.reserve()?;
+        self.keys.reserve(alloc)?;
         let uid = self.queues.open(alloc, at, name, settings, rules)?;
         self.keys.push(uid, name);
         Ok(uid)
@@ -265,7 +265,7 @@ impl House {
         self.keys.place_of(uid)
     }
 
-    /// Does a command that closes no queue in the queue of a uid, which stands at a place.
+    /// Does a command that closes no queue in the queue of a uid, which stands at a place. The uid is named for the clauses.
     fn command_at(
         &mut self,
         alloc: Global,
@@ -357,8 +357,8 @@ impl House {
     /// those of dead letters ([`move_one`](House::move_one)), are `UnsupportedOperation`. A `Set` whose
     /// dead-letter queue is not there under the uid that is given, or is the queue itself, is
     /// `InvalidAttributeValue`. Each of these changes nothing, and needs no memory. With `OutOfMemory`
-    /// only that queue's clock has moved, and after `FirstParcel`, which leaves it, not even that. That is
-    /// never the answer where the queue has room for one entry more and the command wants that alone, as with
+    /// only that queue's clock has moved, and after `FirstParcel`, which leaves it, not even that. It is never
+    /// the answer where the queue has room for one entry more and the command wants only that, as with
     /// [`QueueState::perform`](queue_core::QueueState::perform).
     pub fn step(
         &mut self,

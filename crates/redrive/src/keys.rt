@@ -1,6 +1,6 @@
 //! The uids and names of queues, by which their places in a list are found.
 
-ghost use Rattle.std.specs.Prelude.{◌≡◌, ℕ, ◌≤◌, ◌==◌, false, List, [], ◌∷◌, ◌++◌, remove, OnOk, IfErr};
+ghost use Rattle.std.specs.Prelude.{◌≡◌, ℕ, ◌+◌, ◌≤◌, ◌==◌, false, List, [], ◌∷◌, ◌++◌, remove, Ok, OnOk, IfErr};
 ghost use Rattle.std.specs.List.{list_any, position};
 ghost use Rattle.std.specs.Str.{bytes_eq};
 ghost use Rattle.message.specs.declared.fault.Fault.TheVariants.{OutOfMemory};
@@ -28,7 +28,7 @@ impl Model for Keys {
 }
 
 impl Keys {
-    /// No keys, which take no memory.
+    /// Keys of no queue. They take no memory.
     pub fn new(alloc: Global) -> Keys
         ensures uids { result.uids ≡ [] }
         ensures names { result.names ≡ [] }
@@ -53,8 +53,9 @@ impl Keys {
         self.names.get_index_of(name)
     }
 
-    /// Makes room for one queue more. `OutOfMemory` is the only refusal.
-    pub fn reserve(&mut self) -> Result<(), Fault>
+    /// Makes room for one queue more. `OutOfMemory` is the only refusal, and comes only where there is none yet.
+    pub fn reserve(&mut self, _alloc: Global) -> Result<(), Fault>
+        ensures calm { 1 ≤ self.old.uid_room → 1 ≤ self.old.name_room → result ≡ Ok tt }
         ensures uids { self.new.uids ≡ self.old.uids }
         ensures names { self.new.names ≡ self.old.names }
         ensures ok { OnOk result ((1 ≤ self.new.uid_room) × (1 ≤ self.new.name_room)) }
@@ -73,6 +74,8 @@ impl Keys {
         requires new_name { list_any (λ n. bytes_eq n name) self.old.names ≡ false }
         ensures uids { self.new.uids ≡ self.old.uids ++ uid ∷ [] }
         ensures names { self.new.names ≡ self.old.names ++ name ∷ [] }
+        ensures uid_room { self.old.uid_room ≤ self.new.uid_room + 1 }
+        ensures name_room { self.old.name_room ≤ self.new.name_room + 1 }
     {
         self.uids.insert(uid).unwrap();
         self.names.insert(name).unwrap();
@@ -82,6 +85,8 @@ impl Keys {
     pub fn remove(&mut self, place: usize)
         ensures uids { self.new.uids ≡ remove self.old.uids place }
         ensures names { self.new.names ≡ remove self.old.names place }
+        ensures uid_room { self.old.uid_room ≤ self.new.uid_room }
+        ensures name_room { self.old.name_room ≤ self.new.name_room }
     {
         let _uid = self.uids.shift_remove_index(place);
         let _name = self.names.shift_remove_index(place);

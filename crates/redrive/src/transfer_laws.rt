@@ -30,8 +30,8 @@ pub fn queues_stand_for_their_whole_journals()
 {}
 
 /// A queue accepts a transfer once: whatever the steps are, and wherever memory runs out, no journal
-/// of a queue that is there or was deleted has two entries that accept the same message of the same
-/// source: no whole journal, nor one of which a checkpoint is the first entry.
+/// of a queue that is there or was deleted accepts the same message of the same source twice. [whole] is of
+/// whole journals, [kept] of those that are there, which may begin with a checkpoint.
 pub fn transfers_are_accepted_once()
     ensures whole { (config : Configuration) (at : ℕ) (steps : List HistoryStep) (answers : List Answer)
         → AreHistoryAnswers (first_history config at) steps answers
@@ -51,11 +51,11 @@ pub fn each_departure_has_its_fate()
         → EachHasItsFate (whole_after_steps (first_history config at) steps answers) }
 {}
 
-/// Each message is in one place at most: live in one queue under one number, or in transit from one, as whole
-/// journals say, and as those do of which a checkpoint is the first entry. The premise, for this law alone, is
-/// that no queue is deleted while it relays a message: while the transfer by which the message came there is
-/// not confirmed at its source, although a next queue has accepted it from there. The source would take the
-/// message back, since it cannot know.
+/// Each message is in one place at most: live in one queue under one number, or in transit from one. [whole]
+/// reads whole journals, [kept] those that are there, which may begin with a checkpoint. The premise, for this
+/// law alone and read off whole journals, is that no queue is deleted while it relays a message: while the
+/// transfer by which the message came there is not confirmed at its source, although a next queue has accepted
+/// it from there. The source would take the message back, since it cannot know.
 pub fn each_message_has_one_place()
     ensures whole { (config : Configuration) (at : ℕ) (steps : List HistoryStep) (answers : List Answer)
         → AreHistoryAnswers (first_history config at) steps answers

@@ -135,7 +135,7 @@ module _ (w : World) (at : ℕ) where
       (found-all bytes_eq (λ k. (bytes_eq-Decides k k).1 refl) (λ (q : QueueHistory). q.name) w.queues h.names)
       (found-all nat_eq (λ k. nat_eq_equiv.refl k) (λ (q : QueueHistory). q.uid) w.queues h.uids))) i d l
 
--- where a value is there, want of memory is the only fault
+-- where a value is there, lack of memory is the only fault
 pub only-memory : {T : Type 0} (fault : Fault) (wanted : Result T Fault) (x : T) → Meets {T = T} (Err fault) wanted → wanted ≡ Ok x → fault ≡ OutOfMemory
 only-memory {T} fault wanted x meets is =
     elim (memory_or_other {T = T} (Err fault)) [

@@ -5,7 +5,7 @@ use Rattle.message.specs.declared.fault.Fault.{Fault}
 use Rattle.message.specs.declared.fault.Fault.TheVariants as faults
 use Rattle.message.specs.Fault.{is_out_of_memory, Meets}
 
--- an answer is for want of memory, or another
+-- an answer is for lack of memory, or another
 pub memory_or_other : {T : Type 0} (answer : Result T Fault) → (answer ≡ Err faults.OutOfMemory) ⊎ (is_out_of_memory answer ≡ false)
 memory_or_other (Ok x) = inr refl
 memory_or_other (Err faults.QueueDoesNotExist) = inr refl

@@ -6,7 +6,7 @@ use Rattle.sqs_replay.specs.declared.device.Device.{Device}
 abbrev pub device_inner : {T : Type 0} → Device T → T
 device_inner device = device.inner
 
--- how often it has failed, but for want of memory
+-- how often it has failed, but for lack of memory
 abbrev pub device_failures : {T : Type 0} → Device T → ℕ
 device_failures device = device.failures
 

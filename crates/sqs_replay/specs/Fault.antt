@@ -25,12 +25,12 @@ abbrev pub is_write_fault : {T : Type 0} → Result T ReplayFault → Bool
 is_write_fault (Err Write) = true
 is_write_fault _ = false
 
--- whether a run ended for want of memory
+-- whether a run ended for lack of memory
 abbrev pub is_memory_fault : {T : Type 0} → Result T ReplayFault → Bool
 is_memory_fault (Err OutOfMemory) = true
 is_memory_fault _ = false
 
--- which fault an error of a kind is: want of memory, or the one given
+-- which fault an error of a kind is: lack of memory, or the one given
 abbrev pub fault_of : ErrorKind → ReplayFault → ReplayFault
 fault_of kinds.OutOfMemory fault = OutOfMemory
 fault_of _ fault = fault

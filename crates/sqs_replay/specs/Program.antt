@@ -33,7 +33,7 @@ arguments_among text asking (program ∷ []) = Ok (wanted.Run None)
 arguments_among text asking (program ∷ path ∷ []) = wanted_of (asking path) (option_of (text path))
 arguments_among text asking (program ∷ path ∷ more ∷ rest) = Err Usage
 
--- why arguments could not be read: for want of memory, or since one is no text
+-- why arguments could not be read: for lack of memory, or since one is no text
 abbrev pub refusal_of_arguments : ErrorKind → Refusal
 refusal_of_arguments kinds.OutOfMemory = Replay faults.OutOfMemory
 refusal_of_arguments _ = Usage

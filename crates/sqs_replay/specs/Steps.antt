@@ -59,14 +59,14 @@ AskNoDeletion (line ∷ lines) = (asks_deletion (asked_of line) ≡ false) × As
 abbrev pub everything_after : (config : Configuration) (new : World) → Course (new_world config 0) new → AllQueues
 everything_after config new course = whole_after_steps (first_history config 0) (map Own course.steps) course.answers
 
--- the same with the journals that are there, of which a checkpoint may be the first entry; its registry is the one that the steps leave
-abbrev pub all_after : (config : Configuration) (new : World) → Course (new_world config 0) new → AllQueues
-all_after config new course = history_after (first_history config 0) course.steps course.answers
+-- the same with the journals that are there, which may begin with a checkpoint
+abbrev pub kept_after : (config : Configuration) (new : World) → Course (new_world config 0) new → AllQueues
+kept_after config new course = history_after (first_history config 0) course.steps course.answers
 
--- no dead letter is accepted twice, each has its fate, and each message is in one place
+-- no dead letter is accepted twice, each has its fate, and each message is in one place, by whole journals; the first and the last also by those that are there
 pub record KeepsDeadLetters (config : Configuration) (new : World) (course : Course (new_world config 0) new) : Type 0 where
   pub once : EachAcceptedOnce (everything_after config new course)
   pub fates : EachHasItsFate (everything_after config new course)
   pub places : NoRelayDeleted (first_history config 0) (map Own course.steps) course.answers → EachHasOnePlace (everything_after config new course)
-  pub kept_once : EachAcceptedOnce (all_after config new course)
-  pub kept_places : NoRelayDeleted (first_history config 0) (map Own course.steps) course.answers → EachHasOnePlace (all_after config new course)
+  pub kept_once : EachAcceptedOnce (kept_after config new course)
+  pub kept_places : NoRelayDeleted (first_history config 0) (map Own course.steps) course.answers → EachHasOnePlace (kept_after config new course)

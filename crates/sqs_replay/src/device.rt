@@ -15,7 +15,7 @@ pub trait Inlet {
     /// The bytes still to come, where they are known.
     ghost left: { Self → Option (List ℕ) };
 
-    /// How often a read has failed, but for want of memory. This count and the next two stop at
+    /// How often a read has failed, but for lack of memory. This count and the next two stop at
     /// 2^64 - 1.
     ghost failures: { Self → ℕ };
 
@@ -42,7 +42,7 @@ pub trait Outlet {
     /// The bytes that it has taken, where they are known.
     ghost taken: { Self → Option (List ℕ) };
 
-    /// How often a write has failed, but for want of memory. This count and the next stop at
+    /// How often a write has failed, but for lack of memory. This count and the next stop at
     /// 2^64 - 1.
     ghost failures: { Self → ℕ };
 
@@ -100,7 +100,7 @@ impl<T> Device<T> {
         self.inner
     }
 
-    /// How often it has failed, but for want of memory. The count stops at 2^64 - 1.
+    /// How often it has failed, but for lack of memory. The count stops at 2^64 - 1.
     pub fn failures(&self) -> u64
         ensures { result ≡ device_failures self.now }
     {
@@ -184,7 +184,7 @@ impl<W: io::Write> Outlet for Device<W> {
     }
 }
 
-/// The fault that an error of a device is: want of memory, or the one given.
+/// The fault that an error of a device is: lack of memory, or the one given.
 pub(crate) fn fault_of(error: &io::Error, fault: ReplayFault) -> ReplayFault
     ensures exact { result ≡ fault_of (error_kind error.now) fault }
     ensures either { (result ≡ fault) ⊎ (result ≡ ReplayFault.OutOfMemory) }

@@ -14,7 +14,7 @@ ghost use Rattle.sqs_replay.specs.Cutting.{lines_of};
 ghost use Rattle.sqs_replay.specs.Moves.{WasRefused};
 ghost use Rattle.sqs_replay.specs.Replay.{replay_output};
 ghost use Rattle.sqs_replay.specs.Served.{asked_of, asked_served, most_commands, played, queue_of_asked, steps_served, world_of_line};
-ghost use Rattle.sqs_replay.specs.Steps.{AskNoDeletion, Course, DeleteNone, IsOutputOf, KeepsDeadLetters, all_after, asks_deletion, everything_after};
+ghost use Rattle.sqs_replay.specs.Steps.{AskNoDeletion, Course, DeleteNone, IsOutputOf, KeepsDeadLetters, kept_after, asks_deletion, everything_after};
 
 use redrive::{
     each_departure_has_its_fate, each_message_has_one_place, own_steps_are_history_steps,
@@ -38,8 +38,8 @@ pub fn outputs_are_of_steps()
 {}
 
 /// Whatever the lines are: no dead letter is accepted twice, each departure has its fate, and each message is in one place
-/// at most, unless a queue was deleted while it relayed a message. All three are of whole journals; the first and the last are
-/// also of the journals that the registry then has, of which a checkpoint may be the first entry.
+/// at most, unless a queue was deleted while it relayed a message. All three hold of whole journals, the first and the last
+/// also of those that are there, which may begin with a checkpoint.
 pub fn lines_keep_dead_letters()
     ensures { (config : Configuration) (new : World) (course : Course (new_world config 0) new) → KeepsDeadLetters config new course }
 {
@@ -66,15 +66,16 @@ pub fn steps_come_to_their_end()
         → played most w uid at step ≡ steps_served w uid at step }
 {}
 
-/// Behind lines none of which asks to delete a queue each message is in one place at most, and behind any steps none of which
-/// deletes one: as whole journals say, and the journals that are there.
+/// After steps none of which deletes a queue [courses], and after lines none of which asks for it [lines], each message is in
+/// one place at most, by whole journals and by those that are there.
 pub fn lines_without_deletions_keep_one_place()
     ensures courses { (config : Configuration) (new : World) (course : Course (new_world config 0) new) → DeleteNone course.steps
-        → EachHasOnePlace (everything_after config new course) × EachHasOnePlace (all_after config new course) }
+        → EachHasOnePlace (everything_after config new course) × EachHasOnePlace (kept_after config new course) }
     ensures lines { (config : Configuration) (lines : List (List ℕ)) → AreConfigured config.queues → AskNoDeletion lines
         → (course : Course (new_world config 0) (state_after world_of_line (new_world config 0) lines))
+        × DeleteNone course.steps
         × EachHasOnePlace (everything_after config (state_after world_of_line (new_world config 0) lines) course)
-        × EachHasOnePlace (all_after config (state_after world_of_line (new_world config 0) lines) course) }
+        × EachHasOnePlace (kept_after config (state_after world_of_line (new_world config 0) lines) course) }
 {
     lines_keep_dead_letters();
 }

@@ -28,7 +28,7 @@ fn move_first(
     house.move_one(alloc, source, at, ticks)
 }
 
-/// Whether another parcel is tried after an answer. Want of memory is told on.
+/// Whether another parcel is tried after an answer. Lack of memory is told on.
 fn goes_on(answer: Result<Moved, Fault>) -> Result<bool, Fault>
     ensures known { OnOk result (result ≡ Ok (goes_on answer)) }
     ensures memory { IfErr result (λ fault. (fault ≡ OutOfMemory) × (answer ≡ Err OutOfMemory)) }

@@ -29,7 +29,7 @@ pub(crate) fn serve_command(
     house.step(alloc, uid, at, command, ticks)
 }
 
-/// Does a command in the queue of a uid, and tells what became of it. Only want of memory is a fault
+/// Does a command in the queue of a uid, and tells what became of it. Only lack of memory is a fault
 /// of the whole.
 fn perform(
     alloc: Global,

@@ -82,7 +82,7 @@ environment_of (Err refusal) statistics_port level = Err refusal
 abbrev pub environment_among : Result (List ℕ) VarError → Result (List ℕ) VarError → Result (List ℕ) VarError → Result Environment Refusal
 environment_among port statistics_port log = environment_of (port_among Requests 9324 port) (port_among Statistics 9325 statistics_port) (level_among log)
 
--- why arguments could not be read: for want of memory, or since one is no text
+-- why arguments could not be read: for lack of memory, or since one is no text
 abbrev pub refusal_of_arguments : ErrorKind → Refusal
 refusal_of_arguments kinds.OutOfMemory = OutOfMemory
 refusal_of_arguments kind = Usage
@@ -92,7 +92,7 @@ abbrev pub refusal_of_file : ErrorKind → Refusal
 refusal_of_file kinds.OutOfMemory = OutOfMemory
 refusal_of_file kind = Read
 
--- why nothing can be served: for want of memory, or since the system refused
+-- why nothing can be served: for lack of memory, or since the system refused
 abbrev pub refusal_of_system : ErrorKind → Refusal
 refusal_of_system kinds.OutOfMemory = OutOfMemory
 refusal_of_system kind = Listen

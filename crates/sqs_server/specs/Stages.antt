@@ -71,7 +71,7 @@ use Rattle.sqs_server.specs.Times.{wait_limit}
 
 -- ---- what a client is sent
 
--- a body that did not come whole: one that is too long is denied, want of memory is refused, and where the connection failed nothing is sent
+-- a body that did not come whole: one that is too long is denied, lack of memory is refused, and where the connection failed nothing is sent
 abbrev pub SentOfError : LimitedError Error → Result Sent Error → Type 0
 SentOfError limits.LengthLimit sent = sent ≡ Ok (denied BodyTooLarge)
 SentOfError (limits.Body error) sent =
@@ -118,7 +118,7 @@ goes_by_mail command seconds = nat_lt 0 seconds || is_for_actor command
 abbrev pub target_in : Parts → Option (List ℕ)
 target_in head = option_map (λ value. value.bytes) (get head.headers (codes "x-amz-target"))
 
--- what may come of a body that is collected: the data of all its frames under its limit, or the first error, or want of memory
+-- what may come of a body that is collected: the data of all its frames under its limit, or the first error, or lack of memory
 abbrev pub MayCollect : Collect (Limited (Incoming TcpStream)) → Result Collected (LimitedError Error) → Type 0
 MayCollect body given =
     IsSomeAnd body.collected (λ held.
@@ -304,7 +304,7 @@ module _ {R : Type 0} (port : ℕ) where
   Begun (tasks.Sources name) at next = TellsSources next
   Begun (tasks.Ask name step) at next = Opens name (λ queue. next ≡ On (stages.Going queue.uid (Some queue) at step)) (IsTurnedAwayWith step) next
 
-  -- A request is judged by its head and these bytes, and begins with its task at one moment; or it is refused. Want of memory may come in the place of
+  -- A request is judged by its head and these bytes, and begins with its task at one moment; or it is refused. Lack of memory may come in the place of
   -- what the bytes ask.
   abbrev pub IsJudged : Parts → List ℕ → Next R → Type 0
   IsJudged head bytes next =

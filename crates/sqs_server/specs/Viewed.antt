@@ -25,7 +25,7 @@ use Rattle.tokio.specs.declared.net.stream.TcpStream.{TcpStream}
 use Rattle.sqs_server.specs.Head.{body_limit, is_foreign}
 use Rattle.sqs_server.specs.Sent.{HoldsBody}
 
--- want of memory
+-- lack of memory
 abbrev pub no_memory : Told
 no_memory = as_json out_of_memory
 

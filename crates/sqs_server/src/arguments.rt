@@ -224,7 +224,7 @@ fn refusal_of_file(error: &io::Error) -> Refusal
     }
 }
 
-/// What is said of a file that could not be read: which and why, but for want of memory, of which one line is enough.
+/// What is said of a file that could not be read: which and why, but for lack of memory, of which one line is enough.
 fn unread(alloc: Global, path: &str, error: &io::Error) -> Ending
     ensures refusal { result.refusal ≡ refusal_of_file (error_kind error.now) }
     ensures short { result.refusal ≡ Refusal.OutOfMemory → result.more ≡ None }

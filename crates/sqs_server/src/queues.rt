@@ -292,7 +292,7 @@ fn start_queue<R: Wait + Threads + Clock + Copy + Send + Drop + 'static>(
     start_actor(rt, alloc, actor, mails, Arc::try_clone(queues)?)?;
     queues.show(rt, Shown::new(uid, name, reader, opened))?;
     let queue = Served::new(uid, name, desk, pass, mailbox, duties);
-    queues.serve(rt, queue, target)
+    queues.serve(rt, alloc, queue, target)
 }
 
 /// Makes a queue at a moment. `QueueNameExists` where its name is there, `OverLimit` where there are as

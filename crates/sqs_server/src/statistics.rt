@@ -125,7 +125,7 @@ fn response_with(
     response
 }
 
-/// The response for want of memory.
+/// The response for lack of memory.
 fn response_without_memory(alloc: Global) -> Response<Full<Bytes>>
     ensures { Sends no_memory result }
 {
@@ -133,7 +133,7 @@ fn response_without_memory(alloc: Global) -> Response<Full<Bytes>>
     response_with(alloc, 500, "application/json", bytes)
 }
 
-/// The response that sends what is told. A text that there is no memory to send is want of memory.
+/// The response that sends what is told. A text that there is no memory to send is lack of memory.
 fn response_of(alloc: Global, told: Told) -> Response<Full<Bytes>>
     ensures { Sends (told_by told) result ⊎ (Sends no_memory result × (is_written told.text ≡ true)) }
 {

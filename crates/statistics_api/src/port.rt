@@ -94,7 +94,7 @@ fn for_prometheus(text: String) -> Response
     }
 }
 
-/// Want of memory, which is told without any.
+/// Lack of memory, which is told without any.
 pub fn out_of_memory() -> Response
     ensures told { told_by result ≡ as_json out_of_memory }
     ensures constant { is_written result.text ≡ false }
@@ -102,7 +102,7 @@ pub fn out_of_memory() -> Response
     as_json(replies::out_of_memory())
 }
 
-/// The metrics, or want of memory.
+/// The metrics, or lack of memory.
 fn metrics(alloc: Global, sheets: &[Sheet], served: &Served) -> Response
     ensures told { (told_by result ≡ metrics sheets.now (served_text served.now)) ⊎ (told_by result ≡ as_json out_of_memory) }
     ensures constant { (result.status ≡ 200) ⊎ (is_written result.text ≡ false) }
@@ -113,7 +113,7 @@ fn metrics(alloc: Global, sheets: &[Sheet], served: &Served) -> Response
     }
 }
 
-/// The metrics, where the method is `GET`, or want of memory.
+/// The metrics, where the method is `GET`, or lack of memory.
 fn metrics_to(alloc: Global, method: &str, sheets: &[Sheet], served: &Served) -> Response
     ensures told { (told_by result ≡ if_get method.now (metrics sheets.now (served_text served.now))) ⊎ (told_by result ≡ as_json out_of_memory) }
     ensures exact { (if_get method.now (metrics sheets.now (served_text served.now))).0 ≢ 200 → told_by result ≡ if_get method.now (metrics sheets.now (served_text served.now)) }
@@ -128,7 +128,7 @@ fn metrics_to(alloc: Global, method: &str, sheets: &[Sheet], served: &Served) ->
 /// What the port of the statistics answers (this project's own): to `GET /` the page, and to `GET /health` that the
 /// server is there, which take no memory; to `GET /metrics` the numbers of all queues and of the server for
 /// Prometheus; to every other path what [`answer`] says. Another method on these three paths is 405. 500 may stand in
-/// the place of a 200 for want of memory, but not of a constant's, and of no other answer.
+/// the place of a 200 for lack of memory, but not of a constant's, and of no other answer.
 pub fn respond(
     alloc: Global,
     method: &str,

@@ -31,7 +31,7 @@ pub(crate) fn method_not_allowed() -> (u16, Text)
     (405, Text::Constant(r#"{"message":"method not allowed"}"#))
 }
 
-/// The text cannot be written for want of memory.
+/// The text cannot be written for lack of memory.
 pub(crate) fn out_of_memory() -> (u16, Text)
     ensures answer { shown result ≡ out_of_memory }
     ensures constant { is_written result.1 ≡ false }
@@ -76,7 +76,7 @@ fn told(alloc: Global, route: Route, name: &str, sheets: &[Sheet]) -> Result<(u1
     }
 }
 
-/// The router of all paths, or want of memory.
+/// The router of all paths, or lack of memory.
 fn router(alloc: Global) -> Result<Router<Route>, Fault>
     ensures { IfOk result (λ router. router ≡ router_rows) }
 {
@@ -101,7 +101,7 @@ fn answer_in_memory(
     }
 }
 
-/// What a path tells where it takes no memory, and want of memory where it takes some.
+/// What a path tells where it takes no memory, and lack of memory where it takes some.
 fn told_without_memory(route: Route, name: &str, sheets: &[Sheet]) -> (u16, Text)
     ensures answer { (shown result ≡ told route name.now sheets.now) ⊎ (shown result ≡ out_of_memory) }
     ensures exact { (told route name.now sheets.now).0 ≢ 200 → shown result ≡ told route name.now sheets.now }
@@ -113,7 +113,7 @@ fn told_without_memory(route: Route, name: &str, sheets: &[Sheet]) -> (u16, Text
     }
 }
 
-/// The answer where it takes no memory, and want of memory where it takes some.
+/// The answer where it takes no memory, and lack of memory where it takes some.
 fn answer_without_memory(method: &str, path: &str, sheets: &[Sheet]) -> (u16, Text)
     ensures answer { (shown result ≡ answer_of method.now path.now sheets.now) ⊎ (shown result ≡ out_of_memory) }
     ensures exact { (answer_of method.now path.now sheets.now).0 ≢ 200 → shown result ≡ answer_of method.now path.now sheets.now }
@@ -129,7 +129,7 @@ fn answer_without_memory(method: &str, path: &str, sheets: &[Sheet]) -> (u16, Te
 /// The answer to a request for statistics (this project's own resource): a status and a text. There
 /// are four paths, under `/statistics/queues`; every other is 404, and so is a queue that is not among
 /// the sheets. A method other than `GET` on one of these paths is 405, whatever queue it names. 500,
-/// which takes no memory itself, may stand in the place of a 200 for want of memory, and of no other
+/// which takes no memory itself, may stand in the place of a 200 for lack of memory, and of no other
 /// answer. The sheets come in any order; of two of one name the first is found.
 pub fn answer(alloc: Global, method: &str, path: &str, sheets: &[Sheet]) -> (u16, Text)
     ensures answer { (shown result ≡ answer_of method.now path.now sheets.now) ⊎ (shown result ≡ out_of_memory) }

@@ -85,7 +85,7 @@ fn look_at_attributes(alloc: Global, before: &str, object: &Value) -> Looked {
     Ok(())
 }
 
-/// The answer of what is refused for want of memory alone.
+/// The answer of what is refused for lack of memory alone.
 fn remembered<T: Drop>(answer: Result<T, Fault>) -> Result<T, AllocError> {
     match answer {
         Ok(value) => Ok(value),

@@ -149,7 +149,7 @@ impl QueueState {
 
     /// What a parcel from this origin is answered at the queue's clock, where that takes no memory: what
     /// refuses it, or `Again`. It is none where the parcel is one to accept, or a checkpoint comes first. So whoever has the parcel
-    /// still to make, which takes memory, can know before whether this queue wants memory for its answer.
+    /// still to make, which takes memory, can know before whether this queue needs memory for its answer.
     pub fn arrival_answer(&self, origin: &Origin) -> Option<Result<Arrival, Fault>>
         ensures { (parcel : Parcel) → parcel.origin ≡ origin.now
             → option_map (λ answer. as_reply Reply.Arrived answer) result ≡ reply_without_memory (outcome_of self.now (Command.Arrive parcel)) }
@@ -308,7 +308,7 @@ impl QueueState {
         self.accepted.contains(origin.uid, origin.number)
     }
 
-    /// Whether the message of a number has left, and its transfer is not confirmed.
+    /// Whether the message of a number waits for a dead-letter queue.
     fn is_pending(&self, number: u64) -> bool
         ensures { result ≡ is_pending self.now number }
     {

@@ -121,7 +121,7 @@ impl QueueState {
         Ok(Some(mem::replace(&mut self.journal, journal)))
     }
 
-    /// Gives the answer of a command. Where that is want of memory, the journal that was replaced before it comes back.
+    /// Gives the answer of a command. Where that is lack of memory, the journal that was replaced before it comes back.
     pub(super) fn put_back<T>(
         &mut self,
         replaced: Option<Journal>,
@@ -140,7 +140,7 @@ impl QueueState {
     }
 }
 
-/// Whether a command is one that a closed queue or a full journal refuses.
+/// Whether a full journal refuses a command: a checkpoint comes only before such a one.
 fn wants_open(command: &Command) -> bool
     ensures { result ≡ wants_open command.now }
 {

@@ -1,6 +1,6 @@
 -- The laws of dead letters of what a registry has: of journals of which a checkpoint may be the first entry. They follow from those of the whole journals that these stand for.
-use Rattle.std.proofs.Common.{◌≡◌, ℕ, ◌≤◌, Bool, true, false, cond, List, Option, Some, None, refl, sym, ap, subst, ◌∙◌, arith}
-use Rattle.std.specs.Prelude.{option_and_then}
+use Rattle.std.proofs.Common.{◌≡◌, ℕ, ◌≤◌, Bool, true, false, ◌&&◌, cond, List, Option, Some, None, refl, sym, ap, subst, ◌∙◌}
+use Rattle.std.specs.Prelude.{count_by, ◌==◌, option_and_then}
 use Rattle.std.specs.Option.{option_map, option_map_or}
 use Rattle.std.specs.List.{find}
 use Rattle.std.proofs.lemmas.Option.{none-some, same_Some}
@@ -27,8 +27,7 @@ use Rattle.redrive.specs.WholeSteps.{whole_after_steps}
 use Rattle.redrive.specs.WorldRun.{Answer}
 use Rattle.redrive.specs.Places.{first_history, acceptance_count, EachAcceptedOnce, IsNumbered, IsStanding, IsInTransit, Place, Standing, InTransit, IsPlaceOf, EachHasOnePlace, NoRelayDeleted}
 use Rattle.redrive.proofs.transfers.Journals.{Lines}
-use Rattle.redrive.proofs.transfers.Laws.{keys_once-there, each_has_one_place}
-use Rattle.redrive.proofs.transfers.Once.{key_count, accepted-counted}
+use Rattle.redrive.proofs.transfers.Laws.{accepted_once, each_has_one_place}
 use Rattle.redrive.proofs.transfers.Twins.{FoundAlike, AreTwins, uid_alike, ever_alike, was_accepted_alike, history_twins}
 
 -- what stands behind an answer
@@ -103,16 +102,14 @@ lines_of None lines e = absurd (none-some lines e)
 lines_of (Some q) lines e = (q, refl, same_Some q.lines lines e)
 
 module _ (all whole : AllQueues) (twins : AreTwins all whole) where
-  accepted_too : ((uid source number : ℕ) (lines : Lines) → journal_of whole uid ≡ Some lines → key_count (accepted_keys lines) source number ≤ 1) → EachAcceptedOnce all
+  accepted_too : EachAcceptedOnce whole → EachAcceptedOnce all
   accepted_too once uid source number lines is =
       let own = lines_of (queue_ever all uid) lines is in
       let other = found_too (queue_ever all uid) (queue_ever whole uid) own.0 (ever_alike all whole twins uid) own.1 in
       let w : QueueHistory = other.0 in
-      let few : key_count (accepted_keys w.lines) source number ≤ 1 = once uid source number w.lines (ap (option_map (λ (q : QueueHistory). q.lines)) other.1) in
+      let few : acceptance_count w.lines source number ≤ 1 = once uid source number w.lines (ap (option_map (λ (q : QueueHistory). q.lines)) other.1) in
       let keys : accepted_keys w.lines ≡ accepted_keys lines = sym (ap (λ (s : Summary). s.accepted) other.2.stands.summary) ∙ ap (λ (ls : Lines). accepted_keys ls) own.2 in
-      let here : key_count (accepted_keys lines) source number ≤ 1 = subst (λ (ks : List TransferKey). key_count ks source number ≤ 1) keys few in
-      let counted = accepted-counted source number lines in
-      omega arith
+      subst (λ (ks : List TransferKey). count_by (λ key. (key.uid == source) && (key.number == number)) ks ≤ 1) keys few
 
   module _ (id : MessageId) (uid n : ℕ) where
     module _ (q : QueueHistory) (m : Message) (here : IsNumbered all id uid n q m) where
@@ -157,7 +154,7 @@ pub accepted_once_there : (config : Configuration) (at : ℕ) (steps : List Hist
     → EachAcceptedOnce (after_history_steps (first_history config at) steps answers)
 accepted_once_there config at steps answers are =
     let t = history_twins config at steps answers are in
-    accepted_too (after_history_steps (first_history config at) steps answers) (whole_after_steps (first_history config at) steps answers) t.twins (keys_once-there config at steps answers t.ending)
+    accepted_too (after_history_steps (first_history config at) steps answers) (whole_after_steps (first_history config at) steps answers) t.twins (accepted_once config at steps answers t.ending)
 
 pub one_place_there : (config : Configuration) (at : ℕ) (steps : List HistoryStep) (answers : List Answer) → AreHistoryAnswers (first_history config at) steps answers
     → NoRelayDeleted (first_history config at) steps answers → EachHasOnePlace (after_history_steps (first_history config at) steps answers)

@@ -11,7 +11,6 @@ use Rattle.queue_core.specs.declared.facts.Status.{Status}
 use Rattle.queue_core.specs.declared.facts.Status.TheVariants.{Present, Waiting}
 use Rattle.queue_core.specs.declared.facts.Transfer.{Transfer}
 use Rattle.queue_core.specs.Messages.{course_of, has_accepted}
-use Rattle.queue_core.specs.Accepted.{accepted_keys}
 use Rattle.queue_core.specs.States.{message_numbered}
 use Rattle.queue_core.specs.Queue.{QueueHistory}
 use Rattle.redrive.specs.declared.steps.HouseStep.{HouseStep}
@@ -28,7 +27,7 @@ use Rattle.redrive.proofs.transfers.Views.{View, view_of, Change}
 use Rattle.redrive.proofs.transfers.Worlds.{IsEnding, uid_of_open, lines_there, open_there}
 use Rattle.redrive.proofs.transfers.Fates.{Fate, AreFates, accepted_from, HasFates, fates-opened, fates-after}
 use Rattle.redrive.proofs.transfers.Holders.{IsSound, sound-opened, sound-after, Holds, Holder, HasOneHolder, Relays, one-opened, one-after}
-use Rattle.redrive.proofs.transfers.Once.{key_count, accepted-counted, IsOnce, once-opened, once-after}
+use Rattle.redrive.proofs.transfers.Once.{IsOnce, once-opened, once-after}
 use Rattle.redrive.proofs.transfers.Runs.{AreEnding, Begins, begins, through, through_spared}
 
 journal-lines : (all : AllQueues) (uid : ℕ) (lines : Lines) → journal_of all uid ≡ Some lines → (view_of all).lines uid ≡ lines
@@ -41,18 +40,11 @@ keys_once config at steps answers are =
     let b : Begins IsOnce (new_world config at) = begins IsOnce (λ v v' u e g o h. once-opened v v' u e g o h) (λ u s n. omega arith) config at in
     through IsOnce (λ all step answer change h. once-after _ _ change h) (first_history config at) steps answers are b.fresh b.so
 
-pub keys_once-there : (config : Configuration) (at : ℕ) (steps : List HistoryStep) (answers : List Answer) → AreEnding (first_history config at) steps answers
-    → (uid source number : ℕ) (lines : Lines) → journal_of (whole_after_steps (first_history config at) steps answers) uid ≡ Some lines → key_count (accepted_keys lines) source number ≤ 1
-keys_once-there config at steps answers are uid source number lines is =
-    let all : AllQueues = whole_after_steps (first_history config at) steps answers in
-    subst (λ (ls : Lines). key_count (accepted_keys ls) source number ≤ 1) (journal-lines all uid lines is) (keys_once config at steps answers are uid source number)
-
 pub accepted_once : (config : Configuration) (at : ℕ) (steps : List HistoryStep) (answers : List Answer) → AreEnding (first_history config at) steps answers
     → EachAcceptedOnce (whole_after_steps (first_history config at) steps answers)
 accepted_once config at steps answers are uid source number lines is =
-    let keys = keys_once-there config at steps answers are uid source number lines is in
-    let few = accepted-counted source number lines in
-    omega arith
+    let all : AllQueues = whole_after_steps (first_history config at) steps answers in
+    subst (λ (ls : Lines). acceptance_count ls source number ≤ 1) (journal-lines all uid lines is) (keys_once config at steps answers are uid source number)
 
 accepted-lines : (o : Option Lines) (u n : ℕ) → has_accepted (unwrap_or o []) u n ≡ true → option_map_or (λ lines. has_accepted lines u n) o false ≡ true
 accepted-lines None u n h = h

@@ -14,7 +14,6 @@ use Rattle.journal.specs.declared.entry.Event.TheVariants.{Opened, Arrived, Clos
 use Rattle.queue_core.specs.Messages.{effect_of, key_of, accepts, has_accepted}
 use Rattle.queue_core.specs.Accepted.{accepted_keys}
 use Rattle.queue_core.proofs.PushLemmas.{or_false}
-use Rattle.redrive.specs.Places.{acceptance_count}
 use Rattle.redrive.proofs.transfers.Journals.{Line, Lines, more}
 use Rattle.redrive.proofs.transfers.Views.{View, IsStep, Grows, IsOpened, Change, Stays, Steps, Opens, Closes, by_growth}
 
@@ -22,7 +21,7 @@ abbrev pub is_key : ℕ → ℕ → TransferKey → Bool
 is_key s n key = (key.uid == s) && (key.number == n)
 
 -- how often the transfer is among these
-abbrev pub key_count : List TransferKey → ℕ → ℕ → ℕ
+abbrev key_count : List TransferKey → ℕ → ℕ → ℕ
 key_count keys s n = count_by (is_key s n) keys
 
 none-counted : (p : TransferKey → Bool) (xs : List TransferKey) → list_any p xs ≡ false → count_by p xs ≡ 0
@@ -30,23 +29,6 @@ none-counted p [] h = refl
 none-counted p (x ∷ xs) h =
     let k = or_parts (p x) (list_any p xs) h in
     sum_by-cons (λ y. cond (p y) 1 0) x xs ∙ (ap (λ b. cond b 1 0 + count_by p xs) k.0 ∙ (let rest : count_by p xs ≡ 0 = none-counted p xs k.1 in omega arith))
-
--- one that is among them is counted
-one-counted : (p : TransferKey → Bool) (xs : List TransferKey) → cond {A = ℕ} (list_any p xs) 1 0 ≤ count_by p xs
-one-counted p [] = omega arith
-one-counted p (x ∷ xs) = by_first (p x) refl (one-counted p xs)
-  where
-    by_first : (b : Bool) → p x ≡ b → cond {A = ℕ} (list_any p xs) 1 0 ≤ count_by p xs → cond {A = ℕ} (list_any p (x ∷ xs)) 1 0 ≤ count_by p (x ∷ xs)
-    by_first true e rest =
-        let first : cond {A = ℕ} (p x) 1 0 ≡ 1 = ap (λ b. cond {A = ℕ} b 1 0) e in
-        let any : cond {A = ℕ} (list_any p (x ∷ xs)) 1 0 ≡ 1 = ap (λ b. cond {A = ℕ} (b || list_any p xs) 1 0) e in
-        let count : count_by p (x ∷ xs) ≡ cond {A = ℕ} (p x) 1 0 + count_by p xs = sum_by-cons (λ y. cond (p y) 1 0) x xs in
-        omega arith
-    by_first false e rest =
-        let any : cond {A = ℕ} (list_any p (x ∷ xs)) 1 0 ≡ cond {A = ℕ} (list_any p xs) 1 0 = ap (λ b. cond {A = ℕ} (b || list_any p xs) 1 0) e in
-        let none : cond {A = ℕ} (p x) 1 0 ≡ 0 = ap (λ b. cond {A = ℕ} b 1 0) e in
-        let count : count_by p (x ∷ xs) ≡ cond {A = ℕ} (p x) 1 0 + count_by p xs = sum_by-cons (λ y. cond (p y) 1 0) x xs in
-        omega arith
 
 keys-more : (lines : Lines) (e : Line) → accepted_keys (more lines e) ≡ accepted_keys lines ++ (effect_of e.event).accepted
 keys-more lines e =
@@ -57,17 +39,6 @@ module _ (s n : ℕ) where
   keys-accepted : (lines : Lines) → list_any (is_key s n) (accepted_keys lines) ≡ has_accepted lines s n
   keys-accepted [] = refl
   keys-accepted (e ∷ es) = list_any-append (is_key s n) (effect_of e.event).accepted (accepted_keys es) ∙ ap (λ (b : Bool). accepts s n e.event || b) (keys-accepted es)
-
-  -- no more entries accept it than keys are its own
-  pub accepted-counted : (lines : Lines) → acceptance_count lines s n ≤ key_count (accepted_keys lines) s n
-  accepted-counted [] = omega arith
-  accepted-counted (e ∷ es) =
-      let first = one-counted (is_key s n) (effect_of e.event).accepted in
-      let rest = accepted-counted es in
-      let count : acceptance_count (e ∷ es) s n ≡ cond {A = ℕ} (accepts s n e.event) 1 0 + acceptance_count es s n = sum_by-cons (λ (x : Line). cond (accepts s n x.event) 1 0) e es in
-      let keys : key_count (accepted_keys (e ∷ es)) s n ≡ key_count (effect_of e.event).accepted s n + key_count (accepted_keys es) s n =
-      sum_by-append (λ y. cond (is_key s n y) 1 0) (effect_of e.event).accepted (accepted_keys es) in
-      omega arith
 
 -- the key of each transfer is once at most among all that each journal accepts
 abbrev pub IsOnce : View → Type 0

@@ -50,7 +50,7 @@ impl Lines for Toy {
 }
 
 /// A reader and writer that gives or takes at most so many bytes at once, and so many in all. Asked for
-/// more, it `starves` for want of memory, or `blocks` and takes nothing, or is `unplugged`.
+/// more, it `starves` for lack of memory, or `blocks` and takes nothing, or is `unplugged`.
 #[derive(Drop)]
 struct Flawed<'a> {
     given: &'a [u8],

@@ -19,4 +19,4 @@ returns-clause-lines c = λ config lines are none.
     let here = course false (new_world config 0) left walk in
     let kept = c.lines_keep_dead_letters.ensures config left here in
     let all = spared (first_history config 0) walk.steps walk.answers (walk.quiet refl) in
-    (here, kept.places all, kept.kept_places all)
+    (here, walk.quiet refl, kept.places all, kept.kept_places all)

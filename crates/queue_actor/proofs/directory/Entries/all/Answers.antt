@@ -22,3 +22,15 @@ loop-place-preserved g c =
           ∙ ap (λ (ns : List ℕ). ns ++ other.uid ∷ []) c.loop-place.invariant.uids ∙ ap (λ (n : ℕ). take i uids ++ n ∷ []) (c.in_ok-again.ensures.other.0 ∙ sym at) ∙ sym (take_more uids i 0 long);
       same = map-set_same (λ q. q.uid) xs i now queue (c.again.ensures.same.0 ∙ ap (λ q. q.uid) here) ∙ same;
     }
+
+-- lent once more, it keeps its uid and its name
+pub invariant_of-self : goal.invariant_of-self
+invariant_of-self g c =
+    let i = c.loop-place.place in
+    let xs = c.loop-place.self.served.items in
+    let queue = c.index_mut.result.now in
+    let here : queue ≡ get_or xs i queue = search rules in
+    record {
+      uids = c.loop-place.self.uids ∙ sym (map-set_same (λ q. q.uid) xs i c.again.new.self queue (c.again.ensures.same.0 ∙ ap (λ q. q.uid) here));
+      names = c.loop-place.self.names ∙ sym (map-set_same (λ q. q.name) xs i c.again.new.self queue (c.again.ensures.same.1 ∙ ap (λ q. q.name) here));
+    }

@@ -1,7 +1,19 @@
 use Rattle.std.proofs.Common.{◌==◌, sym, ap, ◌∙◌}
+use Rattle.std.proofs.Math.Seq.{map-set_same}
 use Rattle.std.proofs.lemmas.Bool.{eqb-true}
 use Rattle.std.proofs.lemmas.List.Quantifiers.{position-Some}
 use Rattle.queue_actor.proofs.directory.Entries.find.Goals as goal
+
+-- lent once more, it keeps its uid and its name
+pub invariant_of-self : goal.invariant_of-self
+invariant_of-self g c =
+    let xs = c.args.self.now.served.items in
+    let i = c.in-Some.place in
+    let queue = c.index_mut.result.now in
+    record {
+      uids = c.args.self.now.uids ∙ sym (map-set_same (λ q. q.uid) xs i c.again.new.self queue (c.again.ensures.same.0 ∙ ap (λ q. q.uid) c.index_mut.ensures.value));
+      names = c.args.self.now.names ∙ sym (map-set_same (λ q. q.name) xs i c.again.new.self queue (c.again.ensures.same.1 ∙ ap (λ q. q.name) c.index_mut.ensures.value));
+    }
 
 pub returns-in_ok-again-in-Some-clause-uid : goal.returns-in_ok-again-in-Some-clause-uid
 returns-in_ok-again-in-Some-clause-uid g c =

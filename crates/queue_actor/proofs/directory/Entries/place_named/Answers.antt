@@ -1,5 +1,8 @@
-use Rattle.std.proofs.Common.{sym, ◌∙◌}
+use Rattle.std.proofs.Common.{◌∙◌}
+use Rattle.std.specs.Str.{bytes_eq}
+use Rattle.redrive.proofs.KeyedLemmas.{placed-by}
 use Rattle.queue_actor.proofs.directory.Entries.place_named.Goals as goal
 
-pub returns-in-None-clause-absent : goal.returns-in-None-clause-absent
-returns-in-None-clause-absent g c = λ none. sym c.scanned_place.ensures.first ∙ none
+pub returns : goal.returns
+returns g c =
+    c.place_named.ensures ∙ placed-by (λ q. q.name) (λ n. bytes_eq n c.args.name.now) c.args.self.now.keys.names c.args.self.now.served.items c.args.self.now.names
