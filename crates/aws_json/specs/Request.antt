@@ -149,20 +149,20 @@ batch kind d = do
   Ok (Batch queue entries)
 
 -- the members that an action knows, with their kinds; of a batch, the kind of its entries, whose members have kinds too; and how they are judged
-pub record Row : Type 0 where
+pub record ActionRow : Type 0 where
   pub columns : List Column
   pub entries : Option EntryKind
   pub judge : Data → Result Request Fault
 
 -- the row of an action that has no entries
-abbrev pub single : List Column → (Data → Result Request Fault) → Row
+abbrev pub single : List Column → (Data → Result Request Fault) → ActionRow
 single columns judge = record { columns = columns; entries = None; judge = judge }
 
 abbrev pub url : Column
 url = column (codes "QueueUrl") Text
 
 -- the row of an action
-abbrev pub row : Action → Row
+abbrev pub row : Action → ActionRow
 row actions.CreateQueue = single (column (codes "QueueName") Text ∷ column (codes "Attributes") NamedTexts ∷ []) create_queue
 row actions.SetQueueAttributes = single (url ∷ column (codes "Attributes") NamedTexts ∷ []) set_queue_attributes
 row actions.PurgeQueue = single (url ∷ []) purge_queue
@@ -201,21 +201,21 @@ action_named name =
     else None
 
 -- the row of the action of a name, where it is served
-abbrev pub row_of : List ℕ → Option Row
-row_of name = option_map row (action_named name)
+abbrev pub action_row : List ℕ → Option ActionRow
+action_row name = option_map row (action_named name)
 
 -- whether the members that an action knows have their kinds, those of the entries of a batch among them
-abbrev pub has_kinds : Row → Data → Bool
+abbrev pub has_kinds : ActionRow → Data → Bool
 has_kinds row d = entries_have_kinds row.entries d && have_kinds row.columns d
 
 -- the kinds of all members that are known, at any depth, come before the members one after another
-abbrev pub asked_of_row : Row → Data → Result Request Fault
+abbrev pub asked_of_row : ActionRow → Data → Result Request Fault
 asked_of_row row d = if has_kinds row d then row.judge d else Err SerializationException
 
 -- an action that is not served is refused before the body is looked at
 abbrev pub request_of : List ℕ → List ℕ → Result Request Fault
 request_of action body = do
-  row ← ok_or (row_of action) UnsupportedOperation
+  row ← ok_or (action_row action) UnsupportedOperation
   d ← object_of body
   asked_of_row row d
 

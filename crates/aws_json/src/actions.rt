@@ -5,7 +5,7 @@
 ghost use Rattle.std.specs.Prelude.{◌≡◌, Err, None};
 ghost use Rattle.message.specs.Fault.{Meets};
 ghost use Rattle.serde_json.specs.View.{view};
-ghost use Rattle.aws_json.specs.Request.{row, action_named, has_kinds, asked_of_row, maximum_given, create_queue, set_queue_attributes, purge_queue, delete_queue, get_queue_url, list_queues, list_dead_letter_source_queues, send_message, receive_message, delete_message, change_message_visibility, get_queue_attributes, batch, row_of, request_of, queue_of_body};
+ghost use Rattle.aws_json.specs.Request.{row, action_named, has_kinds, asked_of_row, maximum_given, create_queue, set_queue_attributes, purge_queue, delete_queue, get_queue_url, list_queues, list_dead_letter_source_queues, send_message, receive_message, delete_message, change_message_visibility, get_queue_attributes, batch, action_row, request_of, queue_of_body};
 
 use crate::attribute_names::{asked_attribute_names, asked_names, asked_patterns};
 use crate::batch::{EntryKind, GivenMessage};
@@ -289,7 +289,7 @@ fn asked_of_row(alloc: Global, action: Action, body: &Value) -> Result<Request, 
 /// `UnsupportedOperation`, whatever the body is.
 pub fn parse(alloc: Global, action: &str, body: &[u8]) -> Result<Request, Fault>
     ensures request { Meets result (request_of action.now body.now) }
-    ensures unserved { row_of action.now ≡ None → result ≡ Err Fault.UnsupportedOperation }
+    ensures unserved { action_row action.now ≡ None → result ≡ Err Fault.UnsupportedOperation }
 {
     match action_named(action) {
         Some(action) => asked_of_row(alloc, action, &read_object(alloc, body)?),

@@ -16,7 +16,7 @@ use Rattle.logbook.proofs.word.Word.TheSendSync as word
 use Rattle.logbook.proofs.tokens.Seen.TheSendSync as seen
 use Rattle.board.specs.contracts.numbers.Numbers as numbers
 use Rattle.board.specs.contracts.sheet.Sheet as sheet
-use Rattle.board.specs.contracts.told.Told as told
+use Rattle.board.specs.contracts.told.KnownTurns as told
 use Rattle.board.specs.contracts.reader.Reader as reader
 use Rattle.board.specs.contracts.publisher.Publisher as publisher
 use Rattle.board.specs.contracts.publisher.Publisher.TheInside as inside

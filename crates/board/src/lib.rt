@@ -22,4 +22,4 @@ mod told;
 pub use publisher::{Publisher, board};
 pub use reader::Reader;
 pub use sheet::Sheet;
-pub use told::Told;
+pub use told::KnownTurns;

@@ -1,13 +1,13 @@
 //! The rule of what lies on the board, for the proofs alone: all of it is of one place.
 
-use crate::told::Told;
+use crate::told::KnownTurns;
 use atomic_table::{Join, Split};
 use crossbeam_utils::rule::{Outcome, Protocol};
 
 /// A view is the place of what lies there, or empty yet.
 pub struct OnePlace;
 
-impl Protocol<Told, [u64; 0]> for OnePlace {
+impl Protocol<KnownTurns, [u64; 0]> for OnePlace {
     ghost use Rattle.std.specs.Prelude.{[]};
     ghost use Rattle.board.specs.Rule.{IsOfPlace};
 
@@ -19,7 +19,7 @@ impl Protocol<Told, [u64; 0]> for OnePlace {
 /// A step that looks, or puts something there.
 pub(crate) struct See;
 
-impl Outcome<Told, [u64; 0]> for See {
+impl Outcome<KnownTurns, [u64; 0]> for See {
     ghost use Rattle.board.specs.Rule.{Sees};
 
     ghost then = { Sees };

@@ -13,7 +13,7 @@ use crate::numbers::Numbers;
 use crate::place::{Hear, OnePlace, See, Tell};
 use crate::reader::Reader;
 use crate::sheet::Sheet;
-use crate::told::{Count, Told, open};
+use crate::told::{Count, KnownTurns, open};
 use desk::{Press, Turn};
 use left_right::reader::Reader as Side;
 use left_right::writer::Writer;
@@ -25,7 +25,7 @@ use std::snapshot::Snapshot;
 use std::sync::{Arc, Wait};
 
 /// Two copies of what lies on the board, of which readers take one.
-type Copies = Writer<Told, Told, [u64; 0], OnePlace>;
+type Copies = Writer<KnownTurns, KnownTurns, [u64; 0], OnePlace>;
 
 /// How many readers a board may have, and one more. This project's own choice.
 const READERS: usize = 1 << 32;
@@ -34,7 +34,7 @@ const READERS: usize = 1 << 32;
 /// Contracts see the turns that it printed.
 pub struct Publisher<R: Wait + Drop> {
     count: Count,
-    told: Told,
+    told: KnownTurns,
     copies: Option<Copies>,
     rt: R,
 }
@@ -56,7 +56,7 @@ impl<R: Wait + Drop> Model for Publisher<R> {
 fn new_copies<W: Wait>(
     alloc: Global,
     rt: &W,
-    told: &Told,
+    told: &KnownTurns,
     readers: usize,
 ) -> Result<Copies, AllocError>
     requires { (0 < readers) × (readers < 2 ^ 32) }
@@ -75,7 +75,7 @@ fn new_copies<W: Wait>(
 }
 
 /// Puts turns on the board. Where memory runs out they are let go, and readers see them with the next ones.
-fn put<W: Wait>(rt: &W, copies: Copies, told: Told) -> Copies
+fn put<W: Wait>(rt: &W, copies: Copies, told: KnownTurns) -> Copies
     requires { IsAt (place_of told.book) copies.desk.shown.value (drop copies.behind copies.log.items) (view copies.desk.place) }
     ensures { IsAt (place_of told.book) result.desk.shown.value (drop result.behind result.log.items) (view result.desk.place) }
 {
@@ -102,7 +102,7 @@ fn shared_numbers(
 
 impl<R: Wait + Drop> Publisher<R> {
     /// Puts turns on the board, which are those that were printed.
-    fn put<W: Wait>(&mut self, rt: &W, told: Told)
+    fn put<W: Wait>(&mut self, rt: &W, told: KnownTurns)
         requires { told.book ≡ self.old.book }
         ensures { self.new ≡ self.old }
     {
@@ -117,7 +117,7 @@ impl<R: Wait + Drop> Publisher<R> {
 
     /// Prints a turn. `None` is lack of memory, or that no more turns can be counted: the readers see what
     /// they saw.
-    fn publish<W: Wait>(&mut self, rt: &W, alloc: Global, turn: Turn) -> Option<Told>
+    fn publish<W: Wait>(&mut self, rt: &W, alloc: Global, turn: Turn) -> Option<KnownTurns>
         requires { IsPublicationRecord (self.old.turns ++ turn ∷ []) }
         ensures told { IfSome result (λ told. (told.book ≡ self.old.book) × (told.turns ≡ self.old.turns ++ turn ∷ [])) }
         ensures some { IfSome result (λ told. self.new.turns ≡ self.old.turns ++ turn ∷ []) }
@@ -127,9 +127,9 @@ impl<R: Wait + Drop> Publisher<R> {
         let entry = Snapshot::of(&turn);
         let (mine, shown, answer) = shared_numbers(alloc, turn).ok()?;
         let (seen, count) = self.told.add(&self.count, &entry)?;
-        self.told = Told::of(mine, count, &seen);
-        self.put(rt, Told::of(shown, count, &seen));
-        Some(Told::of(answer, count, &seen))
+        self.told = KnownTurns::of(mine, count, &seen);
+        self.put(rt, KnownTurns::of(shown, count, &seen));
+        Some(KnownTurns::of(answer, count, &seen))
     }
 
     /// A reader of this board. `OutOfMemory` is the only refusal.
@@ -143,7 +143,7 @@ impl<R: Wait + Drop> Publisher<R> {
         let Some(copies) = &mut self.copies else {
             return Err(Fault::OutOfMemory);
         };
-        let mut side: Side<Told, [u64; 0], OnePlace> = copies.factory().reader()?;
+        let mut side: Side<KnownTurns, [u64; 0], OnePlace> = copies.factory().reader()?;
         side.learn::<Hear>(copies.tell::<Tell>());
         Ok(Reader::new(given, told, side))
     }
@@ -164,7 +164,7 @@ impl<R: Wait + Drop> Publisher<R> {
 
 /// A sink for turns, which prints each one on its board.
 impl<R: Wait + Drop> Press for Publisher<R> {
-    type Told = Told;
+    type Told = KnownTurns;
 
     ghost stands = { λ p turns. p.turns ≡ turns };
 
@@ -172,11 +172,11 @@ impl<R: Wait + Drop> Press for Publisher<R> {
 
     ghost tells = { λ place turn told. (place_of told.book ≡ place) × ((before : List TurnReport) × (told.turns ≡ before ++ turn ∷ [])) };
 
-    fn blank(&self) -> Option<Told> {
+    fn blank(&self) -> Option<KnownTurns> {
         None
     }
 
-    fn print<W: Wait>(&mut self, rt: &W, alloc: Global, turn: Turn) -> Option<Told> {
+    fn print<W: Wait>(&mut self, rt: &W, alloc: Global, turn: Turn) -> Option<KnownTurns> {
         self.publish(rt, alloc, turn)
     }
 }

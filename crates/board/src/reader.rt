@@ -10,7 +10,7 @@ ghost use Rattle.board.specs.Shown.{sheet_after};
 
 use crate::place::{OnePlace, See};
 use crate::sheet::Sheet;
-use crate::told::Told;
+use crate::told::KnownTurns;
 use left_right::reader::Reader as Side;
 use message::Fault;
 use std::alloc::Global;
@@ -21,8 +21,8 @@ use std::marker::Model;
 #[derive(Drop)]
 pub struct Reader {
     given: Sheet,
-    told: Told,
-    side: Option<Side<Told, [u64; 0], OnePlace>>,
+    told: KnownTurns,
+    side: Option<Side<KnownTurns, [u64; 0], OnePlace>>,
 }
 
 impl Model for Reader {
@@ -40,7 +40,7 @@ impl Model for Reader {
 
 impl Reader {
     /// A reader that takes this side.
-    pub(crate) fn new(given: Sheet, told: Told, side: Side<Told, [u64; 0], OnePlace>) -> Reader
+    pub(crate) fn new(given: Sheet, told: KnownTurns, side: Side<KnownTurns, [u64; 0], OnePlace>) -> Reader
         requires { view side.place ≡ place_of told.book }
         ensures { result ≡ record { given = given; book = told.book; turns = told.turns } }
     {
@@ -52,7 +52,7 @@ impl Reader {
     }
 
     /// What lies on the board. `None` where its publisher is gone, or it can be shared by no more.
-    fn look(&mut self) -> Option<Told>
+    fn look(&mut self) -> Option<KnownTurns>
         ensures met { IfSome result (λ told. told.book ≡ self.old.book) }
         ensures same { self.new ≡ self.old }
     {
@@ -86,7 +86,7 @@ impl Reader {
     }
 
     /// Learns what the publisher told: from now on no sheet is older. What was told has to be of this board.
-    pub fn learn(&mut self, told: Told)
+    pub fn learn(&mut self, told: KnownTurns)
         requires { place_of told.book ≡ place_of self.old.book }
         ensures told { IsPrefix told.turns self.new.turns }
         ensures later { IsPrefix self.old.turns self.new.turns }

@@ -27,7 +27,7 @@ pub(crate) type Count = Word<Turn, u64, Law>;
 /// The turns that were printed on a board, as far as they are known. At run time it has the numbers of the
 /// last of them, and how many they are. Contracts see the turns.
 #[derive(Drop)]
-pub struct Told {
+pub struct KnownTurns {
     /// Those of the last turn.
     numbers: Option<Arc<Numbers>>,
     /// How many turns they are.
@@ -35,7 +35,7 @@ pub struct Told {
     seen: Seen<Turn, u64, Law>,
 }
 
-impl Model for Told {
+impl Model for KnownTurns {
     ghost use Rattle.std.specs.Prelude.{◌≡◌, length};
     ghost use Rattle.std.specs.Option.{option_map};
     ghost use Rattle.std.specs.Arc.{arc_value};
@@ -51,13 +51,13 @@ impl Model for Told {
 }
 
 /// A new book of turns: the word that counts them, and that none was printed.
-pub(crate) fn open() -> (Count, Told)
+pub(crate) fn open() -> (Count, KnownTurns)
     ensures count { result.0 ≡ count_of result.1.book }
     ensures none { result.1.turns ≡ [] }
 {
     let (seen, mut first, _second) = Seen::open(Start::alone(), 0, 0);
     let count = Word::tracked(0, &mut first);
-    let told = Told {
+    let told = KnownTurns {
         numbers: None,
         count: 0,
         seen,
@@ -65,15 +65,15 @@ pub(crate) fn open() -> (Count, Told)
     (count, told)
 }
 
-impl Told {
+impl KnownTurns {
     /// The turns that were seen, where the last has these numbers.
-    pub(crate) fn of(numbers: Arc<Numbers>, count: u64, seen: &Seen<Turn, u64, Law>) -> Told
+    pub(crate) fn of(numbers: Arc<Numbers>, count: u64, seen: &Seen<Turn, u64, Law>) -> KnownTurns
         requires count { count ≡ length seen.now.log }
         requires fits { IsPublicationRecord seen.now.log }
         requires last { last_figures seen.now.log ≡ Some (arc_value numbers) }
         ensures { result ≡ record { book = seen.now.book; turns = seen.now.log } }
     {
-        Told {
+        KnownTurns {
             numbers: Some(numbers),
             count,
             seen: seen.again(),
@@ -81,14 +81,14 @@ impl Told {
     }
 
     /// A copy. `OutOfMemory` is the only refusal.
-    pub(crate) fn copy(&self) -> Result<Told, AllocError>
+    pub(crate) fn copy(&self) -> Result<KnownTurns, AllocError>
         ensures { IfOk result (λ told. told ≡ self.now) }
     {
         let numbers = match &self.numbers {
             Some(numbers) => Some(Arc::try_clone(numbers)?),
             None => None,
         };
-        Ok(Told {
+        Ok(KnownTurns {
             numbers,
             count: self.count,
             seen: self.seen.again(),
@@ -135,7 +135,7 @@ impl Told {
     }
 
     /// Keeps the longer of two.
-    pub(crate) fn meet(&mut self, other: Told)
+    pub(crate) fn meet(&mut self, other: KnownTurns)
         requires { other.book ≡ self.old.book }
         ensures book { self.new.book ≡ self.old.book }
         ensures own { IsPrefix self.old.turns self.new.turns }
@@ -162,7 +162,7 @@ impl Told {
 }
 
 /// What lies on the board is the turns that were put there last.
-impl Absorb<Told> for Told {
+impl Absorb<KnownTurns> for KnownTurns {
     ghost use Rattle.board.specs.Printed.{place_of};
     ghost use Rattle.board.specs.Rule.{place_with};
 
@@ -172,12 +172,12 @@ impl Absorb<Told> for Told {
 
     ghost applied = { place_with };
 
-    fn absorb_first(&mut self, operation: &Told, _other: &Told) -> Result<(), AllocError> {
+    fn absorb_first(&mut self, operation: &KnownTurns, _other: &KnownTurns) -> Result<(), AllocError> {
         *self = operation.copy()?;
         Ok(())
     }
 
-    fn absorb_second(&mut self, operation: Told, _other: &Told) -> Result<(), Told> {
+    fn absorb_second(&mut self, operation: KnownTurns, _other: &KnownTurns) -> Result<(), KnownTurns> {
         *self = operation;
         Ok(())
     }

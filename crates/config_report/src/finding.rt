@@ -1,6 +1,6 @@
 //! What is wrong with a configuration.
 
-use crate::kind::Kind;
+use crate::kind::ValueKind;
 use crate::spot::{Place, Spot};
 use queue_config::ConfigFault;
 use toml::Value;
@@ -20,12 +20,12 @@ pub(crate) enum Problem<'t> {
     /// A value is of another kind than is wanted.
     WrongKind {
         value: &'t Value,
-        wanted: Kind,
+        wanted: ValueKind,
     },
     /// A value is of the kind that is wanted, and not among those that are taken.
     OutOfRange {
         value: &'t Value,
-        wanted: Kind,
+        wanted: ValueKind,
     },
     /// The table lacks a key.
     Missing {

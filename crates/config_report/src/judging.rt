@@ -1,7 +1,7 @@
 //! What is first wrong with a configuration, in the order of `docs/PROFILE.md`, section 19.
 
 use crate::finding::{Finding, Problem};
-use crate::kind::{Kind, Verdict};
+use crate::kind::{ValueKind, Verdict};
 use crate::known::{
     ALARM, BREACHES, DEAD_LETTER_QUEUE, LIMITS, MAX_RECEIVE_COUNT, MINUTES, QUEUE, is_required,
     kind_of, own_keys,
@@ -38,7 +38,7 @@ fn judge(table: &Table) -> Result<(), Finding<'_>> {
 }
 
 /// What the value of a key has to be, where the table knows the key.
-fn kind_at(spot: Spot, key: &str) -> Result<Kind, Finding<'_>> {
+fn kind_at(spot: Spot, key: &str) -> Result<ValueKind, Finding<'_>> {
     kind_of(spot, key).ok_or(Finding {
         place: spot.at(key),
         problem: Problem::UnknownKey,
@@ -47,7 +47,7 @@ fn kind_at(spot: Spot, key: &str) -> Result<Kind, Finding<'_>> {
 
 /// The table that a value is.
 fn table_in<'t>(place: Place<'t>, value: &'t Value) -> Result<&'t Table, Finding<'t>> {
-    let wanted = Kind::Table;
+    let wanted = ValueKind::Table;
     value.as_table().ok_or(Finding {
         place,
         problem: Problem::WrongKind { value, wanted },
@@ -65,7 +65,7 @@ fn tables_at<'t>(table: &'t Table, key: &'static str) -> Result<&'t [Value], Fin
             place: Spot::Top.at(key),
             problem: Problem::WrongKind {
                 value,
-                wanted: Kind::Tables,
+                wanted: ValueKind::Tables,
             },
         }),
     }

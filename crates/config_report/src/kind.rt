@@ -8,7 +8,7 @@ use toml::Value;
 
 /// What the value of a key has to be.
 #[derive(Clone, Copy, Debug, PartialEq, Eq)]
-pub(crate) enum Kind {
+pub(crate) enum ValueKind {
     /// A whole number between two bounds.
     Number { least: i64, most: i64 },
     /// A name, by the rule for names of queues.
@@ -56,14 +56,14 @@ fn number_verdict(value: &Value, least: i64, most: i64) -> Verdict {
     }
 }
 
-impl Kind {
+impl ValueKind {
     /// Whether a value is of this kind.
     pub(crate) fn verdict(self, value: &Value) -> Verdict {
         match self {
-            Kind::Number { least, most } => number_verdict(value, least, most),
-            Kind::Table => is_kind(value.is_table()),
-            Kind::Tables => is_kind(value.is_array()),
-            Kind::Name | Kind::Metric | Kind::Operator => match value.as_str() {
+            ValueKind::Number { least, most } => number_verdict(value, least, most),
+            ValueKind::Table => is_kind(value.is_table()),
+            ValueKind::Tables => is_kind(value.is_array()),
+            ValueKind::Name | ValueKind::Metric | ValueKind::Operator => match value.as_str() {
                 Some(text) => fits_if(self.takes_text(text)),
                 None => Verdict::WrongKind,
             },
@@ -73,9 +73,9 @@ impl Kind {
     /// Whether a text is of this kind.
     fn takes_text(self, text: &str) -> bool {
         match self {
-            Kind::Name => QueueName::read(text).is_ok(),
-            Kind::Metric => metric_named(text).is_some(),
-            Kind::Operator => operator_named(text).is_some(),
+            ValueKind::Name => QueueName::read(text).is_ok(),
+            ValueKind::Metric => metric_named(text).is_some(),
+            ValueKind::Operator => operator_named(text).is_some(),
             _ => false,
         }
     }
@@ -83,26 +83,26 @@ impl Kind {
     /// Writes what is wanted.
     pub(crate) fn write_wanted(self, line: &mut Line) -> Result<(), AllocError> {
         match self {
-            Kind::Number { least, most } => {
+            ValueKind::Number { least, most } => {
                 write!(line.text, "a whole number from {least} to {most}")
             }
-            Kind::Name | Kind::Metric | Kind::Operator => line.text.push_str("a string"),
-            Kind::Table => line.text.push_str("a table"),
-            Kind::Tables => line.text.push_str("an array of tables"),
+            ValueKind::Name | ValueKind::Metric | ValueKind::Operator => line.text.push_str("a string"),
+            ValueKind::Table => line.text.push_str("a table"),
+            ValueKind::Tables => line.text.push_str("an array of tables"),
         }
     }
 
     /// Writes what a value is not that is out of range.
     pub(crate) fn write_missed(self, line: &mut Line) -> Result<(), AllocError> {
         match self {
-            Kind::Number { least, most } => write!(line.text, "not in {least} to {most}"),
-            Kind::Name => write!(
+            ValueKind::Number { least, most } => write!(line.text, "not in {least} to {most}"),
+            ValueKind::Name => write!(
                 line.text,
                 "no name of 1 to {NAME_LIMIT} letters, digits, - and _"
             ),
-            Kind::Metric => line.text.push_str("no metric"),
-            Kind::Operator => line.text.push_str("no operator"),
-            Kind::Table | Kind::Tables => line.text.push_str("out of range"),
+            ValueKind::Metric => line.text.push_str("no metric"),
+            ValueKind::Operator => line.text.push_str("no operator"),
+            ValueKind::Table | ValueKind::Tables => line.text.push_str("out of range"),
         }
     }
 }

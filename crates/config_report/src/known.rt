@@ -2,9 +2,9 @@
 //! and their bounds stand there for itself alone, and here a second time; a test holds one against the
 //! other.
 
-use crate::kind::Kind;
+use crate::kind::ValueKind;
 use crate::spot::Spot;
-use queue_config::{ALL_METRICS, ALL_OPERATORS, ALL_SETTINGS, row_of, setting_named};
+use queue_config::{ALL_METRICS, ALL_OPERATORS, ALL_SETTINGS, setting_row, setting_named};
 use std::alloc::{AllocError, Global};
 
 pub(crate) const LIMITS: &str = "limits";
@@ -24,30 +24,30 @@ pub(crate) const MINUTES: &str = "minutes";
 pub(crate) const BREACHES: &str = "breaches";
 
 /// How many minutes an alarm may look at.
-const A_TIME: Kind = Kind::Number {
+const A_TIME: ValueKind = ValueKind::Number {
     least: 1,
     most: 180,
 };
 
 /// The keys of a file.
-static TOP_KEYS: [(&str, Kind); 3] = [
-    (LIMITS, Kind::Table),
-    (QUEUE, Kind::Tables),
-    (ALARM, Kind::Tables),
+static TOP_KEYS: [(&str, ValueKind); 3] = [
+    (LIMITS, ValueKind::Table),
+    (QUEUE, ValueKind::Tables),
+    (ALARM, ValueKind::Tables),
 ];
 
 /// The keys of `limits`.
-static LIMIT_KEYS: [(&str, Kind); 2] = [
+static LIMIT_KEYS: [(&str, ValueKind); 2] = [
     (
         "in_flight",
-        Kind::Number {
+        ValueKind::Number {
             least: 1,
             most: 120_000,
         },
     ),
     (
         "max_lines",
-        Kind::Number {
+        ValueKind::Number {
             least: 1,
             most: 16_777_216,
         },
@@ -55,12 +55,12 @@ static LIMIT_KEYS: [(&str, Kind); 2] = [
 ];
 
 /// The keys of a queue that are no settings.
-static QUEUE_KEYS: [(&str, Kind); 3] = [
-    (NAME, Kind::Name),
-    (DEAD_LETTER_QUEUE, Kind::Name),
+static QUEUE_KEYS: [(&str, ValueKind); 3] = [
+    (NAME, ValueKind::Name),
+    (DEAD_LETTER_QUEUE, ValueKind::Name),
     (
         MAX_RECEIVE_COUNT,
-        Kind::Number {
+        ValueKind::Number {
             least: 1,
             most: 1000,
         },
@@ -68,14 +68,14 @@ static QUEUE_KEYS: [(&str, Kind); 3] = [
 ];
 
 /// The keys of an alarm.
-static ALARM_KEYS: [(&str, Kind); 7] = [
-    (QUEUE, Kind::Name),
-    (NAME, Kind::Name),
-    ("metric", Kind::Metric),
-    ("operator", Kind::Operator),
+static ALARM_KEYS: [(&str, ValueKind); 7] = [
+    (QUEUE, ValueKind::Name),
+    (NAME, ValueKind::Name),
+    ("metric", ValueKind::Metric),
+    ("operator", ValueKind::Operator),
     (
         "threshold",
-        Kind::Number {
+        ValueKind::Number {
             least: 0,
             most: i64::MAX,
         },
@@ -85,7 +85,7 @@ static ALARM_KEYS: [(&str, Kind); 7] = [
 ];
 
 /// The keys of a table, but for the settings.
-pub(crate) fn own_keys(spot: Spot) -> &'static [(&'static str, Kind)] {
+pub(crate) fn own_keys(spot: Spot) -> &'static [(&'static str, ValueKind)] {
     match spot {
         Spot::Top => &TOP_KEYS,
         Spot::Limits => &LIMIT_KEYS,
@@ -96,19 +96,19 @@ pub(crate) fn own_keys(spot: Spot) -> &'static [(&'static str, Kind)] {
 }
 
 /// What the value of a setting's key has to be.
-fn setting_kind(key: &str) -> Option<Kind> {
+fn setting_kind(key: &str) -> Option<ValueKind> {
     for setting in ALL_SETTINGS {
-        let row = row_of(setting);
+        let row = setting_row(setting);
         if key == row.key {
             let (least, most) = (i64::from(row.least), i64::from(row.most));
-            return Some(Kind::Number { least, most });
+            return Some(ValueKind::Number { least, most });
         }
     }
     None
 }
 
 /// What the value of a key has to be, where the table knows the key.
-pub(crate) fn kind_of(spot: Spot, key: &str) -> Option<Kind> {
+pub(crate) fn kind_of(spot: Spot, key: &str) -> Option<ValueKind> {
     for (known, kind) in own_keys(spot) {
         if key == *known {
             return Some(*kind);
@@ -137,7 +137,7 @@ pub(crate) fn known_keys(alloc: Global, spot: Spot) -> Result<Vec<&'static str>,
     }
     if let Spot::Queue(_) = spot {
         for setting in ALL_SETTINGS {
-            keys.push(row_of(setting).key)?;
+            keys.push(setting_row(setting).key)?;
         }
     }
     Ok(keys)
@@ -146,21 +146,21 @@ pub(crate) fn known_keys(alloc: Global, spot: Spot) -> Result<Vec<&'static str>,
 /// The key that has the setting which a queue's attribute is, as requests name it.
 pub(crate) fn key_of_attribute(spot: Spot, name: &str) -> Option<&'static str> {
     match (spot, setting_named(name)) {
-        (Spot::Queue(_), Some(setting)) => Some(row_of(setting).key),
+        (Spot::Queue(_), Some(setting)) => Some(setting_row(setting).key),
         _ => None,
     }
 }
 
 /// The words that a key may have as its value, where there is a table of them.
-pub(crate) fn known_words(alloc: Global, kind: Kind) -> Result<Vec<&'static str>, AllocError> {
+pub(crate) fn known_words(alloc: Global, kind: ValueKind) -> Result<Vec<&'static str>, AllocError> {
     let mut words = Vec::new(alloc);
     match kind {
-        Kind::Metric => {
+        ValueKind::Metric => {
             for metric in ALL_METRICS {
                 words.push(metric.name())?;
             }
         }
-        Kind::Operator => {
+        ValueKind::Operator => {
             for operator in ALL_OPERATORS {
                 words.push(operator.name())?;
             }

@@ -2,7 +2,7 @@
 //! what a refused allocation gives.
 
 use super::*;
-use crate::kind::Kind;
+use crate::kind::ValueKind;
 use crate::known::own_keys;
 use crate::spot::Spot;
 use cases::CASES;
@@ -108,7 +108,7 @@ fn ranges(rt: HostRuntime) -> Result<(), Fail> {
     let alloc = rt.alloc();
     for spot in [Spot::Limits, Spot::Queue(0), Spot::Alarm(0)] {
         for (key, kind) in own_keys(spot) {
-            if let Kind::Number { least, most } = kind {
+            if let ValueKind::Number { least, most } = kind {
                 let refused = Some(ConfigFault::OutOfRange);
                 assert_eq!(rt; fault_at(alloc, key, *least)?, None, "{key}");
                 assert_eq!(rt; fault_at(alloc, key, *most)?, None, "{key}");

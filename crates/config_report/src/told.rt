@@ -1,7 +1,7 @@
 //! What is told of a finding.
 
 use crate::finding::{Finding, Problem};
-use crate::kind::{Kind, is_shown, kind_words, show_value};
+use crate::kind::{ValueKind, is_shown, kind_words, show_value};
 use crate::known::{
     ALARM, BREACHES, MINUTES, NAME, QUEUE, key_of_attribute, known_keys, known_words,
 };
@@ -134,7 +134,7 @@ impl<'t> Configuration<'t> {
         line: &mut Line,
         place: Place<'t>,
         value: &'t Value,
-        wanted: Kind,
+        wanted: ValueKind,
     ) -> Result<(), AllocError> {
         self.write_value(line, place, value)?;
         let is = kind_words(value);
@@ -152,7 +152,7 @@ impl<'t> Configuration<'t> {
         line: &mut Line,
         place: Place<'t>,
         value: &'t Value,
-        wanted: Kind,
+        wanted: ValueKind,
     ) -> Result<(), AllocError> {
         self.write_value(line, place, value)?;
         line.text.push_str(" is ")?;
@@ -266,10 +266,10 @@ fn write_breaches(line: &mut Line, breaches: i64, minutes: i64) -> Result<(), Al
 }
 
 /// Writes the header that begins what is wanted at a key of the file.
-fn write_header(line: &mut Line, key: Option<&str>, wanted: Kind) -> Result<(), AllocError> {
+fn write_header(line: &mut Line, key: Option<&str>, wanted: ValueKind) -> Result<(), AllocError> {
     match (key, wanted) {
-        (Some(key), Kind::Table) => write!(line.text, " ([{key}])"),
-        (Some(key), Kind::Tables) => write!(line.text, " ([[{key}]])"),
+        (Some(key), ValueKind::Table) => write!(line.text, " ([{key}])"),
+        (Some(key), ValueKind::Tables) => write!(line.text, " ([[{key}]])"),
         _ => Ok(()),
     }
 }

@@ -11,8 +11,8 @@ use Rattle.atomic_table.proofs.Lists.{at_set, at_snoc, at_longer, set_again, set
 use Rattle.queue_core.specs.Queue.{QueueHistory}
 use Rattle.desk.specs.declared.view.Call.{Call}
 use Rattle.desk.specs.declared.view.View.{View}
-use Rattle.desk.specs.declared.view.Stage.{Stage}
-use Rattle.desk.specs.declared.view.Stage.TheVariants.{Fresh, Idle, Drawn, Turn, Ended}
+use Rattle.desk.specs.declared.view.PassStage.{PassStage}
+use Rattle.desk.specs.declared.view.PassStage.TheVariants.{Fresh, Idle, Drawn, Turn, Ended}
 use Rattle.desk.specs.declared.made.Made.{Made}
 use Rattle.desk.specs.History.{IsAnswered, after_call, state_of, IsLegalHistory, calls_by, GoesOnFrom}
 use Rattle.desk.specs.Held.{Lying}
@@ -29,7 +29,7 @@ Homes = List (maybe.Option (Option Lying))
 
 -- ---- stages
 
-abbrev turn_code : Stage → ℕ
+abbrev turn_code : PassStage → ℕ
 turn_code (Turn ticket) = 1
 turn_code _ = 0
 
@@ -37,11 +37,11 @@ abbrev ticket_or_zero : Option ℕ → ℕ
 ticket_or_zero (Some n) = n
 ticket_or_zero None = 0
 
-not_turn : (stage : Stage) (t u : ℕ) → stage ≡ Drawn t → stage ≢ Turn u
+not_turn : (stage : PassStage) (t u : ℕ) → stage ≡ Drawn t → stage ≢ Turn u
 not_turn stage t u drawn turn = suc-ne-zero 0 (ap turn_code (sym turn ∙ drawn))
 
 -- more tickets
-stage_more : (start : Lying) (log : List Call) (t u n : ℕ) (v : View) (stage : Stage) → t ≤ u → FitsStage start log t n v stage → FitsStage start log u n v stage
+stage_more : (start : Lying) (log : List Call) (t u n : ℕ) (v : View) (stage : PassStage) → t ≤ u → FitsStage start log t n v stage → FitsStage start log u n v stage
 stage_more start log t u n v Fresh le f = f
 stage_more start log t u n v Idle le f = f
 stage_more start log t u n v (Drawn k) le f = (f.0, f.1, f.2, lt_of_lt_of_le f.3 le)
@@ -49,7 +49,7 @@ stage_more start log t u n v (Turn k) le f = (f.0, f.1, f.2, lt_of_lt_of_le f.3 
 stage_more start log t u n v Ended le f = tt
 
 -- a pass that holds a ticket holds one that was drawn
-ticket_drawn : (start : Lying) (log : List Call) (t n k : ℕ) (v : View) (stage : Stage) → ticket_of stage ≡ Some k → FitsStage start log t n v stage → k < t
+ticket_drawn : (start : Lying) (log : List Call) (t n k : ℕ) (v : View) (stage : PassStage) → ticket_of stage ≡ Some k → FitsStage start log t n v stage → k < t
 ticket_drawn start log t n k v Fresh is f = absurd cc
 ticket_drawn start log t n k v Idle is f = absurd cc
 ticket_drawn start log t n k v (Drawn j) is f = subst (λ (z : ℕ). z < t) (ap ticket_or_zero is) f.3
@@ -63,7 +63,7 @@ own_after : (log : List Call) (n : ℕ) (v : View) (c : Call) → c.by ≢ n →
 own_after log n v c other o = (o.0, other_call n log v.mine c other o.1, o.2)
 
 -- one call more, of another pass
-stage_after : (start : Lying) (log : List Call) (t n : ℕ) (v : View) (c : Call) (stage : Stage) → c.by ≢ n → ticket_of stage ≢ Some (length log) → FitsStage start log t n v stage
+stage_after : (start : Lying) (log : List Call) (t n : ℕ) (v : View) (c : Call) (stage : PassStage) → c.by ≢ n → ticket_of stage ≢ Some (length log) → FitsStage start log t n v stage
     → FitsStage start (log ++ c ∷ []) t n v stage
 stage_after start log t n v c Fresh other held f = (follows_after start log v c f.0, other_call n log [] c other f.1, f.2, f.3)
 stage_after start log t n v c Idle other held f = (follows_after start log v c f.0, own_after log n v c other f.1)
@@ -95,7 +95,7 @@ still_held start s r id v w at same =
 
 -- ---- one view changes, and the history stays
 
-abbrev HoldsAlone : List View → ℕ → Stage → Type 0
+abbrev HoldsAlone : List View → ℕ → PassStage → Type 0
 HoldsAlone views id stage = (ticket : ℕ) → ticket_of stage ≡ Some ticket → (j : ℕ) (u : View) → j ≢ id → get_elem? views j ≡ some u → ticket_of u.stage ≢ Some ticket
 
 apart_set : (views : List View) (id : ℕ) (w : View) → AreApart views → HoldsAlone views id w.stage → AreApart (set views id w)
@@ -149,7 +149,7 @@ one_slot [] h is = absurd (omega arith)
 one_slot (x ∷ []) h is = refl
 one_slot (x ∷ y ∷ hs) h is = absurd (omega arith)
 
-idle_holds_none : (stage : Stage) (t : ℕ) → stage ≡ Idle → ticket_of stage ≢ Some t
+idle_holds_none : (stage : PassStage) (t : ℕ) → stage ≡ Idle → ticket_of stage ≢ Some t
 idle_holds_none stage t idle holds = absurd cc
 
 -- ---- a ticket is drawn
@@ -157,10 +157,10 @@ idle_holds_none stage t idle holds = absurd cc
 idle_is_not_turn : (v : View) → v.stage ≡ Idle → (t : ℕ) → v.stage ≢ Turn t
 idle_is_not_turn v idle t turn = suc-ne-zero 0 (ap turn_code (sym turn ∙ idle))
 
-of_idle : (start : Lying) (log : List Call) (t n : ℕ) (v : View) (stage : Stage) → stage ≡ Idle → FitsStage start log t n v stage → Follows start log v × IsOwn log n v
+of_idle : (start : Lying) (log : List Call) (t n : ℕ) (v : View) (stage : PassStage) → stage ≡ Idle → FitsStage start log t n v stage → Follows start log v × IsOwn log n v
 of_idle start log t n v stage is f = let g : FitsStage start log t n v Idle = subst (FitsStage start log t n v) is f in g
 
-follows_at : (start : Lying) (log : List Call) (v : View) (stage : Stage) → Follows start log v → Follows start log (at_stage v stage)
+follows_at : (start : Lying) (log : List Call) (v : View) (stage : PassStage) → Follows start log v → Follows start log (at_stage v stage)
 follows_at start log v stage f = record { opened = f.opened; placed = f.placed; seen = f.seen; heard = f.heard }
 
 follows_counting : (start : Lying) (log : List Call) (v : View) (tickets : ℕ) → Follows start log v → Follows start log (counting v tickets)
@@ -224,23 +224,23 @@ counts start slots id me idle s r wide at _ =
 
 -- ---- a turn is waited for
 
-of_drawn : (start : Lying) (log : List Call) (t n k : ℕ) (v : View) (stage : Stage) → stage ≡ Drawn k → FitsStage start log t n v stage
+of_drawn : (start : Lying) (log : List Call) (t n k : ℕ) (v : View) (stage : PassStage) → stage ≡ Drawn k → FitsStage start log t n v stage
     → Follows start log v × IsOwn log n v × (length log ≤ k) × (k < t)
 of_drawn start log t n k v stage is f = let g : FitsStage start log t n v (Drawn k) = subst (FitsStage start log t n v) is f in g
 
-of_turn : (start : Lying) (log : List Call) (t n k : ℕ) (v : View) (stage : Stage) → stage ≡ Turn k → FitsStage start log t n v stage
+of_turn : (start : Lying) (log : List Call) (t n k : ℕ) (v : View) (stage : PassStage) → stage ≡ Turn k → FitsStage start log t n v stage
     → Follows start log v × IsOwn log n v × (k ≡ length log) × (k < t) × (v.seen ≡ log)
 of_turn start log t n k v stage is f = let g : FitsStage start log t n v (Turn k) = subst (FitsStage start log t n v) is f in g
 
 -- who holds a ticket holds it alone
-alone : (views : List View) (id t : ℕ) (v : View) (stage : Stage) → AreApart views → get_elem? views id ≡ some v → ticket_of v.stage ≡ Some t → ticket_of stage ≡ Some t → HoldsAlone views id stage
+alone : (views : List View) (id t : ℕ) (v : View) (stage : PassStage) → AreApart views → get_elem? views id ≡ some v → ticket_of v.stage ≡ Some t → ticket_of stage ≡ Some t → HoldsAlone views id stage
 alone views id t v stage apart at has is ticket same j u other there holds = other (sym (apart id j t v u at there has (holds ∙ sym same ∙ is)))
 
 -- the history so far
-abbrev seeing : View → List Call → Stage → View
+abbrev seeing : View → List Call → PassStage → View
 seeing v log stage = record v { seen = log; stage = stage }
 
-has_seen : (start : Lying) (log : List Call) (id : ℕ) (v : View) (stage : Stage) → Follows start log v → IsOwn log id v → IsLegalHistory start.queue log → HasSeen v (seeing v log stage)
+has_seen : (start : Lying) (log : List Call) (id : ℕ) (v : View) (stage : PassStage) → Follows start log v → IsOwn log id v → IsLegalHistory start.queue log → HasSeen v (seeing v log stage)
 has_seen start log id v stage fit own legal = record {
   start = refl;
   place = refl;
@@ -256,7 +256,7 @@ has_seen start log id v stage fit own legal = record {
   other = refl;
 }
 
-follows_whole : (start : Lying) (log : List Call) (v : View) (stage : Stage) → Follows start log v → Follows start log (seeing v log stage)
+follows_whole : (start : Lying) (log : List Call) (v : View) (stage : PassStage) → Follows start log v → Follows start log (seeing v log stage)
 follows_whole start log v stage fit = record { opened = fit.opened; placed = fit.placed; seen = goes_whole log; heard = fit.heard }
 
 pub waits : (start : Lying) (slots id t : ℕ) (me : Holder) → me.0.stage ≡ Drawn t → me.1 ≡ [] → Allows (IsInTurn start) slots id me 0 (λ n. n) (has_waited (step slots 0 0 0 none) me)
@@ -264,7 +264,7 @@ waits start slots id t me drawn empty s r wide at _ =
     let v : View = me.0 in let y : ℕ = slice_index s.words 0 in let found : y ≡ length r.log = ap (λ (ws : List ℕ). slice_index ws 0) r.words in
     let own = of_drawn start r.log r.tickets id t v v.stage drawn (r.fits id v at) in let fit : Follows start r.log v = own.0 in let calls : IsOwn r.log id v = own.1 in
     let holds : ticket_of v.stage ≡ Some t = ap ticket_of drawn in
-    let mine : drawn_ticket me ≡ t = ap (λ (z : Stage). unwrap_or (ticket_of z) 0) drawn in
+    let mine : drawn_ticket me ≡ t = ap (λ (z : PassStage). unwrap_or (ticket_of z) 0) drawn in
     let words : set s.words 0 y ≡ length r.log ∷ r.tickets ∷ [] = ap (λ (ws : List ℕ). set ws 0 y) r.words ∙ ap (λ (z : ℕ). z ∷ r.tickets ∷ []) found in
     dite (ℕ_discrete y t)
     (λ hit. let w : View = seeing v r.log (Turn y) in
@@ -459,7 +459,7 @@ looks start slots id me idle s r wide at _ =
       (has_seen start r.log id v v.stage own.0 own.1 r.legal, found, refl, refl),
     )
 
-of_fresh : (start : Lying) (log : List Call) (t n : ℕ) (v : View) (stage : Stage) → stage ≡ Fresh → FitsStage start log t n v stage → Follows start log v × (calls_by n log ≡ []) × (v.mine ≡ []) × (v.other < n)
+of_fresh : (start : Lying) (log : List Call) (t n : ℕ) (v : View) (stage : PassStage) → stage ≡ Fresh → FitsStage start log t n v stage → Follows start log v × (calls_by n log ≡ []) × (v.mine ≡ []) × (v.other < n)
 of_fresh start log t n v stage is f = let g : FitsStage start log t n v Fresh = subst (FitsStage start log t n v) is f in g
 
 fresh_is_not_turn : (v : View) → v.stage ≡ Fresh → (t : ℕ) → v.stage ≢ Turn t

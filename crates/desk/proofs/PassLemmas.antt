@@ -7,7 +7,7 @@ use Rattle.queue_core.specs.declared.reply.Reply.{Reply}
 use Rattle.queue_core.specs.Queue.{QueueHistory}
 use Rattle.desk.specs.declared.view.Call.{Call}
 use Rattle.desk.specs.declared.view.View.{View}
-use Rattle.desk.specs.declared.view.Stage.TheVariants.{Drawn}
+use Rattle.desk.specs.declared.view.PassStage.TheVariants.{Drawn}
 use Rattle.desk.specs.History.{IsAnswered, after_call, state_of, IsLegalHistory, calls_by, call}
 use Rattle.desk.specs.Held.{Lying, IsBehind}
 use Rattle.desk.specs.Views.{IsKnown, knowledge_of, IsLastState}

@@ -7,20 +7,20 @@ use lib.ListN.{get_elem?}
 use Rattle.atomic_table.specs.Table.{State}
 use Rattle.desk.specs.declared.view.Call.{Call}
 use Rattle.desk.specs.declared.view.View.{View}
-use Rattle.desk.specs.declared.view.Stage.{Stage}
-use Rattle.desk.specs.declared.view.Stage.TheVariants.{Fresh, Idle, Drawn, Turn, Ended}
+use Rattle.desk.specs.declared.view.PassStage.{PassStage}
+use Rattle.desk.specs.declared.view.PassStage.TheVariants.{Fresh, Idle, Drawn, Turn, Ended}
 use Rattle.desk.specs.History.{state_of, IsLegalHistory, calls_by, GoesOnFrom}
 use Rattle.desk.specs.Held.{Lying}
 use Rattle.desk.specs.Views.{most_tickets}
 
 -- the ticket that a pass holds
-abbrev pub ticket_of : Stage → Option ℕ
+abbrev pub ticket_of : PassStage → Option ℕ
 ticket_of (Drawn ticket) = Some ticket
 ticket_of (Turn ticket) = Some ticket
 ticket_of _ = None
 
 -- how many tickets a pass holds
-abbrev pub tickets_of : Stage → ℕ
+abbrev pub tickets_of : PassStage → ℕ
 tickets_of (Drawn ticket) = 1
 tickets_of (Turn ticket) = 1
 tickets_of _ = 0
@@ -42,7 +42,7 @@ abbrev pub IsOwn : List Call → ℕ → View → Type 0
 IsOwn log number v = (v.number ≡ number) × (calls_by number log ≡ v.mine) × (v.other ≢ number)
 
 -- What a stage says of the pass in a seat, where the history and the number of tickets are these. A ticket was drawn, and its turn has not ended; at its turn the pass has seen the whole history. A pass that has ended says nothing
-abbrev pub FitsStage : Lying → List Call → ℕ → ℕ → View → Stage → Type 0
+abbrev pub FitsStage : Lying → List Call → ℕ → ℕ → View → PassStage → Type 0
 FitsStage start log tickets seat v Fresh = Follows start log v × (calls_by seat log ≡ []) × (v.mine ≡ []) × (v.other < seat)
 FitsStage start log tickets seat v Idle = Follows start log v × IsOwn log seat v
 FitsStage start log tickets seat v (Drawn ticket) = Follows start log v × IsOwn log seat v × (length log ≤ ticket) × (ticket < tickets)

@@ -3,8 +3,8 @@ use Rattle.std.specs.Prelude.{◌≡◌, ℕ, ◌==◌, ◌<◌, ◌≤◌, ◌�
 use Rattle.atomic_table.specs.Table.{Step, Me}
 use Rattle.desk.specs.declared.view.Call.{Call}
 use Rattle.desk.specs.declared.view.View.{View}
-use Rattle.desk.specs.declared.view.Stage.{Stage}
-use Rattle.desk.specs.declared.view.Stage.TheVariants.{Idle, Drawn, Turn}
+use Rattle.desk.specs.declared.view.PassStage.{PassStage}
+use Rattle.desk.specs.declared.view.PassStage.TheVariants.{Idle, Drawn, Turn}
 use Rattle.desk.specs.declared.made.Made.{Made}
 use Rattle.desk.specs.History.{IsAnswered, after_call, state_of, IsLegalHistory, calls_by, GoesOnFrom, call}
 use Rattle.desk.specs.Held.{Lying}
@@ -14,7 +14,7 @@ use Rattle.desk.specs.Rule.{ticket_of}
 abbrev pub Holder : Type 0
 Holder = Me (Option Lying) View
 
-abbrev pub at_stage : View → Stage → View
+abbrev pub at_stage : View → PassStage → View
 at_stage v stage = record v { stage = stage }
 
 -- a view that knows how many tickets were drawn

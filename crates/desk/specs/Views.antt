@@ -8,7 +8,7 @@ use Rattle.queue_core.specs.declared.reply.Reply.{Reply}
 use Rattle.queue_core.specs.Queue.{QueueHistory}
 use Rattle.desk.specs.declared.view.Call.{Call}
 use Rattle.desk.specs.declared.view.View.{View}
-use Rattle.desk.specs.declared.view.Stage.TheVariants.{Fresh, Idle, Ended}
+use Rattle.desk.specs.declared.view.PassStage.TheVariants.{Fresh, Idle, Ended}
 use Rattle.desk.specs.History.{IsLegalHistory, calls_by, call, GoesOnFrom, state_of}
 use Rattle.desk.specs.Held.{Lying}
 

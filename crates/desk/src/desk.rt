@@ -3,7 +3,7 @@
 ghost use Rattle.std.specs.Prelude.{ℕ, ◌≡◌, ◌<◌, ◌≤◌, ◌≢◌, ◌⊎◌, [], ◌∷◌, length, Err, None, Some, IfOk, IfErr, IfSome, IfNone};
 ghost use Rattle.message.specs.declared.fault.Fault.TheVariants.{OutOfMemory, Spent};
 
-use crate::asked::Asked;
+use crate::asked::CallAnswer;
 use crate::gate::Gate;
 use crate::held::Held;
 use crate::pass::{Note, Pass};
@@ -46,7 +46,7 @@ impl<P: Press> Model for Desk<P> {
 }
 
 impl<P: Press> Desk<P> {
-    ghost use Rattle.desk.specs.declared.view.Stage.TheVariants.{Idle, Drawn, Turn};
+    ghost use Rattle.desk.specs.declared.view.PassStage.TheVariants.{Idle, Drawn, Turn};
     ghost use Rattle.desk.specs.Views.{most_tickets, first_knowledge, knowledge_of, HasCalled, IsKnown, IsSpent, IsBusy, SeesMore, IsNewPass, IsLastState};
     ghost use Rattle.desk.specs.History.{state_of, calls_by, call, GoesOnFrom};
     ghost use Rattle.desk.specs.Printed.{IsToldOf};
@@ -195,7 +195,7 @@ impl<P: Press> Desk<P> {
         at: Moment,
         command: &Command,
         gate: &impl Gate,
-    ) -> Asked<P::Told>
+    ) -> CallAnswer<P::Told>
         requires desk { seat.old.table_id ≡ self.now }
         requires turn { HasTurn seat.old.me ticket }
         requires known { IsKnown (knowledge_of seat.old.table_id seat.old.me.0) }
@@ -209,7 +209,7 @@ impl<P: Press> Desk<P> {
         let reply = held.perform(alloc, at, command);
         let told = held.tell(rt, alloc, command);
         self.end(seat, held);
-        Asked { reply, told }
+        CallAnswer { reply, told }
     }
 
     /// Calls the queue at a moment, in a turn of its own, and waits for it. `Spent` is the answer where
@@ -223,7 +223,7 @@ impl<P: Press> Desk<P> {
         at: Moment,
         command: &Command,
         gate: &impl Gate,
-    ) -> Asked<P::Told>
+    ) -> CallAnswer<P::Told>
         requires { pass.old.desk ≡ self.now }
         ensures call { HasCalled pass.old at command.now result.reply pass.new ⊎ ((result.reply ≡ Err Spent) × (result.told ≡ None) × IsSpent pass.old pass.new) }
         ensures desk { pass.new.desk ≡ pass.old.desk }
@@ -231,7 +231,7 @@ impl<P: Press> Desk<P> {
         ensures told { IfSome result.told (λ told. IsToldOf (P.tells pass.new.place) (state_of pass.new.start pass.new.seen) told) }
     {
         let Some(ticket) = self.draw(rt, &mut pass.seat) else {
-            return Asked {
+            return CallAnswer {
                 reply: Err(Fault::Spent),
                 told: None,
             };
@@ -251,7 +251,7 @@ impl<P: Press> Desk<P> {
         at: Moment,
         command: &Command,
         gate: &impl Gate,
-    ) -> Option<Asked<P::Told>>
+    ) -> Option<CallAnswer<P::Told>>
         requires { pass.old.desk ≡ self.now }
         ensures some { IfSome result (λ asked. HasCalled pass.old at command.now asked.reply pass.new) }
         ensures none { IfNone result (SeesMore pass.old pass.new) }

@@ -29,7 +29,7 @@ mod tests;
 mod turn;
 mod view;
 
-pub use asked::Asked;
+pub use asked::CallAnswer;
 pub use desk::Desk;
 pub use gate::{Gate, NoGate};
 pub use pass::{Note, Pass};

@@ -15,7 +15,7 @@ pub struct Pass<P: Press> {
 
 impl<P: Press> Model for Pass<P> {
     ghost use Rattle.std.specs.Prelude.{◌≡◌, []};
-    ghost use Rattle.desk.specs.declared.view.Stage.TheVariants.{Idle};
+    ghost use Rattle.desk.specs.declared.view.PassStage.TheVariants.{Idle};
     ghost use Rattle.desk.specs.Views.{Knowledge, IsKnown, knowledge_of};
 
     ghost Value = { Knowledge };
@@ -34,7 +34,7 @@ pub struct Note<P: Press> {
 
 impl<P: Press> Model for Note<P> {
     ghost use Rattle.std.specs.Prelude.{◌≡◌, []};
-    ghost use Rattle.desk.specs.declared.view.Stage.TheVariants.{Fresh};
+    ghost use Rattle.desk.specs.declared.view.PassStage.TheVariants.{Fresh};
     ghost use Rattle.desk.specs.Views.{Remark, remark_of};
 
     ghost Value = { Remark };

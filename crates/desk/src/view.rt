@@ -14,7 +14,7 @@ pub struct Call {
 }
 
 /// Where a pass is.
-pub enum Stage {
+pub enum PassStage {
     /// It was cut off from another and has no number yet.
     Fresh,
     /// It waits for nothing.
@@ -45,5 +45,5 @@ pub struct View {
     pub heard: LinkedList<Call>,
     /// The calls that were made with this pass.
     pub mine: LinkedList<Call>,
-    pub stage: Stage,
+    pub stage: PassStage,
 }

@@ -7,7 +7,7 @@ ghost use Rattle.alarm.specs.AlarmState.{breaches_in};
 ghost use Rattle.queue_core.specs.Legal.{IsOrdered};
 ghost use Rattle.queue_core.specs.Metrics.{complete_minutes, last_rows, alarm_state_in};
 
-use crate::entries::Entries;
+use crate::entries::FirstEntries;
 use crate::metrics::metric_row;
 use crate::reading::created_time;
 use alarm::{AlarmState, satisfies, state_with};
@@ -16,7 +16,7 @@ use metric_window::{minute_of, window_end};
 use queue_config::AlarmRule;
 
 /// The state of the alarm of a rule at a time, of entries in the order of their times.
-pub fn alarm_state_in(lines: &Entries<'_>, clock: Moment, rule: &AlarmRule) -> AlarmState
+pub fn alarm_state_in(lines: &FirstEntries<'_>, clock: Moment, rule: &AlarmRule) -> AlarmState
     ensures { (from : ℕ) → IsOrdered from lines.now clock → result ≡ alarm_state_in content_size lines.now clock rule.now }
 {
     let complete = complete_minutes(lines, clock);
@@ -29,7 +29,7 @@ pub fn alarm_state_in(lines: &Entries<'_>, clock: Moment, rule: &AlarmRule) -> A
 }
 
 /// How many minutes are over since the one in which the queue was created.
-fn complete_minutes(lines: &Entries<'_>, clock: Moment) -> u64
+fn complete_minutes(lines: &FirstEntries<'_>, clock: Moment) -> u64
     ensures count { result ≡ complete_minutes lines.now clock }
     ensures within { result ≤ window_end clock }
 {
@@ -38,7 +38,7 @@ fn complete_minutes(lines: &Entries<'_>, clock: Moment) -> u64
 }
 
 /// How many of the last minutes that are over are breaches of a rule.
-fn breaches_in_last(lines: &Entries<'_>, clock: Moment, rule: &AlarmRule, minutes: u64) -> u64
+fn breaches_in_last(lines: &FirstEntries<'_>, clock: Moment, rule: &AlarmRule, minutes: u64) -> u64
     requires { minutes ≤ window_end clock }
     ensures { (from : ℕ) → IsOrdered from lines.now clock → result ≡ breaches_in rule.now (last_rows content_size lines.now clock minutes) }
 {

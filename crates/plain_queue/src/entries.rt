@@ -53,11 +53,11 @@ impl<'a> Collected<'a> {
     }
 
     /// All of them as entries.
-    pub fn entries(&self) -> Entries<'_>
+    pub fn entries(&self) -> FirstEntries<'_>
         ensures { result ≡ self.now }
     {
         let lines = self.lines.as_slice();
-        Entries {
+        FirstEntries {
             lines,
             count: count_of(lines),
         }
@@ -89,12 +89,12 @@ fn read_line<'a>(journal: &'a Journal, place: usize, ticks: &mut Ticks) -> &'a L
 
 /// The first entries of a journal. Contracts see the list.
 #[derive(Drop)]
-pub struct Entries<'a> {
+pub struct FirstEntries<'a> {
     lines: &'a [&'a Line],
     count: usize,
 }
 
-impl<'a> Model for Entries<'a> {
+impl<'a> Model for FirstEntries<'a> {
     ghost use Rattle.std.specs.Prelude.{◌≤◌, ◌<◌, ◌^◌, List, map, take, length};
     ghost use Rattle.message.specs.Content.{ContentText};
     ghost use Rattle.journal.specs.declared.entry.Entry.{Entry};
@@ -107,13 +107,13 @@ impl<'a> Model for Entries<'a> {
     ghost invariant = { λ e. (e.count ≤ length (map (λ line. line.now) e.lines.now)) × (message_count (map (λ line. line.now) e.lines.now) < 2 ^ 64) };
 }
 
-impl<'a> Entries<'a> {
+impl<'a> FirstEntries<'a> {
     /// Those before a time in milliseconds, where they stand in the order of their times.
-    pub fn before(&self, end: u64) -> Entries<'a>
+    pub fn before(&self, end: u64) -> FirstEntries<'a>
         ensures { (from clock : ℕ) → IsOrdered from self.now clock
             → result ≡ filter (λ e. nat_lt e.at end) self.now }
     {
-        Entries {
+        FirstEntries {
             lines: self.lines,
             count: count_before(self, end),
         }
@@ -163,7 +163,7 @@ fn nth<'a>(lines: &[&'a Line], place: usize) -> Option<&'a Line>
 }
 
 /// The entry at a place.
-pub fn line_at<'a>(lines: &Entries<'a>, place: usize) -> &'a Line
+pub fn line_at<'a>(lines: &FirstEntries<'a>, place: usize) -> &'a Line
     requires { place < length lines.now }
     ensures { slice_get lines.now place ≡ Some result.now }
 {
@@ -174,7 +174,7 @@ pub fn line_at<'a>(lines: &Entries<'a>, place: usize) -> &'a Line
 }
 
 /// How many entries come before a time in milliseconds, where they stand in the order of their times.
-fn count_before(lines: &Entries<'_>, end: u64) -> usize
+fn count_before(lines: &FirstEntries<'_>, end: u64) -> usize
     ensures within { result ≤ length lines.now }
     ensures before { (from clock : ℕ) → IsOrdered from lines.now clock
         → take result lines.now ≡ filter (λ e. nat_lt e.at end) lines.now }

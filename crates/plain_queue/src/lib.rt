@@ -3,7 +3,7 @@
 //! No program uses this crate: its test runs commands on a queue, and after each compares what the queue tells
 //! with what its journal says, its rows and alarms where a minute has ended.
 //!
-//! - [`Collected`], [`Entries`]: all lines of a journal, each read once, and the first of them.
+//! - [`Collected`], [`FirstEntries`]: all lines of a journal, each read once, and the first of them.
 //! - [`settings_of`], [`created_time`], [`modified_time`], [`is_closed`]: the settings in force, when the queue
 //!   was opened, when it last got settings, and whether it was closed.
 //! - [`message_count`], [`message_numbered`], [`content_of`]: the messages, and what each was sent with.
@@ -33,7 +33,7 @@ mod tests;
 mod transfers;
 
 pub use alarms::alarm_state_in;
-pub use entries::{Collected, Entries, line_at};
+pub use entries::{Collected, FirstEntries, line_at};
 pub use metrics::{current_flows, metric_row, minute_flows, row_of};
 pub use numbering::Messages;
 pub use order::{numbers_of, receive_order};

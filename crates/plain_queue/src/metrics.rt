@@ -11,7 +11,7 @@ ghost use Rattle.queue_core.specs.Legal.{IsOrdered};
 ghost use Rattle.queue_core.specs.Messages.{effect_of, created_time, rows_known};
 ghost use Rattle.queue_core.specs.Metrics.{minute_end, minute_gauges, metric_row, current_flows, row_of};
 
-use crate::entries::{Entries, line_at};
+use crate::entries::{FirstEntries, line_at};
 use crate::reading::created_time;
 use crate::states::gauges_of;
 use journal::{Event, KeptFlows, KeptRow, Line, Moment};
@@ -31,7 +31,7 @@ fn flows_after(flows: Flows, line: &Line, minute: u64) -> Flows
 }
 
 /// What happened in a minute.
-pub fn minute_flows(lines: &Entries<'_>, minute: u64) -> Flows
+pub fn minute_flows(lines: &FirstEntries<'_>, minute: u64) -> Flows
     ensures { result ≡ minute_flows content_size lines.now minute }
 {
     let mut flows = Flows::none();
@@ -42,14 +42,14 @@ pub fn minute_flows(lines: &Entries<'_>, minute: u64) -> Flows
 }
 
 /// What has happened so far in the minute of a time.
-pub fn current_flows(lines: &Entries<'_>, clock: Moment) -> Flows
+pub fn current_flows(lines: &FirstEntries<'_>, clock: Moment) -> Flows
     ensures { result ≡ current_flows content_size lines.now clock }
 {
     minute_flows(lines, minute_of(clock))
 }
 
 /// The metrics of a minute at a time, where it has a row then, of entries in the order of their times.
-pub fn row_of(lines: &Entries<'_>, clock: Moment, minute: u64) -> Option<Row>
+pub fn row_of(lines: &FirstEntries<'_>, clock: Moment, minute: u64) -> Option<Row>
     ensures { (from : ℕ) → IsOrdered from lines.now clock → result ≡ row_of content_size lines.now clock minute }
 {
     if has_row(lines, clock, minute) {
@@ -60,7 +60,7 @@ pub fn row_of(lines: &Entries<'_>, clock: Moment, minute: u64) -> Option<Row>
 }
 
 /// Whether a minute has a row at a time.
-fn has_row(lines: &Entries<'_>, clock: Moment, minute: u64) -> bool
+fn has_row(lines: &FirstEntries<'_>, clock: Moment, minute: u64) -> bool
     ensures window { result ≡ is_in_window (created_time lines.now) clock minute }
     ensures over { result ≡ true → minute_end minute ≤ clock }
 {
@@ -68,7 +68,7 @@ fn has_row(lines: &Entries<'_>, clock: Moment, minute: u64) -> bool
 }
 
 /// The metrics of a minute that is over at a time, of entries in the order of their times.
-pub fn metric_row(lines: &Entries<'_>, clock: Moment, minute: u64) -> Row
+pub fn metric_row(lines: &FirstEntries<'_>, clock: Moment, minute: u64) -> Row
     requires { minute_end minute ≤ clock }
     ensures { (from : ℕ) → IsOrdered from lines.now clock → result ≡ metric_row content_size lines.now minute }
 {
@@ -83,7 +83,7 @@ pub fn metric_row(lines: &Entries<'_>, clock: Moment, minute: u64) -> Row
 }
 
 /// The row of a minute, where a checkpoint knows it.
-fn known_row(lines: &Entries<'_>, minute: u64) -> Option<Row>
+fn known_row(lines: &FirstEntries<'_>, minute: u64) -> Option<Row>
     ensures { result ≡ row_in (rows_known lines.now) minute }
 {
     for place in 0..lines.len() {
@@ -148,7 +148,7 @@ fn flows_kept(flows: KeptFlows) -> Flows
 }
 
 /// The counts and the age at the last millisecond of a minute that is over at a time.
-fn minute_gauges(lines: &Entries<'_>, clock: Moment, minute: u64) -> Gauges
+fn minute_gauges(lines: &FirstEntries<'_>, clock: Moment, minute: u64) -> Gauges
     requires { minute_end minute ≤ clock }
     ensures { (from : ℕ) → IsOrdered from lines.now clock → result ≡ minute_gauges lines.now minute }
 {

@@ -6,7 +6,7 @@ ghost use Rattle.queue_core.specs.Messages.{messages};
 ghost use Rattle.plain_queue.specs.Numbering.{IsAt};
 
 use crate::begun::message_of;
-use crate::entries::{Entries, line_at};
+use crate::entries::{FirstEntries, line_at};
 use queue_core::facts::Message;
 use std::marker::Model;
 
@@ -19,7 +19,7 @@ struct Begun {
 }
 
 /// The message of a number, which is the next one behind those of the lines before a place and so many of the line there.
-fn first_message(lines: &Entries<'_>, from: usize, number: u64, before: u64) -> Option<Begun>
+fn first_message(lines: &FirstEntries<'_>, from: usize, number: u64, before: u64) -> Option<Begun>
     requires { IsAt lines.now from number before }
     ensures first { IfSome result (λ begun. slice_get (messages lines.now) number ≡ Some begun.message) }
     ensures place { IfSome result (λ begun. IsAt lines.now begun.place (number + 1) (begun.before + 1)) }
@@ -42,7 +42,7 @@ fn first_message(lines: &Entries<'_>, from: usize, number: u64, before: u64) -> 
 /// Goes over the messages of a journal. Contracts see those that are left.
 #[derive(Drop)]
 pub struct Messages<'a, 'j> {
-    lines: &'a Entries<'j>,
+    lines: &'a FirstEntries<'j>,
     /// The place of the line that begins the next message, or of one before it.
     place: usize,
     /// The number of the next message.
@@ -66,7 +66,7 @@ impl<'a, 'j> Model for Messages<'a, 'j> {
 
 impl<'a, 'j> Messages<'a, 'j> {
     /// All messages of a journal.
-    pub fn of(lines: &'a Entries<'j>) -> Messages<'a, 'j>
+    pub fn of(lines: &'a FirstEntries<'j>) -> Messages<'a, 'j>
         ensures all { result ≡ messages lines.now }
         ensures few { length result < 2 ^ 64 }
     {

@@ -8,7 +8,7 @@ ghost use Rattle.queue_core.specs.declared.facts.Status.TheVariants.{Waiting};
 ghost use Rattle.queue_core.specs.States.{message_numbered};
 
 use crate::begun::{births, content_behind, kept_numbered};
-use crate::entries::{Entries, line_at};
+use crate::entries::{FirstEntries, line_at};
 use crate::numbering::Messages;
 use crate::states::{course_of, offers_number};
 use journal::{Event, Line, Moment};
@@ -18,21 +18,21 @@ use queue_core::facts::{Message, Status};
 use queue_core::{closes, gives_settings, settings_after};
 
 /// How many messages there are.
-pub fn message_count(lines: &Entries<'_>) -> u64
+pub fn message_count(lines: &FirstEntries<'_>) -> u64
     ensures { result ≡ message_count lines.now }
 {
     Messages::of(lines).count() as u64
 }
 
 /// The message of a number.
-pub fn message_numbered(lines: &Entries<'_>, number: u64) -> Option<Message>
+pub fn message_numbered(lines: &FirstEntries<'_>, number: u64) -> Option<Message>
     ensures { result ≡ message_numbered lines.now number }
 {
     Messages::of(lines).nth(number as usize)
 }
 
 /// The content of a message, which is the one of its number, unless it is gone.
-pub fn content_of<'a>(lines: &Entries<'a>, message: &Message) -> Option<&'a Content>
+pub fn content_of<'a>(lines: &FirstEntries<'a>, message: &Message) -> Option<&'a Content>
     ensures { option_copied result ≡ content_of lines.now message.now }
 {
     let mut before = message.number;
@@ -48,7 +48,7 @@ pub fn content_of<'a>(lines: &Entries<'a>, message: &Message) -> Option<&'a Cont
 }
 
 /// The settings in force.
-pub fn settings_of(lines: &Entries<'_>) -> Settings
+pub fn settings_of(lines: &FirstEntries<'_>) -> Settings
     ensures { result ≡ settings_of lines.now }
 {
     let mut settings = Settings::default();
@@ -70,7 +70,7 @@ fn created_by(line: &Line) -> Option<Moment>
 }
 
 /// When the queue was opened.
-pub fn created_time(lines: &Entries<'_>) -> Moment
+pub fn created_time(lines: &FirstEntries<'_>) -> Moment
     ensures { result ≡ created_time lines.now }
 {
     for place in 0..lines.len() {
@@ -93,7 +93,7 @@ fn modified_by(time: Moment, line: &Line) -> Moment
 }
 
 /// When the queue last got settings.
-pub fn modified_time(lines: &Entries<'_>) -> Moment
+pub fn modified_time(lines: &FirstEntries<'_>) -> Moment
     ensures { result ≡ modified_time lines.now }
 {
     let mut time = Moment::zero();
@@ -115,7 +115,7 @@ fn first_receive_in(line: &Line, number: u64) -> Option<Moment>
 }
 
 /// When the message of a number was first received.
-pub fn first_receive_time(lines: &Entries<'_>, number: u64) -> Option<Moment>
+pub fn first_receive_time(lines: &FirstEntries<'_>, number: u64) -> Option<Moment>
     ensures { result ≡ first_receive_time lines.now number }
 {
     for place in 0..lines.len() {
@@ -141,7 +141,7 @@ fn last_receive_by(time: Moment, line: &Line, number: u64) -> Moment
 }
 
 /// When the message of a number was last received, 0 where it never was.
-pub fn last_receive_time(lines: &Entries<'_>, number: u64) -> Moment
+pub fn last_receive_time(lines: &FirstEntries<'_>, number: u64) -> Moment
     ensures { result ≡ last_receive_time lines.now number }
 {
     let mut time = Moment::zero();
@@ -152,7 +152,7 @@ pub fn last_receive_time(lines: &Entries<'_>, number: u64) -> Moment
 }
 
 /// Whether a message has left for the dead-letter queue of a uid, and the transfer is not confirmed.
-pub fn waits_for(lines: &Entries<'_>, target: u64, message: &Message) -> bool
+pub fn waits_for(lines: &FirstEntries<'_>, target: u64, message: &Message) -> bool
     ensures { result ≡ waits_for lines.now target message.now }
 {
     match course_of(lines, message).status {
@@ -162,14 +162,14 @@ pub fn waits_for(lines: &Entries<'_>, target: u64, message: &Message) -> bool
 }
 
 /// Whether a message has left, and the transfer is not confirmed.
-pub fn awaits_transfer(lines: &Entries<'_>, message: &Message) -> bool
+pub fn awaits_transfer(lines: &FirstEntries<'_>, message: &Message) -> bool
     ensures { result ≡ awaits_transfer lines.now message.now }
 {
     matches!(course_of(lines, message).status, Status::Waiting { .. })
 }
 
 /// Whether the queue was closed.
-pub fn is_closed(lines: &Entries<'_>) -> bool
+pub fn is_closed(lines: &FirstEntries<'_>) -> bool
     ensures { result ≡ is_closed lines.now }
 {
     for place in 0..lines.len() {

@@ -7,7 +7,7 @@ ghost use Rattle.queue_core.specs.Messages.{messages, closes_period, runs_out_in
 ghost use Rattle.queue_core.specs.declared.facts.Status.TheVariants.{Present, Waiting};
 ghost use Rattle.queue_core.specs.States.{is_live, has_age, state_of, is_in_state, count_in_state, oldest_age, gauges_of};
 
-use crate::entries::{Entries, line_at};
+use crate::entries::{FirstEntries, line_at};
 use crate::numbering::Messages;
 use journal::{Event, Line, Moment, Numbers};
 use message::Content;
@@ -43,7 +43,7 @@ fn runs_out_at(message: &Message, settings: Settings, line: &Line, place: usize)
 }
 
 /// Whether the message's retention has run out.
-fn is_expired(lines: &Entries<'_>, clock: Moment, message: &Message) -> bool
+fn is_expired(lines: &FirstEntries<'_>, clock: Moment, message: &Message) -> bool
     ensures { result ≡ is_expired lines.now clock message.now }
 {
     if message.ran_out {
@@ -91,7 +91,7 @@ fn receives_in(event: &Event<Content>, number: u64) -> u64
 }
 
 /// How often the message of a number was received, up to 2^64 - 1.
-pub fn receive_count(lines: &Entries<'_>, number: u64) -> u64
+pub fn receive_count(lines: &FirstEntries<'_>, number: u64) -> u64
     ensures { result ≡ receive_count lines.now number }
 {
     let mut count: u64 = 0;
@@ -198,7 +198,7 @@ fn course_after(number: u64, course: Course, line: &Line) -> Course
 }
 
 /// What has become of a message.
-pub fn course_of(lines: &Entries<'_>, message: &Message) -> Course
+pub fn course_of(lines: &FirstEntries<'_>, message: &Message) -> Course
     ensures { result ≡ course_of lines.now message.now }
 {
     let mut course = message.begun;
@@ -209,35 +209,35 @@ pub fn course_of(lines: &Entries<'_>, message: &Message) -> Course
 }
 
 /// When a message is to be offered next, in milliseconds.
-pub fn due_time(lines: &Entries<'_>, message: &Message) -> u64
+pub fn due_time(lines: &FirstEntries<'_>, message: &Message) -> u64
     ensures { result ≡ due_time lines.now message.now }
 {
     course_of(lines, message).due
 }
 
 /// Whether a message was neither removed nor has left.
-fn is_present(lines: &Entries<'_>, message: &Message) -> bool
+fn is_present(lines: &FirstEntries<'_>, message: &Message) -> bool
     ensures { result ≡ is_present lines.now message.now }
 {
     matches!(course_of(lines, message).status, Status::Present)
 }
 
 /// Whether a message left and came back.
-fn is_returned(lines: &Entries<'_>, message: &Message) -> bool
+fn is_returned(lines: &FirstEntries<'_>, message: &Message) -> bool
     ensures { result ≡ is_returned lines.now message.now }
 {
     course_of(lines, message).returned
 }
 
 /// Whether a message was neither removed nor has left nor has expired.
-pub fn is_live(lines: &Entries<'_>, clock: Moment, message: &Message) -> bool
+pub fn is_live(lines: &FirstEntries<'_>, clock: Moment, message: &Message) -> bool
     ensures { result ≡ is_live lines.now clock message.now }
 {
     is_present(lines, message) && !is_expired(lines, clock, message)
 }
 
 /// The state of a message, where it is live.
-fn state_of(lines: &Entries<'_>, clock: Moment, message: &Message) -> Option<MessageState>
+fn state_of(lines: &FirstEntries<'_>, clock: Moment, message: &Message) -> Option<MessageState>
     ensures { result ≡ state_of lines.now clock message.now }
 {
     if !is_live(lines, clock, message) {
@@ -255,7 +255,7 @@ fn state_of(lines: &Entries<'_>, clock: Moment, message: &Message) -> Option<Mes
 /// Whether a message is in the state.
 pub fn is_in_state(
     state: MessageState,
-    lines: &Entries<'_>,
+    lines: &FirstEntries<'_>,
     clock: Moment,
     message: &Message,
 ) -> bool
@@ -270,7 +270,7 @@ pub fn is_in_state(
 }
 
 /// How many messages are in the state.
-pub fn count_in_state(state: MessageState, lines: &Entries<'_>, clock: Moment) -> u64
+pub fn count_in_state(state: MessageState, lines: &FirstEntries<'_>, clock: Moment) -> u64
     ensures { result ≡ count_in_state state lines.now clock }
 {
     Messages::of(lines)
@@ -286,21 +286,21 @@ fn seconds_between(from: Moment, to: Moment) -> u64
 }
 
 /// Whether a message's age is looked at: it is live, and was received fewer than three times.
-fn has_age(lines: &Entries<'_>, clock: Moment, message: &Message) -> bool
+fn has_age(lines: &FirstEntries<'_>, clock: Moment, message: &Message) -> bool
     ensures { result ≡ has_age lines.now clock message.now }
 {
     is_live(lines, clock, message) && receive_count(lines, message.number) < 3
 }
 
 /// The first message whose age is looked at.
-fn oldest_message(lines: &Entries<'_>, clock: Moment) -> Option<Message>
+fn oldest_message(lines: &FirstEntries<'_>, clock: Moment) -> Option<Message>
     ensures { result ≡ find (λ m. has_age lines.now clock m) (messages lines.now) }
 {
     Messages::of(lines).find(|message| has_age(lines, clock, message))
 }
 
 /// Whole seconds since the first message came whose age is looked at, 0 where there is none.
-fn oldest_age(lines: &Entries<'_>, clock: Moment) -> u64
+fn oldest_age(lines: &FirstEntries<'_>, clock: Moment) -> u64
     ensures { result ≡ oldest_age lines.now clock }
 {
     match oldest_message(lines, clock) {
@@ -310,7 +310,7 @@ fn oldest_age(lines: &Entries<'_>, clock: Moment) -> u64
 }
 
 /// The counts and the age at a time.
-pub fn gauges_of(lines: &Entries<'_>, clock: Moment) -> Gauges
+pub fn gauges_of(lines: &FirstEntries<'_>, clock: Moment) -> Gauges
     ensures { result ≡ gauges_of lines.now clock }
 {
     Gauges {

@@ -12,7 +12,7 @@ use commands::{open, origin, rule, step};
 use journal::{Moment, Ticks};
 use message::Fault;
 use metric_window::minute_of;
-use queue_core::{Command, Look, QueueState, Reply, Step};
+use queue_core::{Command, Look, QueueState, Reply, TimedCommand};
 use said::{first_waiting_of, foreseen, look_of, rows_of, tell_received};
 use std::alloc::Global;
 use std::process::Abort;
@@ -104,7 +104,7 @@ fn perform(
     most_lines: u32,
     ticks: &mut Ticks,
 ) -> Result<Moment, Fail> {
-    let Step { at, command } = step(alloc, call)?;
+    let TimedCommand { at, command } = step(alloc, call)?;
     let wanted = wanted(alloc, queue, clock.later(at), &command, most_lines, ticks)?;
     let answer = queue.perform(alloc, at, &command, ticks);
     if let Some(wanted) = wanted {

@@ -4,7 +4,7 @@ ghost use Rattle.std.specs.Prelude.{◌≡◌, not, map, flat_map, option_to_lis
 ghost use Rattle.std.specs.List.{list_any, find};
 ghost use Rattle.queue_core.specs.Messages.{messages, waits_for, kept_transfer, departures, ends_transfer, pending_transfers, accepts, has_accepted};
 
-use crate::entries::{Entries, line_at};
+use crate::entries::{FirstEntries, line_at};
 use crate::numbering::Messages;
 use crate::reading::waits_for;
 use journal::{Event, KeptMessage};
@@ -24,7 +24,7 @@ fn ends_transfer(transfer: Transfer, event: &Event<Content>) -> bool
 }
 
 /// Whether an entry from a place on ends a transfer.
-fn is_ended_from(lines: &Entries<'_>, from: usize, transfer: Transfer) -> bool
+fn is_ended_from(lines: &FirstEntries<'_>, from: usize, transfer: Transfer) -> bool
     ensures { result ≡ list_any (λ later. ends_transfer transfer later.event) (drop from lines.now) }
 {
     for place in from..lines.len() {
@@ -36,7 +36,7 @@ fn is_ended_from(lines: &Entries<'_>, from: usize, transfer: Transfer) -> bool
 }
 
 /// The first transfer that an event begins, or knows of, and no entry from a place on ends.
-fn first_begun(lines: &Entries<'_>, from: usize, event: &Event<Content>) -> Option<Transfer>
+fn first_begun(lines: &FirstEntries<'_>, from: usize, event: &Event<Content>) -> Option<Transfer>
     ensures { result ≡ find (λ t. not (list_any (λ later. ends_transfer t later.event) (drop from lines.now))) (departures event.now) }
 {
     match event {
@@ -52,7 +52,7 @@ fn first_begun(lines: &Entries<'_>, from: usize, event: &Event<Content>) -> Opti
 
 /// The first of the messages that leave for the dead-letter queue of a uid whose transfer no entry from
 /// a place on ends.
-fn first_open(lines: &Entries<'_>, from: usize, leaving: &[u64], target: u64) -> Option<Transfer>
+fn first_open(lines: &FirstEntries<'_>, from: usize, leaving: &[u64], target: u64) -> Option<Transfer>
     ensures { result ≡ find (λ t. not (list_any (λ later. ends_transfer t later.event) (drop from lines.now)))
         (map (λ number. record { number = number; target = target }) leaving.now) }
 {
@@ -68,7 +68,7 @@ fn first_open(lines: &Entries<'_>, from: usize, leaving: &[u64], target: u64) ->
 /// The first of the messages of a checkpoint that waits for a dead-letter queue by a transfer that no entry from a
 /// place on ends.
 fn first_kept(
-    lines: &Entries<'_>,
+    lines: &FirstEntries<'_>,
     from: usize,
     messages: &[KeptMessage<Content>],
 ) -> Option<Transfer>
@@ -85,7 +85,7 @@ fn first_kept(
 
 /// The transfer that a kept message waits for, where no entry from a place on ends it.
 fn open_transfer(
-    lines: &Entries<'_>,
+    lines: &FirstEntries<'_>,
     from: usize,
     message: &KeptMessage<Content>,
 ) -> Option<Transfer>
@@ -103,7 +103,7 @@ fn open_transfer(
 }
 
 /// The first transfer that is not confirmed.
-pub fn first_transfer(lines: &Entries<'_>) -> Option<Transfer>
+pub fn first_transfer(lines: &FirstEntries<'_>) -> Option<Transfer>
     ensures { result ≡ slice_get (pending_transfers lines.now) 0 }
 {
     for place in 0..lines.len() {
@@ -130,7 +130,7 @@ fn accepts(uid: u64, number: u64, event: &Event<Content>) -> bool
 }
 
 /// Whether the transfer of the message of a number from the queue of a uid was accepted.
-pub fn has_accepted(lines: &Entries<'_>, uid: u64, number: u64) -> bool
+pub fn has_accepted(lines: &FirstEntries<'_>, uid: u64, number: u64) -> bool
     ensures { result ≡ has_accepted lines.now uid number }
 {
     for place in 0..lines.len() {
@@ -142,7 +142,7 @@ pub fn has_accepted(lines: &Entries<'_>, uid: u64, number: u64) -> bool
 }
 
 /// How many messages wait for the dead-letter queue of a uid.
-pub fn waiting_count(lines: &Entries<'_>, target: u64) -> u64
+pub fn waiting_count(lines: &FirstEntries<'_>, target: u64) -> u64
     ensures { result ≡ count_by (λ m. waits_for lines.now target m) (messages lines.now) }
 {
     Messages::of(lines)

@@ -15,7 +15,7 @@ use Rattle.desk.proofs.Sending.{pass_sends, desk_sends, desk_syncs}
 use Rattle.queue_actor.specs.contracts.answer.Answer as answer
 use Rattle.queue_actor.specs.contracts.actor.Actor as actor
 use Rattle.queue_actor.specs.contracts.directory.Served as served
-use Rattle.queue_actor.specs.contracts.directory.Entries as entries
+use Rattle.queue_actor.specs.contracts.directory.DirectoryEntries as entries
 use Rattle.queue_actor.specs.contracts.directory.Directory as directory
 use Rattle.queue_actor.specs.contracts.directory.Directory.TheInside as inside
 use Rattle.queue_actor.specs.contracts.readers.Shown as shown

@@ -8,7 +8,7 @@ use Rattle.desk.specs.Views.{Knowledge}
 use Rattle.queue_actor.specs.declared.mail.Ask.{Ask}
 use Rattle.queue_actor.specs.Answered.{Answered}
 use Rattle.queue_actor.specs.declared.parcels.Delivery.{Delivery}
-use Rattle.queue_actor.specs.Course.{Event, GoesThrough}
+use Rattle.queue_actor.specs.Course.{MailboxEvent, GoesThrough}
 use Rattle.queue_actor.specs.declared.mail.Mail.{Mail}
 use Rattle.queue_actor.specs.Serving.{is_receive, is_tick, IsAnswerAt, IsAnsweredAt, IsServedAt, AreServedAt, LooksAt, with_kept, LooksOver, Admits, TakesIn, Goes, Ends, Serves}
 use Rattle.queue_actor.specs.Waiting.{WaitBeyond, WaitsBehind, TakesAnswers, waiting_with, moment_with}
@@ -37,20 +37,20 @@ nothing_left (x ∷ xs) none = absurd (omega (arith, none))
 -- ---- who waits, behind one thing and then another
 
 module _ {P S Told : Type 0} where
-  pub waits_both : (asks : List (Ask P S Told)) (last : ℕ) (xs ys : List (Event (Mail P S Told) S Answered)) (mid left : List (Ask P S Told)) (between at : ℕ)
+  pub waits_both : (asks : List (Ask P S Told)) (last : ℕ) (xs ys : List (MailboxEvent (Mail P S Told) S Answered)) (mid left : List (Ask P S Told)) (between at : ℕ)
       → WaitsBehind asks last xs mid between → WaitsBehind mid between ys left at → WaitsBehind asks last (xs ++ ys) left at
   waits_both asks last [] ys mid left between at first second =
       subst (λ a. WaitsBehind a last ys left at) first.0 (subst (λ t. WaitsBehind mid t ys left at) first.1 second)
-  waits_both asks last (Event.Brought mail ∷ xs) ys mid left between at first second =
+  waits_both asks last (MailboxEvent.Brought mail ∷ xs) ys mid left between at first second =
       waits_both (waiting_with asks mail) (moment_with last mail) xs ys mid left between at first second
-  waits_both asks last (Event.Over ∷ xs) ys mid left between at first second = waits_both asks last xs ys mid left between at first second
-  waits_both asks last (Event.Gave slot answer ∷ xs) ys mid left between at first second =
+  waits_both asks last (MailboxEvent.Over ∷ xs) ys mid left between at first second = waits_both asks last xs ys mid left between at first second
+  waits_both asks last (MailboxEvent.Gave slot answer ∷ xs) ys mid left between at first second =
       (first.0, first.1, waits_both first.0 last xs ys mid left between at first.2 second)
-  waits_both asks last (Event.Left slot ∷ xs) ys mid left between at first second =
+  waits_both asks last (MailboxEvent.Left slot ∷ xs) ys mid left between at first second =
       (first.0, first.1, waits_both first.0 last xs ys mid left between at first.2 second)
 
   -- who was served waits no longer
-  pub served_waits : (at last : ℕ) (r : Ask P S Told) (front back : List (Ask P S Told)) (happened : List (Event (Mail P S Told) S Answered))
+  pub served_waits : (at last : ℕ) (r : Ask P S Told) (front back : List (Ask P S Told)) (happened : List (MailboxEvent (Mail P S Told) S Answered))
       → IsServedAt at r happened → WaitsBehind (front ++ r ∷ back) last happened (front ++ back) last
   served_waits at last r front back happened (inl left) =
       subst (λ es. WaitsBehind (front ++ r ∷ back) last es (front ++ back) last) (sym left)
@@ -73,7 +73,7 @@ module _ {P S Told : Type 0} where
   with_last_behind others kept false r = refl
 
   -- a poll that was looked at waits where it goes on waiting
-  pub looked_waits : (limit at last : ℕ) (quiet kept : Bool) (before after : Knowledge) (r : Ask P S Told) (front back : List (Ask P S Told)) (happened : List (Event (Mail P S Told) S Answered))
+  pub looked_waits : (limit at last : ℕ) (quiet kept : Bool) (before after : Knowledge) (r : Ask P S Told) (front back : List (Ask P S Told)) (happened : List (MailboxEvent (Mail P S Told) S Answered))
       → LooksAt limit at quiet before r happened kept after → WaitsBehind (front ++ r ∷ back) last happened (front ++ with_kept kept r back) last
   looked_waits limit at last quiet true before after r front back happened looks =
       subst (λ es. WaitsBehind (front ++ r ∷ back) last es (front ++ r ∷ back) last) (sym looks.0) (refl, refl)
@@ -81,20 +81,20 @@ module _ {P S Told : Type 0} where
   looked_waits limit at last quiet false before after r front back happened (inr answered) = served_waits at last r front back happened (inr answered.1)
 
 module _ {V P S Told : Type 0} (brings : V → Mail P S Told → V → Type 0) (is_over : V → V → Type 0) (gives : V → S → Answered → V → Type 0) (was_left : V → S → Type 0) where
-  pub through_both : (a b c : V) (xs ys : List (Event (Mail P S Told) S Answered)) → GoesThrough brings is_over gives was_left a xs b → GoesThrough brings is_over gives was_left b ys c
+  pub through_both : (a b c : V) (xs ys : List (MailboxEvent (Mail P S Told) S Answered)) → GoesThrough brings is_over gives was_left a xs b → GoesThrough brings is_over gives was_left b ys c
       → GoesThrough brings is_over gives was_left a (xs ++ ys) c
   through_both a b c [] ys first second = subst (λ v. GoesThrough brings is_over gives was_left v ys c) first second
-  through_both a b c (Event.Brought mail ∷ xs) ys first second = (first.0, first.1, through_both first.0 b c xs ys first.2 second)
-  through_both a b c (Event.Over ∷ xs) ys first second = (first.0, first.1, through_both first.0 b c xs ys first.2 second)
-  through_both a b c (Event.Gave slot answer ∷ xs) ys first second = (first.0, first.1, through_both first.0 b c xs ys first.2 second)
-  through_both a b c (Event.Left slot ∷ xs) ys first second = (first.0, through_both a b c xs ys first.1 second)
+  through_both a b c (MailboxEvent.Brought mail ∷ xs) ys first second = (first.0, first.1, through_both first.0 b c xs ys first.2 second)
+  through_both a b c (MailboxEvent.Over ∷ xs) ys first second = (first.0, first.1, through_both first.0 b c xs ys first.2 second)
+  through_both a b c (MailboxEvent.Gave slot answer ∷ xs) ys first second = (first.0, first.1, through_both first.0 b c xs ys first.2 second)
+  through_both a b c (MailboxEvent.Left slot ∷ xs) ys first second = (first.0, through_both a b c xs ys first.1 second)
 
 module _ {V P S Told : Type 0} (brings : V → Mail P S Told → V → Type 0) (is_over : V → V → Type 0)
     (may_give : V → S → Answered → Type 0) (gives : V → S → Answered → V → Type 0) (was_left : V → S → Type 0) where
   -- ---- a mailbox takes answers
 
   -- what it takes behind something it takes
-  pub takes_behind : (asks left : List (Ask P S Told)) (last at : ℕ) (a b : V) (happened : List (Event (Mail P S Told) S Answered))
+  pub takes_behind : (asks left : List (Ask P S Told)) (last at : ℕ) (a b : V) (happened : List (MailboxEvent (Mail P S Told) S Answered))
       → TakesAnswers brings is_over may_give gives was_left asks last a → GoesThrough brings is_over gives was_left a happened b
       → WaitsBehind asks last happened left at → TakesAnswers brings is_over may_give gives was_left left at b
   takes_behind asks left last at a b happened takes goes waits events then front back time r answer more later is =
@@ -112,15 +112,15 @@ module _ {V P S Told : Type 0} (brings : V → Mail P S Told → V → Type 0) (
       → TakesAnswers brings is_over may_give gives was_left asks last a → brings a mail b
       → TakesAnswers brings is_over may_give gives was_left (waiting_with asks mail) (moment_with last mail) b
   takes_brought asks last a b mail takes brought =
-      takes_behind asks (waiting_with asks mail) last (moment_with last mail) a b (Event.Brought mail ∷ []) takes (b, brought, refl) (refl, refl)
+      takes_behind asks (waiting_with asks mail) last (moment_with last mail) a b (MailboxEvent.Brought mail ∷ []) takes (b, brought, refl) (refl, refl)
 
   -- no mail will come any more
   pub takes_over : (asks : List (Ask P S Told)) (last : ℕ) (a b : V)
       → TakesAnswers brings is_over may_give gives was_left asks last a → is_over a b → TakesAnswers brings is_over may_give gives was_left asks last b
-  takes_over asks last a b takes over = takes_behind asks asks last last a b (Event.Over ∷ []) takes (b, over, refl) (refl, refl)
+  takes_over asks last a b takes over = takes_behind asks asks last last a b (MailboxEvent.Over ∷ []) takes (b, over, refl) (refl, refl)
 
   -- an ask was served
-  pub takes_served : (at last : ℕ) (a b : V) (r : Ask P S Told) (front back : List (Ask P S Told)) (happened : List (Event (Mail P S Told) S Answered))
+  pub takes_served : (at last : ℕ) (a b : V) (r : Ask P S Told) (front back : List (Ask P S Told)) (happened : List (MailboxEvent (Mail P S Told) S Answered))
       → TakesAnswers brings is_over may_give gives was_left (front ++ r ∷ back) last a → IsServedAt at r happened → GoesThrough brings is_over gives was_left a happened b
       → TakesAnswers brings is_over may_give gives was_left (front ++ back) last b
   takes_served at last a b r front back happened takes is goes =
@@ -130,15 +130,15 @@ module _ {V P S Told : Type 0} (brings : V → Mail P S Told → V → Type 0) (
 
   -- of the polls that waited some are left to be served, and the others were
   pub record Answering (at : ℕ) (parked : List (Ask P S Told)) (mailbox : V) (left : List (Ask P S Told)) (now : V) : Type 0 where
-    pub happened : List (Event (Mail P S Told) S Answered)
+    pub happened : List (MailboxEvent (Mail P S Told) S Answered)
     pub goes : GoesThrough brings is_over gives was_left mailbox happened now
     pub waits : WaitsBehind parked at happened left at
-    pub so_far : (more : List (Event (Mail P S Told) S Answered)) → AreServedAt at left more → AreServedAt at parked (happened ++ more)
+    pub so_far : (more : List (MailboxEvent (Mail P S Told) S Answered)) → AreServedAt at left more → AreServedAt at parked (happened ++ more)
 
   pub answering_begins : (at : ℕ) (parked : List (Ask P S Told)) (mailbox : V) → Answering at parked mailbox parked mailbox
   answering_begins at parked mailbox = record { happened = []; goes = refl; waits = (refl, refl); so_far = λ more h. h }
 
-  pub answering_goes : (at : ℕ) (parked : List (Ask P S Told)) (mailbox : V) (r : Ask P S Told) (left : List (Ask P S Told)) (now next : V) (first : List (Event (Mail P S Told) S Answered))
+  pub answering_goes : (at : ℕ) (parked : List (Ask P S Told)) (mailbox : V) (r : Ask P S Told) (left : List (Ask P S Told)) (now next : V) (first : List (MailboxEvent (Mail P S Told) S Answered))
       → Answering at parked mailbox (r ∷ left) now → IsServedAt at r first → GoesThrough brings is_over gives was_left now first next
       → Answering at parked mailbox left next
   answering_goes at parked mailbox r left now next first h is goes = record {
@@ -149,7 +149,7 @@ module _ {V P S Told : Type 0} (brings : V → Mail P S Told → V → Type 0) (
   }
 
   pub answering_ends : (at : ℕ) (parked : List (Ask P S Told)) (mailbox now : V) → Answering at parked mailbox [] now
-      → (happened : List (Event (Mail P S Told) S Answered)) × AreServedAt at parked happened × GoesThrough brings is_over gives was_left mailbox happened now
+      → (happened : List (MailboxEvent (Mail P S Told) S Answered)) × AreServedAt at parked happened × GoesThrough brings is_over gives was_left mailbox happened now
   answering_ends at parked mailbox now h =
       (h.happened ++ [], h.so_far [] refl, subst (λ es. GoesThrough brings is_over gives was_left mailbox es now) (sym (append-nil h.happened)) h.goes)
 
@@ -160,12 +160,12 @@ module _ {V P S Told : Type 0} (brings : V → Mail P S Told → V → Type 0) (
       (quiet : Bool) (pass : Knowledge) (polls : List (Ask P S Told)) (now : V) (turns : ℕ) : Type 0 where
     pub rest : List (Ask P S Told)
     pub kept : List (Ask P S Told)
-    pub happened : List (Event (Mail P S Told) S Answered)
+    pub happened : List (MailboxEvent (Mail P S Told) S Answered)
     pub parts : polls ≡ rest ++ kept
     pub count : length rest ≡ turns
     pub goes : GoesThrough brings is_over gives was_left mailbox happened now
     pub waits : WaitsBehind parked at happened (kept ++ rest) at
-    pub so_far : (more : List (Event (Mail P S Told) S Answered)) (after : Knowledge) (left : List (Ask P S Told))
+    pub so_far : (more : List (MailboxEvent (Mail P S Told) S Answered)) (after : Knowledge) (left : List (Ask P S Told))
         → LooksOver limit at quiet pass rest more after left → LooksOver limit at known before parked (happened ++ more) after (kept ++ left)
 
   pub looking_begins : (limit at : ℕ) (known : Bool) (before : Knowledge) (parked : List (Ask P S Told)) (mailbox : V) (turns : ℕ) → length parked ≡ turns
@@ -183,7 +183,7 @@ module _ {V P S Told : Type 0} (brings : V → Mail P S Told → V → Type 0) (
 
   pub looking_ends : (limit at : ℕ) (known : Bool) (before : Knowledge) (parked : List (Ask P S Told)) (mailbox : V) (quiet : Bool) (pass : Knowledge) (polls : List (Ask P S Told)) (now : V)
       → Looking limit at known before parked mailbox quiet pass polls now 0
-      → (happened : List (Event (Mail P S Told) S Answered)) × LooksOver limit at known before parked happened pass polls
+      → (happened : List (MailboxEvent (Mail P S Told) S Answered)) × LooksOver limit at known before parked happened pass polls
       × GoesThrough brings is_over gives was_left mailbox happened now × WaitsBehind parked at happened polls at
   looking_ends limit at known before parked mailbox quiet pass polls now h =
       let done : h.rest ≡ [] = nothing_left h.rest h.count in
@@ -222,11 +222,11 @@ module _ {V P S Told : Type 0} (brings : V → Mail P S Told → V → Type 0) (
   -- of the polls that waited the first were answered, or were dropped, and the others are still to be looked at
   pub record Passing (limit at : ℕ) (known : Bool) (before : Knowledge) (parked : List (Ask P S Told)) (mailbox : V)
       (quiet : Bool) (pass : Knowledge) (rest : List (Ask P S Told)) (now : V) : Type 0 where
-    pub happened : List (Event (Mail P S Told) S Answered)
+    pub happened : List (MailboxEvent (Mail P S Told) S Answered)
     pub early : WaitBeyond at rest
     pub goes : GoesThrough brings is_over gives was_left mailbox happened now
     pub waits : WaitsBehind parked at happened rest at
-    pub so_far : (more : List (Event (Mail P S Told) S Answered)) (after : Knowledge) (left : List (Ask P S Told))
+    pub so_far : (more : List (MailboxEvent (Mail P S Told) S Answered)) (after : Knowledge) (left : List (Ask P S Told))
         → LooksOver limit at quiet pass rest more after left → LooksOver limit at known before parked (happened ++ more) after left
 
   pub passing_begins : (limit at : ℕ) (known : Bool) (before : Knowledge) (parked : List (Ask P S Told)) (mailbox : V) → WaitBeyond at parked
@@ -237,7 +237,7 @@ module _ {V P S Told : Type 0} (brings : V → Mail P S Told → V → Type 0) (
   -- what is said of the polls that wait, where the first of them is this one
   abbrev pub IsOver : (limit at : ℕ) (known : Bool) (before : Knowledge) (parked : List (Ask P S Told)) (mailbox : V) (pass : Knowledge) (polls : List (Ask P S Told)) (now : V) → Type 0
   IsOver limit at known before parked mailbox pass polls now =
-      (happened : List (Event (Mail P S Told) S Answered)) × LooksOver limit at known before parked happened pass polls
+      (happened : List (MailboxEvent (Mail P S Told) S Answered)) × LooksOver limit at known before parked happened pass polls
       × GoesThrough brings is_over gives was_left mailbox happened now × WaitsBehind parked at happened polls at
 
   pub passing_ends : (limit at : ℕ) (known : Bool) (before : Knowledge) (parked : List (Ask P S Told)) (mailbox : V) (quiet : Bool) (pass : Knowledge) (now : V)
@@ -260,7 +260,7 @@ module _ {V P S Told : Type 0} (brings : V → Mail P S Told → V → Type 0) (
 
   -- the poll that is looked at is served
   pub passing_goes : (limit at : ℕ) (known : Bool) (before : Knowledge) (parked : List (Ask P S Told)) (mailbox : V) (quiet : Bool) (pass between : Knowledge)
-      (others : List (Ask P S Told)) (now next : V) (r : Ask P S Told) (first : List (Event (Mail P S Told) S Answered))
+      (others : List (Ask P S Told)) (now next : V) (r : Ask P S Told) (first : List (MailboxEvent (Mail P S Told) S Answered))
       → Passing limit at known before parked mailbox quiet pass (r ∷ others) now
       → LooksAt limit at quiet pass r first false between → GoesThrough brings is_over gives was_left now first next
       → Passing limit at known before parked mailbox false between others next
@@ -276,7 +276,7 @@ module _ {V P S Told : Type 0} (brings : V → Mail P S Told → V → Type 0) (
 
   -- the poll that is looked at goes on waiting, and so do those behind it
   pub passing_stops : (limit at : ℕ) (known : Bool) (before : Knowledge) (parked : List (Ask P S Told)) (mailbox : V) (quiet : Bool) (pass between : Knowledge)
-      (others : List (Ask P S Told)) (now next : V) (r : Ask P S Told) (first : List (Event (Mail P S Told) S Answered))
+      (others : List (Ask P S Told)) (now next : V) (r : Ask P S Told) (first : List (MailboxEvent (Mail P S Told) S Answered))
       → Passing limit at known before parked mailbox quiet pass (r ∷ others) now
       → LooksAt limit at quiet pass r first true between → GoesThrough brings is_over gives was_left now first next
       → IsOver limit at known before parked mailbox between (r ∷ others) next
@@ -321,7 +321,7 @@ module _ {V P S Told : Type 0} (brings : V → Mail P S Told → V → Type 0) (
 
   -- the poll that is looked at goes on waiting, behind those that were looked at, or it is served
   pub looking_goes : (limit at : ℕ) (known : Bool) (before : Knowledge) (parked : List (Ask P S Told)) (mailbox : V) (quiet is_kept : Bool) (pass between : Knowledge)
-      (polls others : List (Ask P S Told)) (now next : V) (turns : ℕ) (r : Ask P S Told) (first : List (Event (Mail P S Told) S Answered))
+      (polls others : List (Ask P S Told)) (now next : V) (turns : ℕ) (r : Ask P S Told) (first : List (MailboxEvent (Mail P S Told) S Answered))
       → Looking limit at known before parked mailbox quiet pass polls now (turns + 1) → polls ≡ r ∷ others
       → LooksAt limit at quiet pass r first is_kept between → GoesThrough brings is_over gives was_left now first next
       → Looking limit at known before parked mailbox is_kept between (with_last others is_kept r) next turns
@@ -362,13 +362,13 @@ both_ways false a b = b
 
 module _ {P S Told : Type 0} where
   -- a receive is answered at its moment, where somebody waits for that
-  pub admits_served : (r : Ask P S Told) (parked left : List (Ask P S Told)) (happened : List (Event (Mail P S Told) S Answered))
+  pub admits_served : (r : Ask P S Told) (parked left : List (Ask P S Told)) (happened : List (MailboxEvent (Mail P S Told) S Answered))
       → left ≡ parked → is_receive r.command ≡ true → IsServedAt r.moment r happened → Admits r parked happened left
   admits_served r parked left happened same receives is =
       inr (same, subst (λ b. MatchBool b (IsServedAt r.moment r happened) (IsAnsweredAt r.moment r happened)) (sym receives) is)
 
   -- an ask is answered at its moment
-  pub admits_answered : (r : Ask P S Told) (parked left : List (Ask P S Told)) (happened : List (Event (Mail P S Told) S Answered))
+  pub admits_answered : (r : Ask P S Told) (parked left : List (Ask P S Told)) (happened : List (MailboxEvent (Mail P S Told) S Answered))
       → left ≡ parked → IsAnsweredAt r.moment r happened → Admits r parked happened left
   admits_answered r parked left happened same is = inr (same, both_ways (is_receive r.command) (inr is) is)
 
@@ -379,9 +379,9 @@ module _ {P S Told V T : Type 0} (told : ℕ → Parcel → Delivery T → Type 
   -- what was served so far, where these polls wait now
   pub record Serving (uid limit : ℕ) (before : Knowledge) (mailbox : V) (pass : Knowledge) (parked : List (Ask P S Told)) (last : ℕ) (now : V) : Type 0 where
     pub mails : List (Mail P S Told)
-    pub events : List (Event (Mail P S Told) S Answered)
+    pub events : List (MailboxEvent (Mail P S Told) S Answered)
     pub goes : GoesThrough brings is_over gives was_left mailbox events now
-    pub so_far : (ms : List (Mail P S Told)) (more : List (Event (Mail P S Told) S Answered)) (after : Knowledge)
+    pub so_far : (ms : List (Mail P S Told)) (more : List (MailboxEvent (Mail P S Told) S Answered)) (after : Knowledge)
         → Serves told taken_out retargeted uid limit pass parked last ms more after → Serves told taken_out retargeted uid limit before [] 0 (mails ++ ms) (events ++ more) after
 
   pub serving_begins : (uid limit : ℕ) (before : Knowledge) (mailbox : V) (parked : List (Ask P S Told)) → parked ≡ []
@@ -395,7 +395,7 @@ module _ {P S Told V T : Type 0} (told : ℕ → Parcel → Delivery T → Type 
 
   -- what was served so far, and then a mail, and then what is served behind that
   served_so_far : (uid limit : ℕ) (before : Knowledge) (mailbox : V) (pass : Knowledge) (parked : List (Ask P S Told)) (last : ℕ) (now : V)
-      (h : Serving uid limit before mailbox pass parked last now) (mail : Mail P S Told) (happened more : List (Event (Mail P S Told) S Answered)) (ms : List (Mail P S Told)) (after : Knowledge)
+      (h : Serving uid limit before mailbox pass parked last now) (mail : Mail P S Told) (happened more : List (MailboxEvent (Mail P S Told) S Answered)) (ms : List (Mail P S Told)) (after : Knowledge)
       → Serves told taken_out retargeted uid limit pass parked last (mail ∷ ms) (happened ++ more) after
       → Serves told taken_out retargeted uid limit before [] 0 ((h.mails ++ mail ∷ []) ++ ms) ((h.events ++ happened) ++ more) after
   served_so_far uid limit before mailbox pass parked last now h mail happened more ms after s =
@@ -405,14 +405,14 @@ module _ {P S Told V T : Type 0} (told : ℕ → Parcel → Delivery T → Type 
 
   -- one mail more that does not end it
   pub serving_goes : (uid limit : ℕ) (before : Knowledge) (mailbox : V) (pass : Knowledge) (parked : List (Ask P S Told)) (last : ℕ) (now : V)
-      (mail : Mail P S Told) (at : ℕ) (first second : List (Event (Mail P S Told) S Answered)) (wait left : List (Ask P S Told)) (between : Knowledge) (fetched taken next : V)
+      (mail : Mail P S Told) (at : ℕ) (first second : List (MailboxEvent (Mail P S Told) S Answered)) (wait left : List (Ask P S Told)) (between : Knowledge) (fetched taken next : V)
       → Serving uid limit before mailbox pass parked last now
       → brings now mail fetched
       → TakesIn taken_out retargeted uid mail last parked first wait at false → GoesThrough brings is_over gives was_left fetched first taken
       → Goes told taken_out retargeted limit at (is_tick mail) pass wait second between left → GoesThrough brings is_over gives was_left taken second next
       → Serving uid limit before mailbox between left at next
   serving_goes uid limit before mailbox pass parked last now mail at first second wait left between fetched taken next h brought takes adds goes more_adds =
-      let happened : List (Event (Mail P S Told) S Answered) = Event.Brought mail ∷ (first ++ second) in
+      let happened : List (MailboxEvent (Mail P S Told) S Answered) = MailboxEvent.Brought mail ∷ (first ++ second) in
       record {
         mails = h.mails ++ mail ∷ [];
         events = h.events ++ happened;
@@ -425,36 +425,36 @@ module _ {P S Told V T : Type 0} (told : ℕ → Parcel → Delivery T → Type 
           at,
           false,
           takes,
-          ap (λ es. Event.Brought mail ∷ es) (append_assoc first second more),
+          ap (λ es. MailboxEvent.Brought mail ∷ es) (append_assoc first second more),
           (second, more, between, left, goes, refl, m),
         );
       }
 
   -- it ends, where no mail will come any more
   pub serving_ends : (uid limit : ℕ) (before : Knowledge) (mailbox : V) (pass : Knowledge) (parked : List (Ask P S Told)) (last : ℕ) (now : V)
-      (happened : List (Event (Mail P S Told) S Answered)) (after : Knowledge) (ended next : V)
+      (happened : List (MailboxEvent (Mail P S Told) S Answered)) (after : Knowledge) (ended next : V)
       → Serving uid limit before mailbox pass parked last now
       → is_over now ended → Ends told taken_out retargeted last pass parked happened after → GoesThrough brings is_over gives was_left ended happened next
-      → (ms : List (Mail P S Told)) × (events : List (Event (Mail P S Told) S Answered)) × Serves told taken_out retargeted uid limit before [] 0 ms events after
+      → (ms : List (Mail P S Told)) × (events : List (MailboxEvent (Mail P S Told) S Answered)) × Serves told taken_out retargeted uid limit before [] 0 ms events after
       × GoesThrough brings is_over gives was_left mailbox events next
   serving_ends uid limit before mailbox pass parked last now happened after ended next h over ends goes = (
     h.mails ++ [],
-    h.events ++ Event.Over ∷ happened,
-    h.so_far [] (Event.Over ∷ happened) after (happened, refl, ends),
-    through_both brings is_over gives was_left mailbox now next h.events (Event.Over ∷ happened) h.goes (ended, over, goes),
+    h.events ++ MailboxEvent.Over ∷ happened,
+    h.so_far [] (MailboxEvent.Over ∷ happened) after (happened, refl, ends),
+    through_both brings is_over gives was_left mailbox now next h.events (MailboxEvent.Over ∷ happened) h.goes (ended, over, goes),
   )
 
   -- it ends, where a mail says so, or the queue was closed
   pub serving_is_ended : (uid limit : ℕ) (before : Knowledge) (mailbox : V) (pass : Knowledge) (parked : List (Ask P S Told)) (last : ℕ) (now : V)
-      (mail : Mail P S Told) (at : ℕ) (first rest : List (Event (Mail P S Told) S Answered)) (wait : List (Ask P S Told)) (after : Knowledge) (fetched taken next : V)
+      (mail : Mail P S Told) (at : ℕ) (first rest : List (MailboxEvent (Mail P S Told) S Answered)) (wait : List (Ask P S Told)) (after : Knowledge) (fetched taken next : V)
       → Serving uid limit before mailbox pass parked last now
       → brings now mail fetched
       → TakesIn taken_out retargeted uid mail last parked first wait at true → GoesThrough brings is_over gives was_left fetched first taken
       → Ends told taken_out retargeted at pass wait rest after → GoesThrough brings is_over gives was_left taken rest next
-      → (ms : List (Mail P S Told)) × (events : List (Event (Mail P S Told) S Answered)) × Serves told taken_out retargeted uid limit before [] 0 ms events after
+      → (ms : List (Mail P S Told)) × (events : List (MailboxEvent (Mail P S Told) S Answered)) × Serves told taken_out retargeted uid limit before [] 0 ms events after
       × GoesThrough brings is_over gives was_left mailbox events next
   serving_is_ended uid limit before mailbox pass parked last now mail at first rest wait after fetched taken next h brought takes adds ends more_adds =
-      let happened : List (Event (Mail P S Told) S Answered) = Event.Brought mail ∷ (first ++ rest) in (
+      let happened : List (MailboxEvent (Mail P S Told) S Answered) = MailboxEvent.Brought mail ∷ (first ++ rest) in (
         h.mails ++ mail ∷ [],
         h.events ++ happened,
         h.so_far (mail ∷ []) happened after (first, rest, wait, at, true, takes, refl, (refl, ends)),

@@ -5,7 +5,7 @@ use Rattle.queue_actor.specs.declared.mail.Ask.{Ask}
 use Rattle.queue_actor.specs.declared.mail.Mail.{Mail}
 use Rattle.queue_actor.specs.declared.mail.Mail.TheVariants as mails
 use Rattle.queue_actor.specs.Answered.{Answered}
-use Rattle.queue_actor.specs.Course.{Event, GoesThrough}
+use Rattle.queue_actor.specs.Course.{MailboxEvent, GoesThrough}
 use Rattle.queue_actor.specs.Serving.{IsAnswerAt}
 
 module _ {P S Told : Type 0} where
@@ -31,13 +31,13 @@ module _ {P S Told : Type 0} where
   moment_with last mails.End = last
 
   -- the asks that wait, and the moment of the last mail, behind what happened at a mailbox: an ask that comes waits until an answer goes to its slot, or nobody is found to wait there
-  abbrev pub WaitsBehind : List (Ask P S Told) → ℕ → List (Event (Mail P S Told) S Answered) → List (Ask P S Told) → ℕ → Type 0
+  abbrev pub WaitsBehind : List (Ask P S Told) → ℕ → List (MailboxEvent (Mail P S Told) S Answered) → List (Ask P S Told) → ℕ → Type 0
   WaitsBehind asks last [] left at = (left ≡ asks) × (at ≡ last)
-  WaitsBehind asks last (Event.Brought mail ∷ events) left at = WaitsBehind (waiting_with asks mail) (moment_with last mail) events left at
-  WaitsBehind asks last (Event.Over ∷ events) left at = WaitsBehind asks last events left at
-  WaitsBehind asks last (Event.Gave slot answer ∷ events) left at =
+  WaitsBehind asks last (MailboxEvent.Brought mail ∷ events) left at = WaitsBehind (waiting_with asks mail) (moment_with last mail) events left at
+  WaitsBehind asks last (MailboxEvent.Over ∷ events) left at = WaitsBehind asks last events left at
+  WaitsBehind asks last (MailboxEvent.Gave slot answer ∷ events) left at =
       (others : List (Ask P S Told)) × IsWithout asks slot others × WaitsBehind others last events left at
-  WaitsBehind asks last (Event.Left slot ∷ events) left at =
+  WaitsBehind asks last (MailboxEvent.Left slot ∷ events) left at =
       (others : List (Ask P S Told)) × IsWithout asks slot others × WaitsBehind others last events left at
 
 -- Where these asks wait and the last mail came at a moment: whatever happens at a mailbox, it takes then the answer to each ask that waits then, made at the moment of the last mail, to the ask's own slot
@@ -45,6 +45,6 @@ abbrev pub TakesAnswers : {V P S Told : Type 0} (brings : V → Mail P S Told �
     (may_give : V → S → Answered → Type 0) (gives : V → S → Answered → V → Type 0) (was_left : V → S → Type 0)
     → List (Ask P S Told) → ℕ → V → Type 0
 TakesAnswers {V} {P} {S} {Told} brings is_over may_give gives was_left asks last now =
-    (events : List (Event (Mail P S Told) S Answered)) (then : V) (front back : List (Ask P S Told)) (at : ℕ) (r : Ask P S Told) (answer : Answered)
+    (events : List (MailboxEvent (Mail P S Told) S Answered)) (then : V) (front back : List (Ask P S Told)) (at : ℕ) (r : Ask P S Told) (answer : Answered)
     → GoesThrough brings is_over gives was_left now events then → WaitsBehind asks last events (front ++ r ∷ back) at
     → IsAnswerAt at r answer → may_give then r.reply answer

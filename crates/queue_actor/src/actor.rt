@@ -4,7 +4,7 @@ ghost use Rattle.std.specs.Prelude.{◌≡◌, ◌<◌, ◌≤◌, true, false, 
 ghost use Rattle.std.specs.Arc.{arc_value};
 ghost use Rattle.std.specs.VecDeque.{deque_len, deque_capacity};
 ghost use Rattle.desk.specs.Views.{IsKnown};
-ghost use Rattle.queue_actor.specs.Course.{Event, GoesThrough};
+ghost use Rattle.queue_actor.specs.Course.{MailboxEvent, GoesThrough};
 ghost use Rattle.queue_actor.specs.declared.mail.Mail.{Mail};
 ghost use Rattle.queue_actor.specs.Answered.{Answered};
 ghost use Rattle.queue_actor.specs.Calling.{HasAsked, Finds, KeepsWaiting, LooksAtTick, is_quiet};
@@ -158,7 +158,7 @@ where
         gate: &G,
     ) -> Option<Ask<P, S>>
         requires may { (given : Answered) → IsAnswerAt at poll given → I.may_give mailbox.old poll.reply given }
-        ensures looked { (happened : List (Event (Mail P S P.Told) S Answered)) × LooksAt limit at quiet self.old.pass poll happened (is_some result) self.new.pass × GoesThrough I.brings I.is_over I.gives I.was_left mailbox.old happened mailbox.new }
+        ensures looked { (happened : List (MailboxEvent (Mail P S P.Told) S Answered)) × LooksAt limit at quiet self.old.pass poll happened (is_some result) self.new.pass × GoesThrough I.brings I.is_over I.gives I.was_left mailbox.old happened mailbox.new }
         ensures same { IfSome result (λ kept. kept ≡ poll) }
     {
         if mailbox.is_left(&poll.reply) {
@@ -185,7 +185,7 @@ where
         gate: &G,
     )
         requires may { TakesAnswers I.brings I.is_over I.may_give I.gives I.was_left parked.old.items at mailbox.old }
-        ensures looked { (happened : List (Event (Mail P S P.Told) S Answered)) × LooksOver limit at known self.old.pass parked.old.items happened self.new.pass parked.new.items × GoesThrough I.brings I.is_over I.gives I.was_left mailbox.old happened mailbox.new }
+        ensures looked { (happened : List (MailboxEvent (Mail P S P.Told) S Answered)) × LooksOver limit at known self.old.pass parked.old.items happened self.new.pass parked.new.items × GoesThrough I.brings I.is_over I.gives I.was_left mailbox.old happened mailbox.new }
         ensures may { TakesAnswers I.brings I.is_over I.may_give I.gives I.was_left parked.new.items at mailbox.new }
     {
         let mut quiet = known;
@@ -216,7 +216,7 @@ where
     )
         requires may { TakesAnswers I.brings I.is_over I.may_give I.gives I.was_left parked.old.items at mailbox.old }
         requires early { WaitBeyond at parked.old.items }
-        ensures looked { (happened : List (Event (Mail P S P.Told) S Answered)) × LooksOver limit at known self.old.pass parked.old.items happened self.new.pass parked.new.items × GoesThrough I.brings I.is_over I.gives I.was_left mailbox.old happened mailbox.new }
+        ensures looked { (happened : List (MailboxEvent (Mail P S P.Told) S Answered)) × LooksOver limit at known self.old.pass parked.old.items happened self.new.pass parked.new.items × GoesThrough I.brings I.is_over I.gives I.was_left mailbox.old happened mailbox.new }
         ensures may { TakesAnswers I.brings I.is_over I.may_give I.gives I.was_left parked.new.items at mailbox.new }
     {
         let mut quiet = known;
@@ -244,7 +244,7 @@ where
         gate: &G,
     )
         requires may { TakesAnswers I.brings I.is_over I.may_give I.gives I.was_left parked.old.items at mailbox.old }
-        ensures looked { (happened : List (Event (Mail P S P.Told) S Answered)) × LooksOver limit at known self.old.pass parked.old.items happened self.new.pass parked.new.items × GoesThrough I.brings I.is_over I.gives I.was_left mailbox.old happened mailbox.new }
+        ensures looked { (happened : List (MailboxEvent (Mail P S P.Told) S Answered)) × LooksOver limit at known self.old.pass parked.old.items happened self.new.pass parked.new.items × GoesThrough I.brings I.is_over I.gives I.was_left mailbox.old happened mailbox.new }
         ensures may { TakesAnswers I.brings I.is_over I.may_give I.gives I.was_left parked.new.items at mailbox.new }
     {
         if is_sweep || is_any_due(at, parked) {
@@ -267,7 +267,7 @@ where
         gate: &G,
     )
         requires may { TakesAnswers {S = S} I.brings I.is_over I.may_give I.gives I.was_left [] 0 mailbox.old }
-        ensures served { (mails : List (Mail P S P.Told)) × (events : List (Event (Mail P S P.Told) S Answered))
+        ensures served { (mails : List (Mail P S P.Told)) × (events : List (MailboxEvent (Mail P S P.Told) S Answered))
             × Serves (D.was_told directory.now) (D.was_taken_out directory.now) (D.was_retargeted directory.now) self.old.uid self.old.limits.in_flight self.old.pass [] 0 mails events self.new.pass
             × GoesThrough I.brings I.is_over I.gives I.was_left mailbox.old events mailbox.new }
         ensures known { IsKnown self.new.pass }
@@ -330,7 +330,7 @@ where
         gate: &G,
     )
         requires may { TakesAnswers I.brings I.is_over I.may_give I.gives I.was_left parked.items last mailbox.old }
-        ensures served { (happened : List (Event (Mail P S P.Told) S Answered)) × Ends (D.was_told directory.now) (D.was_taken_out directory.now) (D.was_retargeted directory.now) last self.old.pass parked.items happened self.new.pass × GoesThrough I.brings I.is_over I.gives I.was_left mailbox.old happened mailbox.new }
+        ensures served { (happened : List (MailboxEvent (Mail P S P.Told) S Answered)) × Ends (D.was_told directory.now) (D.was_taken_out directory.now) (D.was_retargeted directory.now) last self.old.pass parked.items happened self.new.pass × GoesThrough I.brings I.is_over I.gives I.was_left mailbox.old happened mailbox.new }
         ensures known { IsKnown self.new.pass }
     {
         answer_all(rt, alloc, last, parked, mailbox, gate);
@@ -451,7 +451,7 @@ fn answer_awaited<P: Press, S: Drop, I: Inbox<Mail<P, S>, S, Answer<P>>, R: Wait
 where
     P::Told: Drop,
     requires may { (given : Answered) → IsAnswerAt at ask given → I.may_give mailbox.old ask.reply given }
-    ensures { (happened : List (Event (Mail P S P.Told) S Answered)) × IsServedAt at ask happened × GoesThrough I.brings I.is_over I.gives I.was_left mailbox.old happened mailbox.new }
+    ensures { (happened : List (MailboxEvent (Mail P S P.Told) S Answered)) × IsServedAt at ask happened × GoesThrough I.brings I.is_over I.gives I.was_left mailbox.old happened mailbox.new }
 {
     if !mailbox.is_left(&ask.reply) {
         answer(rt, alloc, at, ask, mailbox, gate);
@@ -508,7 +508,7 @@ fn admit<P: Press, S: Drop, I: Inbox<Mail<P, S>, S, Answer<P>>, D: Targets, R: W
 where
     P::Told: Drop,
     requires may { TakesAnswers I.brings I.is_over I.may_give I.gives I.was_left (parked.old.items ++ ask ∷ []) ask.moment mailbox.old }
-    ensures admitted { (happened : List (Event (Mail P S P.Told) S Answered)) × Admits ask parked.old.items happened parked.new.items
+    ensures admitted { (happened : List (MailboxEvent (Mail P S P.Told) S Answered)) × Admits ask parked.old.items happened parked.new.items
         × Leads (D.was_taken_out directory.now) (D.was_retargeted directory.now) uid happened result
         × GoesThrough I.brings I.is_over I.gives I.was_left mailbox.old happened mailbox.new }
     ensures kept { may_wait ask ≡ true → deque_len parked.old < deque_capacity parked.old → parked.new.items ≡ parked.old.items ++ ask ∷ [] }
@@ -540,7 +540,7 @@ fn take_in<P: Press, S: Drop, I: Inbox<Mail<P, S>, S, Answer<P>>, D: Targets, R:
 where
     P::Told: Drop,
     requires may { TakesAnswers I.brings I.is_over I.may_give I.gives I.was_left (waiting_with parked.old.items mail) (moment_with last mail) mailbox.old }
-    ensures taken { (happened : List (Event (Mail P S P.Told) S Answered))
+    ensures taken { (happened : List (MailboxEvent (Mail P S P.Told) S Answered))
         × TakesIn (D.was_taken_out directory.now) (D.was_retargeted directory.now) uid mail last parked.old.items happened parked.new.items result.0 result.1
         × GoesThrough I.brings I.is_over I.gives I.was_left mailbox.old happened mailbox.new }
     ensures may { TakesAnswers I.brings I.is_over I.may_give I.gives I.was_left parked.new.items result.0 mailbox.new }
@@ -568,7 +568,7 @@ fn answer_all<P: Press, S: Drop, I: Inbox<Mail<P, S>, S, Answer<P>>, R: Wait, G:
 where
     P::Told: Drop,
     requires may { TakesAnswers I.brings I.is_over I.may_give I.gives I.was_left parked.items at mailbox.old }
-    ensures { (happened : List (Event (Mail P S P.Told) S Answered)) × AreServedAt at parked.items happened × GoesThrough I.brings I.is_over I.gives I.was_left mailbox.old happened mailbox.new }
+    ensures { (happened : List (MailboxEvent (Mail P S P.Told) S Answered)) × AreServedAt at parked.items happened × GoesThrough I.brings I.is_over I.gives I.was_left mailbox.old happened mailbox.new }
 {
     while let Some(poll) = parked.pop_front() {
         answer_awaited(rt, alloc, at, poll, mailbox, gate);

@@ -162,7 +162,7 @@ impl<P: Press, S: Drop> Served<P, S> {
 
 /// What lies under the directory's lock: the names, and the queues that are served, each once and under a name of its own.
 #[derive(Drop)]
-struct Entries<P: Press, S: Drop> {
+struct DirectoryEntries<P: Press, S: Drop> {
     catalog: Catalog,
     served: Vec<Served<P, S>>,
     /// The uids and names of those that are served, by which their places are found.
@@ -171,14 +171,14 @@ struct Entries<P: Press, S: Drop> {
     ghost names: { keys.names ≡ map (λ queue. queue.name) served.items },
 }
 
-impl<P: Press, S: Drop> Entries<P, S> {
+impl<P: Press, S: Drop> DirectoryEntries<P, S> {
     /// No names and no queues. `OutOfMemory` is the only refusal.
-    fn new(alloc: Global) -> Result<Entries<P, S>, Fault>
+    fn new(alloc: Global) -> Result<DirectoryEntries<P, S>, Fault>
         ensures catalog { IfOk result (λ entries. entries.catalog ≡ empty_directory) }
         ensures served { IfOk result (λ entries. entries.served.items ≡ []) }
         ensures errors { IfErr result (λ fault. fault ≡ OutOfMemory) }
     {
-        Ok(Entries {
+        Ok(DirectoryEntries {
             catalog: Catalog::new(alloc)?,
             served: Vec::new(alloc),
             keys: Keys::new(alloc),
@@ -310,7 +310,7 @@ impl<P: Press, S: Drop> Entries<P, S> {
 #[derive(Drop)]
 pub struct Directory<P: Press, S: Drop> {
     limits: Limits,
-    entries: Mutex<Entries<P, S>>,
+    entries: Mutex<DirectoryEntries<P, S>>,
     readers: Mutex<Readers>,
 }
 
@@ -330,7 +330,7 @@ impl<P: Press, S: Drop> Directory<P, S> {
     {
         Ok(Directory {
             limits,
-            entries: Mutex::new(Entries::new(alloc)?),
+            entries: Mutex::new(DirectoryEntries::new(alloc)?),
             readers: Mutex::new(Readers::new(alloc)),
         })
     }

@@ -4,7 +4,7 @@ use Rattle.std.specs.Prelude.{if◌then◌else◌}
 use Rattle.std.specs.List.{find}
 use Rattle.std.specs.Str.{bytes_eq}
 use Rattle.toml.specs.Data.{Data}
-use Rattle.queue_config.specs.SettingRows.{row_of}
+use Rattle.queue_config.specs.SettingRows.{setting_row}
 use Rattle.queue_config.specs.ConfigKeys.{with_key}
 use Rattle.queue_config.specs.ConfigText.{setting_key, with_setting_key}
 use Rattle.queue_config.specs.declared.config_fault.ConfigFault.{ConfigFault}
@@ -18,8 +18,8 @@ by_test true setting found queue d others h = refl
 by_test false setting found queue d others h = h
 
 pub with_key-settings : (settings : List Setting) (queue : QueueTable) (key : List ℕ) (d : Data)
-    → with_key (map setting_key settings) queue key d ≡ with_setting_key (find (λ setting. bytes_eq key (row_of setting).key) settings) queue d
+    → with_key (map setting_key settings) queue key d ≡ with_setting_key (find (λ setting. bytes_eq key (setting_row setting).key) settings) queue d
 with_key-settings [] queue key d = refl
 with_key-settings (setting ∷ settings) queue key d =
-    by_test (bytes_eq key (row_of setting).key) setting (find (λ s. bytes_eq key (row_of s).key) settings) queue d
+    by_test (bytes_eq key (setting_row setting).key) setting (find (λ s. bytes_eq key (setting_row s).key) settings) queue d
     (with_key (map setting_key settings) queue key d) (with_key-settings settings queue key d)

@@ -5,7 +5,7 @@ use Rattle.toml.specs.Data.{Data, Members, no_members, member, get_member, as_ta
 use Rattle.toml.specs.Parse.{parse_document}
 use Rattle.queue_config.specs.AlarmText.{alarm_in, have_too_many_alarms, have_equal_alarms, configured_alarms}
 use Rattle.queue_config.specs.Limits.{QueueLimits, max_lines_row, in_flight_row, default_limits}
-use Rattle.queue_config.specs.SettingRows.{row_of, all_settings}
+use Rattle.queue_config.specs.SettingRows.{setting_row, all_settings}
 use Rattle.queue_config.specs.Settings.{default_settings, no_requested_attributes, requested_target, with_setting_value, with_policy, settings_with}
 use Rattle.queue_config.specs.Config.{Configuration, configured_uid, most_queues}
 use Rattle.queue_config.specs.ConfigKeys.{◌>>=◌, KeyRow, number_key, name_key, with_keys, tables_in, with_each}
@@ -38,7 +38,7 @@ limits_in (Some d) = do
 -- a setting, by its row in the table of settings
 abbrev pub setting_key : Setting → KeyRow QueueTable
 setting_key setting =
-    number_key (row_of setting).key (row_of setting).least (row_of setting).most
+    number_key (setting_row setting).key (setting_row setting).least (setting_row setting).most
     (λ queue n. record queue { wish = with_setting_value setting (Some n) queue.wish })
 
 abbrev pub queue_keys : List (KeyRow QueueTable)

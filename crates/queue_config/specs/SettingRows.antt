@@ -14,25 +14,25 @@ pub record SettingRow : Type 0 where
   pub default : ℕ
 
 -- seconds, and bytes for the size
-abbrev pub row_of : Setting → SettingRow
-row_of DelaySeconds = record { name = codes "DelaySeconds"; key = codes "delay_seconds"; least = 0; most = 900; default = 0 }
-row_of VisibilityTimeout = record { name = codes "VisibilityTimeout"; key = codes "visibility_timeout"; least = 0; most = 43200; default = 30 }
-row_of MessageRetentionPeriod = record { name = codes "MessageRetentionPeriod"; key = codes "retention_seconds"; least = 60; most = 1209600; default = 345600 }
-row_of ReceiveMessageWaitTimeSeconds = record { name = codes "ReceiveMessageWaitTimeSeconds"; key = codes "wait_seconds"; least = 0; most = 20; default = 0 }
-row_of MaximumMessageSize = record { name = codes "MaximumMessageSize"; key = codes "maximum_message_size"; least = 1024; most = 1048576; default = 1048576 }
+abbrev pub setting_row : Setting → SettingRow
+setting_row DelaySeconds = record { name = codes "DelaySeconds"; key = codes "delay_seconds"; least = 0; most = 900; default = 0 }
+setting_row VisibilityTimeout = record { name = codes "VisibilityTimeout"; key = codes "visibility_timeout"; least = 0; most = 43200; default = 30 }
+setting_row MessageRetentionPeriod = record { name = codes "MessageRetentionPeriod"; key = codes "retention_seconds"; least = 60; most = 1209600; default = 345600 }
+setting_row ReceiveMessageWaitTimeSeconds = record { name = codes "ReceiveMessageWaitTimeSeconds"; key = codes "wait_seconds"; least = 0; most = 20; default = 0 }
+setting_row MaximumMessageSize = record { name = codes "MaximumMessageSize"; key = codes "maximum_message_size"; least = 1024; most = 1048576; default = 1048576 }
 
 abbrev pub all_settings : List Setting
 all_settings = DelaySeconds ∷ VisibilityTimeout ∷ MessageRetentionPeriod ∷ ReceiveMessageWaitTimeSeconds ∷ MaximumMessageSize ∷ []
 
 -- the setting of an attribute's name
 abbrev pub setting_named : List ℕ → Option Setting
-setting_named name = find (λ setting. bytes_eq name (row_of setting).name) all_settings
+setting_named name = find (λ setting. bytes_eq name (setting_row setting).name) all_settings
 
 -- the setting of a key
 abbrev pub setting_with_key : List ℕ → Option Setting
-setting_with_key key = find (λ setting. bytes_eq key (row_of setting).key) all_settings
+setting_with_key key = find (λ setting. bytes_eq key (setting_row setting).key) all_settings
 
 -- the number is in the setting's range
 pub record IsInRange (setting : Setting) (n : ℕ) : Type 0 where
-  pub least : (row_of setting).least ≤ n
-  pub most : n ≤ (row_of setting).most
+  pub least : (setting_row setting).least ≤ n
+  pub most : n ≤ (setting_row setting).most

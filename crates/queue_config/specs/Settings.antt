@@ -7,7 +7,7 @@ use Rattle.message.specs.declared.fault.Fault.{Fault}
 use Rattle.message.specs.declared.fault.Fault.TheVariants.{InvalidAttributeName, InvalidAttributeValue}
 use Rattle.queue_config.specs.Decimal.{decimal_of}
 use Rattle.queue_config.specs.Policy.{IsReceiveLimit, requested_policy}
-use Rattle.queue_config.specs.SettingRows.{row_of, all_settings, setting_named, IsInRange}
+use Rattle.queue_config.specs.SettingRows.{setting_row, all_settings, setting_named, IsInRange}
 use Rattle.queue_config.specs.declared.policy.RedrivePolicy.{RedrivePolicy}
 use Rattle.queue_config.specs.declared.policy.RequestedPolicy.{RequestedPolicy}
 use Rattle.queue_config.specs.declared.setting.Setting.{Setting}
@@ -67,7 +67,7 @@ pub record AreSettings (s : QueueSettings) : Type 0 where
   pub policy : ForSome s.redrive_policy (λ policy. IsReceiveLimit policy.max_receive_count)
 
 abbrev pub default_settings : QueueSettings
-default_settings = per_setting (λ setting. (row_of setting).default) None
+default_settings = per_setting (λ setting. (setting_row setting).default) None
 
 -- the same queue after the same number of receives, or none in both
 abbrev pub same_policies : Option RedrivePolicy → Option RedrivePolicy → Bool
@@ -125,7 +125,7 @@ number_within least most (Some n) = if nat_le least n && nat_le n most then Ok n
 
 -- the number in the setting's range that a text of 1 to 9 digits is
 abbrev pub requested_number : Setting → List ℕ → Result ℕ Fault
-requested_number setting value = number_within (row_of setting).least (row_of setting).most (decimal_of 9 value)
+requested_number setting value = number_within (setting_row setting).least (setting_row setting).most (decimal_of 9 value)
 
 -- the requested attributes with one more number, where it is one
 abbrev pub request_number : RequestedAttributes → Setting → Result ℕ Fault → Result RequestedAttributes Fault

@@ -10,7 +10,7 @@ ghost use Rattle.queue_config.specs.Config.{default_configuration};
 ghost use Rattle.queue_config.specs.ConfigFault.{IsReadAs};
 ghost use Rattle.queue_config.specs.Limits.{default_limits};
 ghost use Rattle.queue_config.specs.Policy.{IsReceiveLimit};
-ghost use Rattle.queue_config.specs.SettingRows.{row_of, IsInRange};
+ghost use Rattle.queue_config.specs.SettingRows.{setting_row, IsInRange};
 ghost use Rattle.queue_config.specs.ConfigKeys.{number_between, name_in, with_key, with_keys, with_tables, tables_in, items_of};
 ghost use Rattle.queue_config.specs.ConfigText.{limit_keys, limits_in, queue_keys, with_setting_key, no_keys, policy_of_keys, queue_in, is_top_key, have_top_keys, configuration_of_table, configuration_of, configuration_of_bytes};
 
@@ -20,7 +20,7 @@ use crate::config_fault::ConfigFault;
 use crate::limits::{IN_FLIGHT, Limits, MAX_LINES};
 use crate::policy::{ReceiveLimit, RequestedPolicy};
 use crate::requested_queues::{RequestedQueue, together};
-use crate::setting::{Setting, row_of, setting_with_key};
+use crate::setting::{Setting, setting_row, setting_with_key};
 use crate::wish::Wish;
 use message::QueueName;
 use std::alloc::Global;
@@ -113,10 +113,10 @@ fn limits_in(value: Option<&Value>) -> Result<Limits, ConfigFault>
 
 /// The number of a setting that a value is.
 fn setting_in(value: &Value, setting: Setting) -> Result<u32, ConfigFault>
-    ensures value { result ≡ number_between (row_of setting).least (row_of setting).most (view value.now) }
+    ensures value { result ≡ number_between (setting_row setting).least (setting_row setting).most (view value.now) }
     ensures range { IfOk result (λ n. IsInRange setting n) }
 {
-    let row = row_of(setting);
+    let row = setting_row(setting);
     number_between(value, row.least, row.most)
 }
 

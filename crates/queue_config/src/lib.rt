@@ -1,6 +1,6 @@
 //! What a queue is configured with: settings, limits, and the attributes that a request asks for.
 //!
-//! - [`Setting`] and [`row_of`]: the table of the settings, one row each with the name of its
+//! - [`Setting`] and [`setting_row`]: the table of the settings, one row each with the name of its
 //!   attribute, its key in a configuration, its range and its default. What a name,
 //!   a key or a number is judged by is read from it.
 //! - [`Settings`]: the numbers of a queue, each in its range by the type, and its [`RedrivePolicy`]:
@@ -50,6 +50,6 @@ pub use limits::Limits;
 pub use metric::{ALL_METRICS, Metric, metric_named};
 pub use operator::{ALL_OPERATORS, Operator, operator_named};
 pub use policy::{RedrivePolicy, RequestedPolicy};
-pub use setting::{ALL_SETTINGS, Setting, SettingRow, row_of, setting_named};
+pub use setting::{ALL_SETTINGS, Setting, SettingRow, setting_row, setting_named};
 pub use settings::Settings;
 pub use wish::{Wish, is_ignored};

@@ -3,7 +3,7 @@
 ghost use Rattle.std.specs.Prelude.{◌≡◌};
 ghost use Rattle.std.specs.List.{find};
 ghost use Rattle.std.specs.Str.{bytes_eq};
-ghost use Rattle.queue_config.specs.SettingRows.{row_of, setting_named, setting_with_key};
+ghost use Rattle.queue_config.specs.SettingRows.{setting_row, setting_named, setting_with_key};
 
 use std::marker::Model;
 
@@ -52,8 +52,8 @@ impl Model for SettingRow {
 }
 
 /// The setting's row of the table.
-pub fn row_of(setting: Setting) -> SettingRow
-    ensures { result ≡ row_of setting }
+pub fn setting_row(setting: Setting) -> SettingRow
+    ensures { result ≡ setting_row setting }
 {
     match setting {
         Setting::DelaySeconds => SettingRow {
@@ -96,23 +96,23 @@ pub fn row_of(setting: Setting) -> SettingRow
 
 /// Whether the setting's attribute has the name.
 fn has_name(setting: Setting, name: &str) -> bool
-    ensures { result ≡ bytes_eq name.now (row_of setting).name }
+    ensures { result ≡ bytes_eq name.now (setting_row setting).name }
 {
-    let row = row_of(setting);
+    let row = setting_row(setting);
     name == row.name
 }
 
 /// Whether the setting has the key.
 fn has_key(setting: Setting, key: &str) -> bool
-    ensures { result ≡ bytes_eq key.now (row_of setting).key }
+    ensures { result ≡ bytes_eq key.now (setting_row setting).key }
 {
-    let row = row_of(setting);
+    let row = setting_row(setting);
     key == row.key
 }
 
 /// The first of the settings whose attribute has the name.
 fn first_named(settings: &[Setting], name: &str) -> Option<Setting>
-    ensures { result ≡ find (λ setting. bytes_eq name.now (row_of setting).name) settings.now }
+    ensures { result ≡ find (λ setting. bytes_eq name.now (setting_row setting).name) settings.now }
 {
     settings
         .iter()
@@ -122,7 +122,7 @@ fn first_named(settings: &[Setting], name: &str) -> Option<Setting>
 
 /// The first of the settings that has the key.
 fn first_with_key(settings: &[Setting], key: &str) -> Option<Setting>
-    ensures { result ≡ find (λ setting. bytes_eq key.now (row_of setting).key) settings.now }
+    ensures { result ≡ find (λ setting. bytes_eq key.now (setting_row setting).key) settings.now }
 {
     settings
         .iter()

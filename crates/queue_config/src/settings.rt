@@ -1,11 +1,11 @@
 //! The settings of a queue.
 
 ghost use Rattle.std.specs.Prelude.{◌≡◌, ◌↔◌, IsTrue};
-ghost use Rattle.queue_config.specs.SettingRows.{row_of};
+ghost use Rattle.queue_config.specs.SettingRows.{setting_row};
 ghost use Rattle.queue_config.specs.Settings.{default_settings, setting_value, policy_with, policy_without, settings_with, same_settings, without_target};
 
 use crate::policy::{RedrivePolicy, RequestedPolicy};
-use crate::setting::{Setting, row_of};
+use crate::setting::{Setting, setting_row};
 use crate::wish::Wish;
 use std::marker::Model;
 
@@ -41,9 +41,9 @@ impl Model for Settings {
 
 /// What a setting is where nothing is said.
 fn default_of(setting: Setting) -> u32
-    ensures { result ≡ (row_of setting).default }
+    ensures { result ≡ (setting_row setting).default }
 {
-    let row = row_of(setting);
+    let row = setting_row(setting);
     row.default
 }
 

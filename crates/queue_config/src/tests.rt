@@ -73,7 +73,7 @@ fn tell_changes(text: &mut String, before: Settings, settings: Settings) -> Resu
     for setting in ALL_SETTINGS {
         let number = settings.setting_value(setting);
         if number != before.setting_value(setting) {
-            write!(text, " {}={number}", row_of(setting).key)?;
+            write!(text, " {}={number}", setting_row(setting).key)?;
         }
     }
     match settings.redrive_policy {
@@ -293,7 +293,7 @@ const NUMBERS: &str = "19  => none
 fn words(rt: HostRuntime) -> Result<(), Fail> {
     let mut words = String::new(rt.alloc());
     for setting in ALL_SETTINGS {
-        let name = row_of(setting).name;
+        let name = setting_row(setting).name;
         assert_eq!(rt; setting_named(name), Some(setting));
         write!(words, "{name} ")?;
     }

@@ -9,7 +9,7 @@ ghost use Rattle.queue_config.specs.Settings.{no_requested_attributes, requested
 
 use crate::decimal::decimal_number;
 use crate::policy::{RequestedPolicy, requested_policy};
-use crate::setting::{Setting, row_of, setting_named};
+use crate::setting::{Setting, setting_row, setting_named};
 use message::{Fault, QueueName};
 use std::alloc::Global;
 use std::marker::Model;
@@ -46,7 +46,7 @@ fn requested_number(setting: Setting, value: &str) -> Result<u32, Fault>
     ensures range { IfOk result (λ n. IsInRange setting n) }
     ensures fault { IfErr result (λ fault. fault ≡ Fault.InvalidAttributeValue) }
 {
-    let row = row_of(setting);
+    let row = setting_row(setting);
     match decimal_number(value, 9) {
         Some(number) if u64::from(row.least) <= number && number <= u64::from(row.most) => {
             Ok(number as u32)

@@ -20,7 +20,7 @@ use Rattle.queue_core.specs.declared.facts.Status.TheVariants.{Present, Removed,
 use Rattle.queue_core.specs.declared.facts.MessageState.TheVariants.{Visible, Delayed, InFlight}
 use Rattle.queue_core.specs.declared.command.Command.{Command}
 use Rattle.queue_core.specs.declared.command.Command.TheVariants as commands
-use Rattle.queue_core.specs.declared.command.Step.{Step}
+use Rattle.queue_core.specs.declared.command.TimedCommand.{TimedCommand}
 use Rattle.queue_core.specs.declared.reply.Reply.{Reply}
 use Rattle.queue_core.specs.declared.reply.Reply.TheVariants as replies
 use Rattle.queue_core.specs.declared.reply.Posted.{Posted}
@@ -84,7 +84,7 @@ module _ (P : QueueHistory → Type 0) (lasts : Lasts P) where
       lasts_cond (is_out_of_memory answer) q (with_optional_event w (outcome_in w command).event) p (lasts_optional w (outcome_in w command).event (about-outcome w command) there)
 
   -- as long as no checkpoint comes
-  pub lasts_in_place : (q : QueueHistory) (steps : List Step) (answers : List (Result Reply Fault)) → NeverRebases q steps answers → P q → P (after_all q steps answers)
+  pub lasts_in_place : (q : QueueHistory) (steps : List TimedCommand) (answers : List (Result Reply Fault)) → NeverRebases q steps answers → P q → P (after_all q steps answers)
   lasts_in_place q [] answers never p = p
   lasts_in_place q (step ∷ steps) [] never p = p
   lasts_in_place q (step ∷ steps) (answer ∷ answers) never p =
@@ -95,7 +95,7 @@ module _ (P : QueueHistory → Type 0) (lasts : Lasts P) where
 
   -- and through checkpoints
   module _ (through : (q : QueueHistory) → P q → P (rebased q)) where
-    pub lasts_all : (q : QueueHistory) (steps : List Step) (answers : List (Result Reply Fault)) → P q → P (after_all q steps answers)
+    pub lasts_all : (q : QueueHistory) (steps : List TimedCommand) (answers : List (Result Reply Fault)) → P q → P (after_all q steps answers)
     lasts_all q [] answers p = p
     lasts_all q (step ∷ steps) [] p = p
     lasts_all q (step ∷ steps) (answer ∷ answers) p =
@@ -115,7 +115,7 @@ removed-numbered lines e number h = by_message (message_numbered lines number) r
         ap (λ (o : Option Message). option_map_or (λ m. is_removed (lines ++ e ∷ []) m) o false) (numbered-kept lines e number m is)
         ∙ removed-push lines e m h
 
-pub removed_stays : (q : QueueHistory) (steps : List Step) (answers : List (Result Reply Fault)) (number : ℕ) → is_removed_number q.lines number ≡ true
+pub removed_stays : (q : QueueHistory) (steps : List TimedCommand) (answers : List (Result Reply Fault)) (number : ℕ) → is_removed_number q.lines number ≡ true
     → is_removed_number (after_all q steps answers).lines number ≡ true
 removed_stays q steps answers number h =
     lasts_all (λ r. is_removed_number r.lines number ≡ true)
@@ -152,7 +152,7 @@ gone-numbered lines clock event number unopened alone h = by_message (message_nu
         ∙ gone-either (is_removed lines m) (is_expired lines clock m) (is_removed (lines ++ e ∷ []) m) (is_expired (lines ++ e ∷ []) clock m) (removed-push lines e m)
         (expired-push lines clock event m (numbered-place lines number m is) alone unopened) h
 
-pub gone_stays : (q : QueueHistory) (steps : List Step) (answers : List (Result Reply Fault)) (number : ℕ) → is_gone_number q.lines q.clock number ≡ true
+pub gone_stays : (q : QueueHistory) (steps : List TimedCommand) (answers : List (Result Reply Fault)) (number : ℕ) → is_gone_number q.lines q.clock number ≡ true
     → is_gone_number (after_all q steps answers).lines (after_all q steps answers).clock number ≡ true
 gone_stays q steps answers number h =
     lasts_all (λ r. is_gone_number r.lines r.clock number ≡ true)
@@ -162,7 +162,7 @@ gone_stays q steps answers number h =
     })
     (λ r p. gone_based r.uid r.lines r.clock number p) q steps answers h
 
-pub expired_stays : (q : QueueHistory) (steps : List Step) (answers : List (Result Reply Fault)) (m : Message) → NeverRebases q steps answers → is_expired q.lines q.clock m ≡ true
+pub expired_stays : (q : QueueHistory) (steps : List TimedCommand) (answers : List (Result Reply Fault)) (m : Message) → NeverRebases q steps answers → is_expired q.lines q.clock m ≡ true
     → is_expired (after_all q steps answers).lines (after_all q steps answers).clock m ≡ true
 expired_stays q steps answers m never h = by_begun m.ran_out refl
   where
@@ -207,14 +207,14 @@ names-based : (q : QueueHistory) (number : ℕ) (content : ContentText) → Name
 names-based q number content (inl named) = content_based q.uid q.lines q.clock number content named
 names-based q number content (inr gone) = inr (none_based q.uid q.lines q.clock number gone.0 gone.1, removed_based q.uid q.lines q.clock number gone.1)
 
-pub content_stays : (q : QueueHistory) (steps : List Step) (answers : List (Result Reply Fault)) (number : ℕ) (content : ContentText) → content_numbered q.lines number ≡ Some content
+pub content_stays : (q : QueueHistory) (steps : List TimedCommand) (answers : List (Result Reply Fault)) (number : ℕ) (content : ContentText) → content_numbered q.lines number ≡ Some content
     → NamesOrLetGo (after_all q steps answers).lines number content
 content_stays q steps answers number content h =
     lasts_all (λ r. NamesOrLetGo r.lines number content)
     (record { later = λ r at p. p; more = λ r event o alone p. names-numbered r.lines (record { at = r.clock; event = event }) number content p })
     (λ r p. names-based r number content p) q steps answers (inl h)
 
-pub content_stays_in_place : (q : QueueHistory) (steps : List Step) (answers : List (Result Reply Fault)) (number : ℕ) (content : ContentText) → NeverRebases q steps answers
+pub content_stays_in_place : (q : QueueHistory) (steps : List TimedCommand) (answers : List (Result Reply Fault)) (number : ℕ) (content : ContentText) → NeverRebases q steps answers
     → content_numbered q.lines number ≡ Some content → content_numbered (after_all q steps answers).lines number ≡ Some content
 content_stays_in_place q steps answers number content never h =
     lasts_in_place (λ r. content_numbered r.lines number ≡ Some content)
@@ -257,7 +257,7 @@ content_sent q at content delay posted h =
 abbrev looked : QueueHistory → Result Reply Fault
 looked q = Ok (replies.Looked (look_of q))
 
-pub look_after : (q : QueueHistory) (steps : List Step) (answers : List (Result Reply Fault)) (at : ℕ) (answer : Result Reply Fault)
+pub look_after : (q : QueueHistory) (steps : List TimedCommand) (answers : List (Result Reply Fault)) (at : ℕ) (answer : Result Reply Fault)
     → AreExact q (steps ++ record { at = at; command = commands.Look } ∷ []) (answers ++ answer ∷ []) → answer ≡ Ok (replies.Looked (look_of (at_moment (after_all q steps answers) at)))
 look_after q [] [] at answer h =
     let r : QueueHistory = at_moment q at in

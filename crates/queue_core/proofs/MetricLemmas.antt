@@ -25,7 +25,7 @@ use Rattle.metric_window.proofs.FlowLemmas.{added-none, added-assoc, added-comm,
 use Rattle.metric_window.proofs.MinuteLemmas.{minute_flows-push, minute_flows-marks, minutes-total}
 use Rattle.alarm.specs.AlarmState.{alarm_state_of}
 use Rattle.queue_core.specs.declared.command.Command.{Command}
-use Rattle.queue_core.specs.declared.command.Step.{Step}
+use Rattle.queue_core.specs.declared.command.TimedCommand.{TimedCommand}
 use Rattle.queue_core.specs.declared.reply.Reply.{Reply}
 use Rattle.queue_core.specs.Messages.{Since, effect_of, opens, created_time, rows_known}
 use Rattle.queue_core.specs.States.{gauges_of}
@@ -117,7 +117,7 @@ shown_based lines minute r p = record {
   same = λ low. row_based r.uid r.lines r.clock minute (subst (λ (created : ℕ). window_start created r.clock ≤ minute) (sym p.created) low) (omega (arith, p.over)) ∙ p.same low;
 }
 
-pub rows_stay : (q : QueueHistory) (steps : List Step) (answers : List (Result Reply Fault)) (minute : ℕ) → minute_end minute ≤ q.clock
+pub rows_stay : (q : QueueHistory) (steps : List TimedCommand) (answers : List (Result Reply Fault)) (minute : ℕ) → minute_end minute ≤ q.clock
     → is_in_window (created_time (after_all q steps answers).lines) (after_all q steps answers).clock minute ≡ true
     → metric_row content_size (after_all q steps answers).lines minute ≡ metric_row content_size q.lines minute
 rows_stay q steps answers minute over shown =
@@ -130,7 +130,7 @@ rows_stay q steps answers minute over shown =
     (subst (λ (created : ℕ). window_start created (after_all q steps answers).clock ≤ minute) p.created
     (in_window (created_time (after_all q steps answers).lines) (after_all q steps answers).clock minute shown).0)
 
-pub rows_stay_in_place : (q : QueueHistory) (steps : List Step) (answers : List (Result Reply Fault)) (minute : ℕ) → NeverRebases q steps answers → minute_end minute ≤ q.clock
+pub rows_stay_in_place : (q : QueueHistory) (steps : List TimedCommand) (answers : List (Result Reply Fault)) (minute : ℕ) → NeverRebases q steps answers → minute_end minute ≤ q.clock
     → metric_row content_size (after_all q steps answers).lines minute ≡ metric_row content_size q.lines minute
 rows_stay_in_place q steps answers minute never over =
     (lasts_in_place (λ r. (minute_end minute ≤ r.clock) × (metric_row content_size r.lines minute ≡ metric_row content_size q.lines minute))

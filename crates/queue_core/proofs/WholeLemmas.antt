@@ -12,7 +12,7 @@ use Rattle.journal.specs.declared.entry.Event.TheVariants.{Closed}
 use Rattle.journal.specs.Weight.{weight_of}
 use Rattle.queue_core.specs.declared.command.Command.{Command}
 use Rattle.queue_core.specs.declared.command.Command.TheVariants as commands
-use Rattle.queue_core.specs.declared.command.Step.{Step}
+use Rattle.queue_core.specs.declared.command.TimedCommand.{TimedCommand}
 use Rattle.queue_core.specs.declared.reply.Reply.{Reply}
 use Rattle.queue_core.specs.declared.reply.Reply.TheVariants as replies
 use Rattle.queue_config.specs.Settings.{QueueSettings}
@@ -355,7 +355,7 @@ whole_step w at command answer =
 told_by : (answer wanted : Result Reply Fault) → Meets answer wanted → is_out_of_memory answer ≡ false → is_journal_full answer ≡ is_journal_full wanted
 told_by answer wanted h memory = ap is_journal_full (subst (λ (b : Bool). MatchBool b ⊤ (answer ≡ wanted)) memory h)
 
-pub all_alike : (q w : QueueHistory) (steps : List Step) (answers : List (Result Reply Fault)) → AreAlike q w → AreAnswers q steps answers
+pub all_alike : (q w : QueueHistory) (steps : List TimedCommand) (answers : List (Result Reply Fault)) → AreAlike q w → AreAnswers q steps answers
     → AnswerAsWhole q w steps answers × AreAlike (after_all q steps answers) (whole_after_all w steps answers)
 all_alike q w [] [] h answered = (tt, h)
 all_alike q w [] (answer ∷ answers) h answered = absurd answered

@@ -4,7 +4,7 @@ use Rattle.std.specs.List.{range_with_len}
 use Rattle.std.specs.Int.Digits.{digits_of}
 use Rattle.message.specs.declared.fault.Fault.{Fault}
 use Rattle.metric_window.specs.Flows.{greatest}
-use Rattle.queue_core.specs.declared.command.Step.{Step}
+use Rattle.queue_core.specs.declared.command.TimedCommand.{TimedCommand}
 use Rattle.queue_core.specs.declared.reply.Reply.{Reply}
 use Rattle.queue_core.specs.declared.facts.MessageState.{MessageState}
 use Rattle.queue_core.specs.Messages.{message_count, awaits_transfer, due_time, receive_count}
@@ -67,7 +67,7 @@ abbrev pub most_ticks : QueueHistory → QueueHistory → ℕ
 most_ticks q r = 24 * (binary_digits (kept_count q.lines q.clock + 1) + 1) * (touched_count q r + 1)
 
 -- and that commands may cost with these answers, one after another
-abbrev pub most_ticks_of_all : QueueHistory → List Step → List (Result Reply Fault) → ℕ
+abbrev pub most_ticks_of_all : QueueHistory → List TimedCommand → List (Result Reply Fault) → ℕ
 most_ticks_of_all q [] answers = 0
 most_ticks_of_all q (step ∷ steps) [] = 0
 most_ticks_of_all q (step ∷ steps) (answer ∷ answers) =

@@ -20,7 +20,7 @@ use Rattle.queue_core.specs.declared.offers.Offer.{Offer}
 use Rattle.queue_core.specs.declared.parcel.Parcel.{Parcel}
 use Rattle.queue_core.specs.declared.command.Command.{Command}
 use Rattle.queue_core.specs.declared.command.Command.TheVariants.{Send, Settle, Orphan}
-use Rattle.queue_core.specs.declared.command.Step.{Step}
+use Rattle.queue_core.specs.declared.command.TimedCommand.{TimedCommand}
 use Rattle.queue_core.specs.declared.reply.Reply.{Reply}
 use Rattle.queue_core.specs.declared.reply.Reply.TheVariants as replies
 use Rattle.queue_core.specs.declared.reply.Look as look
@@ -269,7 +269,7 @@ queue clock lines = queue_with default_limits clock lines
 abbrev pub outcome : List (Entry ContentText) → ℕ → Command → Outcome
 outcome lines at command = outcome_at (queue 0 lines) at command
 
-abbrev pub step : ℕ → Command → Step
+abbrev pub step : ℕ → Command → TimedCommand
 step at command = record { at = at; command = command }
 
 -- the queue that a command leaves, with its answer and where memory runs out
@@ -280,11 +280,11 @@ abbrev pub left_without_memory : QueueHistory → ℕ → Command → QueueHisto
 left_without_memory q at command = after_answer {T = Reply} q at command (Err OutOfMemory)
 
 -- the queue after commands, each with its time, and its journal after them where it was opened at 0
-abbrev pub queue_after : QueueHistory → List Step → QueueHistory
+abbrev pub queue_after : QueueHistory → List TimedCommand → QueueHistory
 queue_after q [] = q
 queue_after q (s ∷ steps) = queue_after (left_with_answer q s.at s.command) steps
 
-abbrev pub lines_after : QueueSettings → List Step → List (Entry ContentText)
+abbrev pub lines_after : QueueSettings → List TimedCommand → List (Entry ContentText)
 lines_after settings steps = (queue_after (queue 0 (opened_with settings)) steps).lines
 
 -- ---- outcomes and offers

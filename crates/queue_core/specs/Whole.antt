@@ -4,7 +4,7 @@ use Rattle.message.specs.declared.fault.Fault.{Fault}
 use Rattle.message.specs.declared.fault.Fault.TheVariants.{JournalFull}
 use Rattle.journal.specs.Weight.{weight_of}
 use Rattle.queue_core.specs.declared.command.Command.{Command}
-use Rattle.queue_core.specs.declared.command.Step.{Step}
+use Rattle.queue_core.specs.declared.command.TimedCommand.{TimedCommand}
 use Rattle.queue_core.specs.declared.reply.Reply.{Reply}
 use Rattle.queue_core.specs.Queue.{QueueHistory, reached, outcome_at, after_answer}
 use Rattle.queue_core.specs.Standing.{AnswersAs}
@@ -25,7 +25,7 @@ is_journal_full (Err fault) = is_full_fault fault
 abbrev pub whole_after : {T : Type 0} → QueueHistory → ℕ → Command → Result T Fault → QueueHistory
 whole_after w at command answer = if is_journal_full answer then reached w at command else after_answer (without_limit w) at command answer
 
-abbrev pub whole_after_all : QueueHistory → List Step → List (Result Reply Fault) → QueueHistory
+abbrev pub whole_after_all : QueueHistory → List TimedCommand → List (Result Reply Fault) → QueueHistory
 whole_after_all w [] answers = w
 whole_after_all w (step ∷ steps) [] = w
 whole_after_all w (step ∷ steps) (answer ∷ answers) = whole_after_all (whole_after w step.at step.command answer) steps answers
@@ -36,7 +36,7 @@ AnswersAsWhole q w at command =
     is_journal_full (outcome_at q at command).reply ≡ false → AnswersAs (reached q at command) (reached (without_limit w) at command) command
 
 -- so does each of a list
-abbrev pub AnswerAsWhole : QueueHistory → QueueHistory → List Step → List (Result Reply Fault) → Type 0
+abbrev pub AnswerAsWhole : QueueHistory → QueueHistory → List TimedCommand → List (Result Reply Fault) → Type 0
 AnswerAsWhole q w [] answers = Unit {0}
 AnswerAsWhole q w (step ∷ steps) [] = Unit {0}
 AnswerAsWhole q w (step ∷ steps) (answer ∷ answers) =

@@ -194,7 +194,7 @@ pub enum Command {
 
 /// A command and the moment that it comes at.
 #[derive(Debug, Drop)]
-pub struct Step {
+pub struct TimedCommand {
     pub at: Moment,
     pub command: Command,
 }

@@ -10,7 +10,7 @@ ghost use Rattle.journal.specs.declared.entry.Entry.{Entry};
 ghost use Rattle.journal.specs.declared.entry.Event.TheVariants.{Refused};
 ghost use Rattle.queue_core.specs.declared.command.Command.{Command};
 ghost use Rattle.queue_core.specs.declared.command.Command.TheVariants.{Send, Look};
-ghost use Rattle.queue_core.specs.declared.command.Step.{Step};
+ghost use Rattle.queue_core.specs.declared.command.TimedCommand.{TimedCommand};
 ghost use Rattle.queue_core.specs.declared.reply.Reply.{Reply};
 ghost use Rattle.queue_core.specs.declared.reply.Reply.TheVariants.{Sent, Looked};
 ghost use Rattle.queue_core.specs.declared.reply.Posted.{Posted};
@@ -157,12 +157,12 @@ pub fn own_refusals_change_nothing_later()
 /// again, and what has expired has expired for good. Behind a checkpoint a message that had expired is
 /// told as removed, unless it waits for a dead-letter queue; as long as none comes, it stays expired.
 pub fn what_is_gone_stays_gone()
-    ensures removed { (q : QueueHistory) (steps : List Step) (answers : List (Result Reply Fault)) (number : ℕ)
+    ensures removed { (q : QueueHistory) (steps : List TimedCommand) (answers : List (Result Reply Fault)) (number : ℕ)
         → is_removed_number q.lines number ≡ true → is_removed_number (after_all q steps answers).lines number ≡ true }
-    ensures gone { (q : QueueHistory) (steps : List Step) (answers : List (Result Reply Fault)) (number : ℕ)
+    ensures gone { (q : QueueHistory) (steps : List TimedCommand) (answers : List (Result Reply Fault)) (number : ℕ)
         → is_gone_number q.lines q.clock number ≡ true
         → is_gone_number (after_all q steps answers).lines (after_all q steps answers).clock number ≡ true }
-    ensures expired { (q : QueueHistory) (steps : List Step) (answers : List (Result Reply Fault)) (m : Message)
+    ensures expired { (q : QueueHistory) (steps : List TimedCommand) (answers : List (Result Reply Fault)) (m : Message)
         → NeverRebases q steps answers → is_expired q.lines q.clock m ≡ true
         → is_expired (after_all q steps answers).lines (after_all q steps answers).clock m ≡ true }
 {}
@@ -170,7 +170,7 @@ pub fn what_is_gone_stays_gone()
 /// A look after a list of commands tells the counts, the age, the settings and the times that the
 /// definitions give for the journal which those commands leave, found by going through all of it.
 pub fn looks_tell_what_the_journal_says()
-    ensures look { (q : QueueHistory) (steps : List Step) (answers : List (Result Reply Fault)) (at : ℕ) (answer : Result Reply Fault)
+    ensures look { (q : QueueHistory) (steps : List TimedCommand) (answers : List (Result Reply Fault)) (at : ℕ) (answer : Result Reply Fault)
         → AreExact q (steps ++ record { at = at; command = Look } ∷ []) (answers ++ answer ∷ [])
         → answer ≡ Ok (Looked (look_of (at_moment (after_all q steps answers) at))) }
 {}
@@ -182,9 +182,9 @@ pub fn numbers_name_contents()
     ensures sent { (q : QueueHistory) (at : ℕ) (content : ContentText) (delay : Option ℕ) (posted : Posted)
         → (outcome_at q at (Send content delay)).reply ≡ Ok (Sent posted)
         → content_numbered (after_answer {T = Reply} q at (Send content delay) (Ok (Sent posted))).lines posted.number ≡ Some content }
-    ensures lasting { (q : QueueHistory) (steps : List Step) (answers : List (Result Reply Fault)) (number : ℕ) (content : ContentText)
+    ensures lasting { (q : QueueHistory) (steps : List TimedCommand) (answers : List (Result Reply Fault)) (number : ℕ) (content : ContentText)
         → content_numbered q.lines number ≡ Some content → NamesOrLetGo (after_all q steps answers).lines number content }
-    ensures lasting_in_place { (q : QueueHistory) (steps : List Step) (answers : List (Result Reply Fault)) (number : ℕ) (content : ContentText)
+    ensures lasting_in_place { (q : QueueHistory) (steps : List TimedCommand) (answers : List (Result Reply Fault)) (number : ℕ) (content : ContentText)
         → NeverRebases q steps answers → content_numbered q.lines number ≡ Some content
         → content_numbered (after_all q steps answers).lines number ≡ Some content }
 {}

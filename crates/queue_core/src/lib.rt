@@ -53,7 +53,7 @@ mod tests;
 mod watch;
 
 pub use command::{
-    Command, Delay, LONGEST_DELAY, LONGEST_TIMEOUT, MOST_OFFERS, Maximum, Step, Timeout,
+    Command, Delay, LONGEST_DELAY, LONGEST_TIMEOUT, MOST_OFFERS, Maximum, TimedCommand, Timeout,
 };
 pub use laws::{
     as_many_are_offered_as_may_be, each_live_message_is_in_one_state,

@@ -13,7 +13,7 @@ ghost use Rattle.metric_window.specs.Flows.{added, total, capped, minute_of, min
 ghost use Rattle.metric_window.specs.Window.{longest_window, window_end, is_in_window};
 ghost use Rattle.alarm.specs.declared.state.AlarmState.TheVariants.{InsufficientData};
 ghost use Rattle.queue_core.specs.declared.command.Command.{Command};
-ghost use Rattle.queue_core.specs.declared.command.Step.{Step};
+ghost use Rattle.queue_core.specs.declared.command.TimedCommand.{TimedCommand};
 ghost use Rattle.queue_core.specs.declared.reply.Reply.{Reply};
 ghost use Rattle.queue_core.specs.Messages.{created_time};
 ghost use Rattle.queue_core.specs.Metrics.{minute_end, metric_row, current_flows, row_of, window_rows, complete_minutes, last_rows, alarm_state_in, with_one_more_refused};
@@ -26,12 +26,12 @@ ghost use Rattle.queue_core.specs.Run.{NeverRebases, after_all};
 /// whatever answers, as long as it is shown: a checkpoint keeps the rows of the window. As long as no
 /// checkpoint comes, no row does.
 pub fn rows_never_change()
-    ensures shown { (q : QueueHistory) (steps : List Step) (answers : List (Result Reply Fault)) (minute : ℕ)
+    ensures shown { (q : QueueHistory) (steps : List TimedCommand) (answers : List (Result Reply Fault)) (minute : ℕ)
         → minute_end minute ≤ q.clock
         → is_in_window (created_time (after_all q steps answers).lines) (after_all q steps answers).clock minute ≡ true
         → metric_row content_size (after_all q steps answers).lines minute
         ≡ metric_row content_size q.lines minute }
-    ensures row { (q : QueueHistory) (steps : List Step) (answers : List (Result Reply Fault)) (minute : ℕ)
+    ensures row { (q : QueueHistory) (steps : List TimedCommand) (answers : List (Result Reply Fault)) (minute : ℕ)
         → NeverRebases q steps answers → minute_end minute ≤ q.clock
         → metric_row content_size (after_all q steps answers).lines minute
         ≡ metric_row content_size q.lines minute }

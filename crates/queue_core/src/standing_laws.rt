@@ -9,7 +9,7 @@ ghost use Rattle.queue_core.specs.declared.index.MessageIndex.{MessageIndex};
 ghost use Rattle.queue_core.specs.Indexed.{IsIndexOf};
 ghost use Rattle.queue_core.specs.Heaps.{next_time, sent_time, visible_pairs};
 ghost use Rattle.queue_core.specs.declared.command.Command.{Command};
-ghost use Rattle.queue_core.specs.declared.command.Step.{Step};
+ghost use Rattle.queue_core.specs.declared.command.TimedCommand.{TimedCommand};
 ghost use Rattle.queue_core.specs.declared.reply.Reply.{Reply};
 ghost use Rattle.queue_core.specs.States.{kept_count, has_age, count_in_state, is_numbered, gauges_of};
 ghost use Rattle.message.specs.Content.{ContentText, content_size};
@@ -58,9 +58,9 @@ pub fn a_checkpoint_stands_for_its_entries()
 /// each other still, with the counts, the age, the order, the rows, the alarms and whatever else follows from
 /// that.
 pub fn checkpoints_are_equivalent()
-    ensures answers { (q w : QueueHistory) (steps : List Step) (answers : List (Result Reply Fault)) → IsLegal q → IsLegal w → StandsFor q w
+    ensures answers { (q w : QueueHistory) (steps : List TimedCommand) (answers : List (Result Reply Fault)) → IsLegal q → IsLegal w → StandsFor q w
         → AreAnswers q steps answers → AnswerAsWhole q w steps answers }
-    ensures stands { (q w : QueueHistory) (steps : List Step) (answers : List (Result Reply Fault)) → IsLegal q → IsLegal w → StandsFor q w
+    ensures stands { (q w : QueueHistory) (steps : List TimedCommand) (answers : List (Result Reply Fault)) → IsLegal q → IsLegal w → StandsFor q w
         → AreAnswers q steps answers → StandsFor (after_all q steps answers) (whole_after_all w steps answers) }
 {}
 

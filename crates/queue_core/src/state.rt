@@ -10,7 +10,7 @@ ghost use Rattle.queue_config.specs.Limits.{max_lines_row};
 ghost use Rattle.queue_config.specs.Settings.{AreSettings, settings_with};
 
 use crate::accepted::Accepted;
-use crate::command::{Command, Delay, Maximum, Step, Timeout};
+use crate::command::{Command, Delay, Maximum, TimedCommand, Timeout};
 use crate::index::MessageIndex;
 use crate::indices::{is_here, is_in_flight};
 use crate::offers::{Offer, Offers};
@@ -1119,7 +1119,7 @@ impl QueueState {
     pub fn run(
         &mut self,
         alloc: Global,
-        steps: &[Step],
+        steps: &[TimedCommand],
         ticks: &mut Ticks,
     ) -> Result<Vec<Result<Reply, Fault>>, Fault>
         ensures answers { IfOk result (λ answers. AreAnswers self.old steps.now answers.items) }

@@ -23,7 +23,7 @@ use Rattle.redrive.specs.declared.steps.HouseStep.TheVariants as steps
 use Rattle.redrive.specs.World.{World, with_queue, new_queue, queue_named, queue_of_uid, has_queue, target_uid, opens_queue, created_answer, create_answer, world_after_create, step_refusal, queue_answer, step_answer, takes_memory_in, takes_memory_at, world_after_command, world_after_step, taken_alone, take_answer, world_after_delete, first_parcel_in, delivery_of, moved_of, as_moved, delivered_answer, arrive_answer, hand_over_takes_memory, world_after_hand_over, is_accepted, accepted_number, confirm_takes_memory, world_after_confirm, IsRegistry}
 use Rattle.redrive.specs.Halves as halves
 use Rattle.redrive.specs.Cost.{command_ticks, step_ticks, deletion_ticks, hand_over_ticks, confirm_ticks, ticks_of_change, IsDone}
-use Rattle.redrive.specs.WorldRun.{Answer, as_house_reply, Nothing, Opens, performs, perform_act, hand_over_act, confirm_act, act_of, found_for, answer_of_act, world_changed}
+use Rattle.redrive.specs.WorldRun.{HouseAnswer, as_house_reply, Nothing, Opens, performs, perform_act, hand_over_act, confirm_act, act_of, found_for, answer_of_act, world_changed}
 use Rattle.redrive.proofs.KeyedLemmas.{find-unique, find-unused}
 
 either : (b : Bool) (P : Type 0) → P → MatchBool b ⊤ P
@@ -41,14 +41,14 @@ no_queue (Some q) h = absurd cc
 -- ---- a call's answer, as the answer to a step
 
 module _ {T : Type 0} (form : T → HouseReply) where
-  abbrev as_form : Result T Fault → Answer
+  abbrev as_form : Result T Fault → HouseAnswer
   as_form r = as_house_reply form r
 
   form-memory : (r : Result T Fault) → is_out_of_memory (as_form r) ≡ is_out_of_memory r
   form-memory (Ok x) = refl
   form-memory (Err fault) = refl
 
-  err-meets : (failed : Bool) (fault : Fault) (wanted : Result T Fault) → MatchBool failed ⊤ (◌≡◌ {A = Result T Fault} (Err fault) wanted) → MatchBool failed ⊤ (◌≡◌ {A = Answer} (Err fault) (as_form wanted))
+  err-meets : (failed : Bool) (fault : Fault) (wanted : Result T Fault) → MatchBool failed ⊤ (◌≡◌ {A = Result T Fault} (Err fault) wanted) → MatchBool failed ⊤ (◌≡◌ {A = HouseAnswer} (Err fault) (as_form wanted))
   err-meets true fault wanted h = tt
   err-meets false fault wanted h = ap as_form h
 
@@ -106,7 +106,7 @@ module _ (w new : World) (at source : ℕ) (before after : ℕ) where
       → new ≡ option_map_or (λ n. world_after_command w source at (Settle n) r) number w → after ≤ before + option_map_or (λ n. command_ticks w source at (Settle n) r) number 0
       → IsDone w (confirm_act at source number) (as_house_reply Confirmed r) new before after
   confirmed-by r None there meets exact left cost = record {
-    meets = subst (λ (a : Answer). Meets (as_form Confirmed r) a) (idle-answer Confirmed (Settled false) (has_queue w source))
+    meets = subst (λ (a : HouseAnswer). Meets (as_form Confirmed r) a) (idle-answer Confirmed (Settled false) (has_queue w source))
         (form-meets Confirmed r (cond (has_queue w source) (Ok (Settled false)) (Err QueueDoesNotExist)) meets);
     exact = λ none. ap (as_form Confirmed) (exact refl) ∙ idle-answer Confirmed (Settled false) (has_queue w source);
     left = left;
@@ -156,7 +156,7 @@ module _ (w new : World) (at source : ℕ) (before after : ℕ) where
   handed-done r meets exact left cost =
       let o : Option Parcel = first_parcel_in w source in
       record {
-        meets = subst (λ (a : Answer). Meets (as_form HandedOver r) a) (handed-answer o source-there) (form-meets HandedOver r (wanted o) meets);
+        meets = subst (λ (a : HouseAnswer). Meets (as_form HandedOver r) a) (handed-answer o source-there) (form-meets HandedOver r (wanted o) meets);
         exact = λ none. ap (as_form HandedOver) (exact (handed-takes o ∙ none)) ∙ handed-answer o source-there;
         left = handed-left r o left;
         cost = handed-cost r o cost;
@@ -191,7 +191,7 @@ module _ (w : World) (name : List ℕ) (h : IsRegistry w) where
     pub created-done : Meets r (create_answer w name wish) → (opens_queue w name wish ≡ false → r ≡ create_answer w name wish) → new ≡ world_after_create w at name wish r → after ≡ before
         → IsDone w (act_of w (steps.Create at name wish)) (as_house_reply Created r) new before after
     created-done meets known left calm = record {
-      meets = subst (λ (a : Answer). Meets (as_form Created r) a) created-as (form-meets Created r (create_answer w name wish) meets);
+      meets = subst (λ (a : HouseAnswer). Meets (as_form Created r) a) created-as (form-meets Created r (create_answer w name wish) meets);
       exact = λ none. ap (as_form Created) (known none) ∙ created-as;
       left = left ∙ created-left (opens_queue w name wish) r;
       cost = created-cost (opens_queue w name wish) calm;

@@ -12,7 +12,7 @@ use Rattle.queue_core.specs.Queue.{QueueHistory, at_moment, after_answer}
 use Rattle.redrive.specs.declared.steps.HouseStep.{HouseStep}
 use Rattle.redrive.specs.World.{World, queue_of_uid, with_queue, next_queue, closed_queue, without_queue, with_queue_changed, IsRegistry}
 use Rattle.redrive.specs.History.{AllQueues, IsWholeHistory}
-use Rattle.redrive.specs.WorldRun.{Answer, WorldChange, Nothing, Performs, Opens, Closes, Passes, act_of, all_changed, all_after}
+use Rattle.redrive.specs.WorldRun.{HouseAnswer, WorldChange, Nothing, Performs, Opens, Closes, Passes, act_of, all_changed, all_after}
 use Rattle.redrive.proofs.KeyedLemmas.{differ-filter, differ-found, IsDistinct-push, IsDistinct-filter, map-key, find-unused, find-passes, find-holds}
 use Rattle.redrive.proofs.RegistryLemmas.{after_answer-uid, at_uid-keeps, without-none}
 use Rattle.redrive.proofs.DeletionLemmas.{closed_queue-closed}
@@ -119,12 +119,12 @@ closed-by all own at false None here registry h =
     subst (λ (w : World). IsWholeHistory (record { world = w; deleted = all.deleted })) (sym (without-none all.world own here)) h
 closed-by all own at false (Some q) here registry h = deleted-history all own at q here registry h
 
-changed-whole : (all : AllQueues) (at : ℕ) (change : WorldChange) (answer : Answer) → IsRegistry all.world → IsWholeHistory all → IsWholeHistory (all_changed all at change answer)
+changed-whole : (all : AllQueues) (at : ℕ) (change : WorldChange) (answer : HouseAnswer) → IsRegistry all.world → IsWholeHistory all → IsWholeHistory (all_changed all at change answer)
 changed-whole all at Nothing answer registry h = h
 changed-whole all at (Performs own command) answer registry h = changed-history all own (λ q. after_answer q at command answer) (after_answer-uid at command answer) h
 changed-whole all at (Opens name settings) answer registry h = opened-by all (next_queue all.world at name settings []) (is_out_of_memory answer) refl registry h
 changed-whole all at (Closes own) answer registry h = closed-by all own at (is_out_of_memory answer) (queue_of_uid all.world own) refl registry h
 changed-whole all at Passes answer registry h = keeps-uids all _ (map-key nat_eq uid_of (λ q. at_moment q at) (λ q. refl) all.world.queues) refl h
 
-pub IsWholeHistory-after : (all : AllQueues) (step : HouseStep) (answer : Answer) → IsRegistry all.world → IsWholeHistory all → IsWholeHistory (all_after all step answer)
+pub IsWholeHistory-after : (all : AllQueues) (step : HouseStep) (answer : HouseAnswer) → IsRegistry all.world → IsWholeHistory all → IsWholeHistory (all_after all step answer)
 IsWholeHistory-after all step answer registry h = changed-whole all (act_of all.world step).at (act_of all.world step).change answer registry h

@@ -25,7 +25,7 @@ use Rattle.queue_core.proofs.SoundLemmas.{IsSound}
 use Rattle.queue_core.proofs.WholeLemmas.{acting_alike, parcel_alike}
 use Rattle.redrive.specs.declared.moved.Moved.{Moved}
 use Rattle.redrive.specs.declared.moved.Moved.TheVariants as moved
-use Rattle.redrive.specs.World.{World, queue_of_uid, has_queue, first_parcel_in, Delivery, delivery_of, as_moved, delivered_answer, arrive_answer, world_after_command, world_after_hand_over, needs_confirmation, is_accepted, accepted_number, confirm_answer, confirm_takes_memory, world_after_confirm, answer_of_halves, IsHandedOver, IsMoved}
+use Rattle.redrive.specs.World.{World, queue_of_uid, has_queue, first_parcel_in, AddressedCommand, delivery_of, as_moved, delivered_answer, arrive_answer, world_after_command, world_after_hand_over, needs_confirmation, is_accepted, accepted_number, confirm_answer, confirm_takes_memory, world_after_confirm, answer_of_halves, IsHandedOver, IsMoved}
 use Rattle.redrive.specs.Cost.{hand_over_ticks, confirm_ticks, CostsMove}
 use Rattle.queue_core.proofs.PushLemmas.{Line, accepted-push, content-push, numbered-kept}
 use Rattle.queue_core.proofs.PendingLemmas.{filter_all, pending_transfers-push}
@@ -95,7 +95,7 @@ present : (o : Option QueueHistory) → is_some o ≡ true → (q : QueueHistory
 present None h = absurd cc
 present (Some q) h = (q, refl)
 
-abbrev pub delivery : World → ℕ → Parcel → Bool → Delivery
+abbrev pub delivery : World → ℕ → Parcel → Bool → AddressedCommand
 delivery w source p there = cond there (record { uid = p.target; command = Arrive p }) (record { uid = source; command = Orphan p.target })
 
 -- a parcel is there, and its queue was answered so

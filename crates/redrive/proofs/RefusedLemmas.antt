@@ -25,7 +25,7 @@ use Rattle.redrive.specs.declared.steps.HouseStep.{HouseStep}
 use Rattle.redrive.specs.declared.steps.HouseStep.TheVariants.{Perform}
 use Rattle.redrive.specs.Refused.{IsRefusedBy}
 use Rattle.redrive.specs.World.{World, queue_of_uid, has_queue, is_internal, may_set, step_refusal, queue_answer, world_after_command, with_queue, next_queue, with_queue_changed, without_queue}
-use Rattle.redrive.specs.WorldRun.{Answer, as_house_reply, WorldChange, Nothing, Performs, Opens, Closes, Passes, Act, act_of, perform_act, answer_of_act, world_changed, world_after, IsAnswerOf, AreHouseAnswers, world_after_all}
+use Rattle.redrive.specs.WorldRun.{HouseAnswer, as_house_reply, WorldChange, Nothing, Performs, Opens, Closes, Passes, Act, act_of, perform_act, answer_of_act, world_changed, world_after, IsAnswerOf, AreHouseAnswers, world_after_all}
 use Rattle.redrive.proofs.KeyedLemmas.{find-holds}
 use Rattle.redrive.proofs.RegistryLemmas.{after_answer-uid, changed-queue}
 use Rattle.redrive.proofs.transfers.Commands.{reached-lines, acting}
@@ -42,7 +42,7 @@ before-other true true may fault h = let same : UnsupportedOperation ≡ fault =
 before-other true false true fault h = absurd cc
 before-other true false false fault h = let same : InvalidAttributeValue ≡ fault = cc in ap is_own_refusal (sym same)
 
-performed-refused : (fault : Fault) (r : Result Reply Fault) → ◌≡◌ {A = Answer} (Err fault) (as_house_reply Performed r) → r ≡ Err fault
+performed-refused : (fault : Fault) (r : Result Reply Fault) → ◌≡◌ {A = HouseAnswer} (Err fault) (as_house_reply Performed r) → r ≡ Err fault
 performed-refused fault (Ok reply) h = absurd cc
 performed-refused fault (Err other) h = let same : fault ≡ other = cc in ap (λ (f : Fault). Err f) (sym same)
 
@@ -50,7 +50,7 @@ absent-refused : (fault : Fault) → ◌≡◌ {A = Result Reply Fault} (Err Que
 absent-refused fault h = let same : QueueDoesNotExist ≡ fault = cc in ap is_own_refusal (sym same)
 
 module _ (w : World) (at uid : ℕ) (command : Command) (fault : Fault) where
-  abbrev answer : Answer
+  abbrev answer : HouseAnswer
   answer = Err fault
 
   abbrev left : QueueHistory → QueueHistory
@@ -149,7 +149,7 @@ closed-sound : (w : World) (uid at : ℕ) (failed : Bool) → AreSound w → Are
 closed-sound w uid at true h = changed-sound w uid (λ q. at_moment q at) (λ q k. moved-sound q at k) h
 closed-sound w uid at false h = All-filter (λ q. not (nat_eq q.uid uid)) (λ q. IsSound q.lines q.clock) w.queues h
 
-change-sound : (w : World) (at : ℕ) (change : WorldChange) (r : Answer) → AreSound w → AreSound (world_changed w at change r)
+change-sound : (w : World) (at : ℕ) (change : WorldChange) (r : HouseAnswer) → AreSound w → AreSound (world_changed w at change r)
 change-sound w at Nothing r h = h
 change-sound w at (Performs uid command) r h = changed-sound w uid (λ q. after_answer q at command r) (λ q k. sound_after q at command r k) h
 change-sound w at (Opens name settings) r h = opened-sound w at name settings (is_out_of_memory r) h
@@ -157,7 +157,7 @@ change-sound w at (Closes uid) r h = closed-sound w uid at (is_out_of_memory r) 
 change-sound w at Passes r h =
     All-map (λ q. IsSound q.lines q.clock) (λ q. at_moment q at) w.queues (All-weaker (λ q. IsSound q.lines q.clock) (λ q. IsSound (at_moment q at).lines (at_moment q at).clock) (λ q k. moved-sound q at k) w.queues h)
 
-run-sound : (w : World) (steps : List HouseStep) (answers : List Answer) → AreSound w → AreSound (world_after_all w steps answers)
+run-sound : (w : World) (steps : List HouseStep) (answers : List HouseAnswer) → AreSound w → AreSound (world_after_all w steps answers)
 run-sound w [] answers h = h
 run-sound w (step ∷ steps) [] h = h
 run-sound w (step ∷ steps) (answer ∷ answers) h = run-sound (world_after w step answer) steps answers (change-sound w (act_of w step).at (act_of w step).change answer h)
@@ -170,14 +170,14 @@ legal-sound w h = All-weaker (λ q. IsLegal q) (λ q. IsSound q.lines q.clock) (
 
 -- ---- a step of a run
 
-answered-at : (w : World) (steps : List HouseStep) (answers : List Answer) (step : HouseStep) (answer : Answer) (later : List HouseStep) (rest : List Answer) → length steps ≡ length answers
+answered-at : (w : World) (steps : List HouseStep) (answers : List HouseAnswer) (step : HouseStep) (answer : HouseAnswer) (later : List HouseStep) (rest : List HouseAnswer) → length steps ≡ length answers
     → AreHouseAnswers w (steps ++ step ∷ later) (answers ++ answer ∷ rest) → IsAnswerOf (world_after_all w steps answers) step answer
 answered-at w [] [] step answer later rest e h = h.0
 answered-at w [] (a ∷ answers) step answer later rest e h = absurd (omega arith)
 answered-at w (s ∷ steps) [] step answer later rest e h = absurd (omega arith)
 answered-at w (s ∷ steps) (a ∷ answers) step answer later rest e h = answered-at (world_after w s a) steps answers step answer later rest (omega arith) h.1
 
-module _ (w : World) (steps later : List HouseStep) (answers rest : List Answer) (at uid : ℕ) (command : Command) (fault : Fault) (counted : length steps ≡ length answers)
+module _ (w : World) (steps later : List HouseStep) (answers rest : List HouseAnswer) (at uid : ℕ) (command : Command) (fault : Fault) (counted : length steps ≡ length answers)
     (answered : AreHouseAnswers w (steps ++ Perform at uid command ∷ later) (answers ++ Err fault ∷ rest)) where
   abbrev before : World
   before = world_after_all w steps answers

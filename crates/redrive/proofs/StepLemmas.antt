@@ -8,7 +8,7 @@ use Rattle.message.specs.Fault.{is_out_of_memory}
 use Rattle.queue_core.specs.Queue.{QueueHistory, at_moment, after_answer}
 use Rattle.redrive.specs.declared.steps.HouseStep.{HouseStep}
 use Rattle.redrive.specs.World.{World, queue_of_uid, with_queue, next_queue, without_queue, with_queue_changed, IsRegistry}
-use Rattle.redrive.specs.WorldRun.{Answer, WorldChange, Nothing, Performs, Opens, Closes, Passes, act_of, world_changed, world_after, queue_changed, queue_after}
+use Rattle.redrive.specs.WorldRun.{HouseAnswer, WorldChange, Nothing, Performs, Opens, Closes, Passes, act_of, world_changed, world_after, queue_changed, queue_after}
 use Rattle.redrive.proofs.KeyedLemmas.{find-map, find-unused, find-without, find-without_other}
 use Rattle.redrive.proofs.RegistryLemmas.{after_answer-uid, changed-queue}
 
@@ -41,7 +41,7 @@ module _ (w : World) (uid at : ℕ) where
   closed-by own false false e = find-without_other uid_of own uid (λ same. eqb-false own uid e (sym same)) w.queues
 
   -- it sees its own opening, the commands that are for it, its deletion, and time
-  pub queue_changed-world : (change : WorldChange) (answer : Answer) → queue_of_uid w w.next_uid ≡ None
+  pub queue_changed-world : (change : WorldChange) (answer : HouseAnswer) → queue_of_uid w w.next_uid ≡ None
       → queue_of_uid (world_changed w at change answer) uid ≡ queue_changed w uid (queue_of_uid w uid) at change answer
   queue_changed-world Nothing answer none = refl
   queue_changed-world (Performs own command) answer none =
@@ -50,7 +50,7 @@ module _ (w : World) (uid at : ℕ) where
   queue_changed-world (Closes own) answer none = closed-by own (is_out_of_memory answer) (nat_eq own uid) refl
   queue_changed-world Passes answer none = find-map (λ x. nat_eq x.uid uid) (λ q. at_moment q at) (λ x. refl) w.queues
 
-pub queue_after-world : (w : World) (uid : ℕ) (step : HouseStep) (answer : Answer) → IsRegistry w
+pub queue_after-world : (w : World) (uid : ℕ) (step : HouseStep) (answer : HouseAnswer) → IsRegistry w
     → queue_of_uid (world_after w step answer) uid ≡ queue_after w uid (queue_of_uid w uid) step answer
 queue_after-world w uid step answer h =
     queue_changed-world w uid (act_of w step).at (act_of w step).change answer (find-unused uid_of w.next_uid w.queues h.used)

@@ -14,8 +14,8 @@ use Rattle.queue_core.specs.Queue.{QueueHistory, Outcome, at_moment, rebased_whe
 use Rattle.redrive.specs.declared.steps.HouseReply.TheVariants.{Performed}
 use Rattle.redrive.specs.declared.steps.HouseStep.{HouseStep}
 use Rattle.redrive.specs.declared.steps.HouseStep.TheVariants as steps
-use Rattle.redrive.specs.World.{World, queue_of_uid, has_queue, Delivery, delivery_of, target_uid, opens_queue, step_refusal, reply_alone, first_parcel_in, accepted_number}
-use Rattle.redrive.specs.WorldRun.{Answer, as_house_reply, Nothing, Opens, Act, perform_act, hand_over_act, confirm_act, answer_of_act, answer_of_step, IsTold, IsToldIn, IsToldBy}
+use Rattle.redrive.specs.World.{World, queue_of_uid, has_queue, AddressedCommand, delivery_of, target_uid, opens_queue, step_refusal, reply_alone, first_parcel_in, accepted_number}
+use Rattle.redrive.specs.WorldRun.{HouseAnswer, as_house_reply, Nothing, Opens, Act, perform_act, hand_over_act, confirm_act, answer_of_act, answer_of_step, IsTold, IsToldIn, IsToldBy}
 
 offered : (q : QueueHistory) (maximum : ℕ) (timeout : Option ℕ) (refused : Option Fault) (full : Bool) (reply : Reply) (o : Outcome) → o.reply ≡ Ok (replies.Received (offers_of q (offered_candidates q maximum)))
     → (unless_refused refused (cond full (refusal OverLimit) o)).reply ≡ Ok reply → IsTold q (commands.Receive maximum timeout) reply
@@ -56,10 +56,10 @@ told_by None at command reply h = tt
 told_by (Some q) at command reply h = told q at command reply h
 
 module _ (w : World) (at uid : ℕ) where
-  abbrev IsToldAct : Answer → Act → Type 0
+  abbrev IsToldAct : HouseAnswer → Act → Type 0
   IsToldAct answer act = IsToldIn w act.at act.change answer
 
-  performed_told : (command : Command) (o : Option Fault) (answer : Answer) → Meets answer (answer_of_act w (perform_act at uid command o))
+  performed_told : (command : Command) (o : Option Fault) (answer : HouseAnswer) → Meets answer (answer_of_act w (perform_act at uid command o))
       → IsToldAct answer (perform_act at uid command o)
   performed_told command (Some fault) answer meets = tt
   performed_told command None (Ok (Performed reply)) meets =
@@ -71,29 +71,29 @@ module _ (w : World) (at uid : ℕ) where
   settled_told n reply None = tt
   settled_told n reply (Some q) = tt
 
-  confirmed_told : (o : Option ℕ) (answer : Answer) → IsToldAct answer (confirm_act at uid o)
+  confirmed_told : (o : Option ℕ) (answer : HouseAnswer) → IsToldAct answer (confirm_act at uid o)
   confirmed_told None answer = tt
   confirmed_told (Some n) (Ok (Performed reply)) = settled_told n reply (queue_of_uid w uid)
   confirmed_told (Some n) answer = tt
 
   -- nor does a hand-over
-  handed_told : (o : Option Parcel) (answer : Answer) → IsToldAct answer (hand_over_act w at uid o)
+  handed_told : (o : Option Parcel) (answer : HouseAnswer) → IsToldAct answer (hand_over_act w at uid o)
   handed_told None answer = tt
   handed_told (Some p) (Ok (Performed reply)) = delivered_told (has_queue w p.target) p reply (queue_of_uid w (delivery_of w uid p).uid)
     where
       delivered_told : (there : Bool) (p : Parcel) (reply : Reply) (o : Option QueueHistory)
-          → let d : Delivery = cond there (record { uid = p.target; command = commands.Arrive p }) (record { uid = uid; command = commands.Orphan p.target }) in
+          → let d : AddressedCommand = cond there (record { uid = p.target; command = commands.Arrive p }) (record { uid = uid; command = commands.Orphan p.target }) in
           IfSome o (λ q. IsTold (acting q at d.command) d.command reply)
       delivered_told there p reply None = tt
       delivered_told true p reply (Some q) = tt
       delivered_told false p reply (Some q) = tt
   handed_told (Some p) answer = tt
 
-  created_told : (opens : Bool) (name : List ℕ) (settings : QueueSettings) (answer : Answer) → IsToldIn w at (cond opens (Opens name settings) Nothing) answer
+  created_told : (opens : Bool) (name : List ℕ) (settings : QueueSettings) (answer : HouseAnswer) → IsToldIn w at (cond opens (Opens name settings) Nothing) answer
   created_told true name settings answer = tt
   created_told false name settings answer = tt
 
-pub IsToldBy-world : (w : World) (step : HouseStep) (answer : Answer) → Meets answer (answer_of_step w step) → IsToldBy w step answer
+pub IsToldBy-world : (w : World) (step : HouseStep) (answer : HouseAnswer) → Meets answer (answer_of_step w step) → IsToldBy w step answer
 IsToldBy-world w (steps.Create at name wish) answer meets = created_told w at 0 (opens_queue w name wish) name (settings_with default_settings wish (target_uid w wish)) answer
 IsToldBy-world w (steps.Delete at uid) answer meets = tt
 IsToldBy-world w (steps.Perform at uid command) answer meets = performed_told w at uid command (step_refusal w uid command) answer meets

@@ -10,7 +10,7 @@ use Rattle.queue_core.specs.Cost.{most_ticks}
 use Rattle.redrive.specs.declared.moved.Moved.{Moved}
 use Rattle.redrive.specs.declared.steps.HouseStep.{HouseStep}
 use Rattle.redrive.specs.World.{World, queue_of_uid, step_refusal, closed_queue, first_parcel_in, delivery_of, accepted_number, needs_confirmation, IsMoved}
-use Rattle.redrive.specs.WorldRun.{Answer, WorldChange, Nothing, Performs, Opens, Closes, Passes, Act, act_of, found_for, answer_of_act, world_changed, world_after}
+use Rattle.redrive.specs.WorldRun.{HouseAnswer, WorldChange, Nothing, Performs, Opens, Closes, Passes, Act, act_of, found_for, answer_of_act, world_changed, world_after}
 
 -- a change of the queue of a uid; nothing where it is not there
 abbrev pub change_ticks : World → ℕ → (QueueHistory → QueueHistory) → ℕ
@@ -50,24 +50,24 @@ abbrev pub moment_ticks : ℕ → List QueueHistory → ℕ
 moment_ticks at queues = sum_by (λ q. most_ticks q (at_moment q at)) queues
 
 -- a change that is answered so, and a step
-abbrev pub ticks_of_change : World → ℕ → WorldChange → Answer → ℕ
+abbrev pub ticks_of_change : World → ℕ → WorldChange → HouseAnswer → ℕ
 ticks_of_change w at Nothing answer = 0
 ticks_of_change w at (Performs uid command) answer = command_ticks w uid at command answer
 ticks_of_change w at (Opens name settings) answer = 0
 ticks_of_change w at (Closes uid) answer = deletion_ticks w uid at answer
 ticks_of_change w at Passes answer = moment_ticks at w.queues
 
-abbrev pub ticks_of_step : World → HouseStep → Answer → ℕ
+abbrev pub ticks_of_step : World → HouseStep → HouseAnswer → ℕ
 ticks_of_step w step answer = ticks_of_change w (act_of w step).at (act_of w step).change answer
 
 -- steps with these answers, one after another
-abbrev pub ticks_of_steps : World → List HouseStep → List Answer → ℕ
+abbrev pub ticks_of_steps : World → List HouseStep → List HouseAnswer → ℕ
 ticks_of_steps w [] answers = 0
 ticks_of_steps w (step ∷ steps) [] = 0
 ticks_of_steps w (step ∷ steps) (answer ∷ answers) = ticks_of_step w step answer + ticks_of_steps (world_after w step answer) steps answers
 
 -- What an act leaves that is answered so, and what it cost, from so many operations to so many: for a private clause
-pub record IsDone (old : World) (act : Act) (answer : Answer) (new : World) (before after : ℕ) : Type 0 where
+pub record IsDone (old : World) (act : Act) (answer : HouseAnswer) (new : World) (before after : ℕ) : Type 0 where
   pub meets : Meets answer (answer_of_act old act)
   pub exact : act.takes_memory (found_for old act) ≡ false → answer ≡ answer_of_act old act
   pub left : new ≡ world_changed old act.at act.change answer

@@ -9,7 +9,7 @@ use Rattle.redrive.specs.declared.steps.HouseReply.TheVariants.{Confirmed}
 use Rattle.redrive.specs.declared.steps.HouseStep.{HouseStep}
 use Rattle.redrive.specs.World.{queue_answer, first_parcel_in}
 use Rattle.redrive.specs.History.{AllQueues, was_accepted}
-use Rattle.redrive.specs.WorldRun.{Answer, as_house_reply, Act, confirm_act, act_of, answer_of_step, all_left, IsAnswerOf}
+use Rattle.redrive.specs.WorldRun.{HouseAnswer, as_house_reply, Act, confirm_act, act_of, answer_of_step, all_left, IsAnswerOf}
 
 -- one of the registry, or a confirmation of the first parcel of the queue of a uid
 pub data HistoryStep : Type 0 where
@@ -22,12 +22,12 @@ settled_number all source =
     option_and_then (λ p. if was_accepted all p.target p.origin.uid p.origin.number then Some p.origin.number else None) (first_parcel_in all.world source)
 
 -- the answer that is wanted; where the parcel is not accepted, its source is not asked
-abbrev pub answer_in_history : AllQueues → HistoryStep → Answer
+abbrev pub answer_in_history : AllQueues → HistoryStep → HouseAnswer
 answer_in_history all (Own step) = answer_of_step all.world step
 answer_in_history all (Settle at source) =
     as_house_reply Confirmed (option_map_or (λ number. queue_answer all.world source at (commands.Settle number)) (settled_number all source) (Ok (replies.Settled false)))
 
-abbrev pub IsHistoryAnswer : AllQueues → HistoryStep → Answer → Type 0
+abbrev pub IsHistoryAnswer : AllQueues → HistoryStep → HouseAnswer → Type 0
 IsHistoryAnswer all (Own step) answer = IsAnswerOf all.world step answer
 IsHistoryAnswer all (Settle at source) answer = Meets answer (answer_in_history all (Settle at source))
 
@@ -36,18 +36,18 @@ abbrev pub act_in_history : AllQueues → HistoryStep → Act
 act_in_history all (Own step) = act_of all.world step
 act_in_history all (Settle at source) = confirm_act at source (settled_number all source)
 
-abbrev pub after_history_step : AllQueues → HistoryStep → Answer → AllQueues
+abbrev pub after_history_step : AllQueues → HistoryStep → HouseAnswer → AllQueues
 after_history_step all step answer = all_left all (act_in_history all step) answer
 
 -- each answer is that of everything which the answers before it leave
-abbrev pub AreHistoryAnswers : AllQueues → List HistoryStep → List Answer → Type 0
+abbrev pub AreHistoryAnswers : AllQueues → List HistoryStep → List HouseAnswer → Type 0
 AreHistoryAnswers all [] [] = Unit {0}
 AreHistoryAnswers all [] (answer ∷ answers) = ⊥
 AreHistoryAnswers all (step ∷ steps) [] = ⊥
 AreHistoryAnswers all (step ∷ steps) (answer ∷ answers) = IsHistoryAnswer all step answer × AreHistoryAnswers (after_history_step all step answer) steps answers
 
 -- everything that the answers leave
-abbrev pub after_history_steps : AllQueues → List HistoryStep → List Answer → AllQueues
+abbrev pub after_history_steps : AllQueues → List HistoryStep → List HouseAnswer → AllQueues
 after_history_steps all [] answers = all
 after_history_steps all (step ∷ steps) [] = all
 after_history_steps all (step ∷ steps) (answer ∷ answers) = after_history_steps (after_history_step all step answer) steps answers

@@ -17,7 +17,7 @@ use Rattle.queue_core.specs.Queue.{QueueHistory}
 use Rattle.redrive.specs.declared.steps.HouseStep.TheVariants as steps
 use Rattle.redrive.specs.World.{queue_of_uid, new_world}
 use Rattle.redrive.specs.History.{AllQueues, journal_of, was_accepted}
-use Rattle.redrive.specs.WorldRun.{Answer}
+use Rattle.redrive.specs.WorldRun.{HouseAnswer}
 use Rattle.redrive.specs.HistorySteps.{HistoryStep, Own}
 use Rattle.redrive.specs.WholeSteps.{whole_after_step}
 
@@ -139,12 +139,12 @@ pub record IsRelay (all : AllQueues) (uid : ℕ) : Type 0 where
   pub gone_on : was_accepted all next uid own_number ≡ true
 
 -- a step that does not delete such a queue; a deletion that finds no memory deletes none
-abbrev pub IsSpared : AllQueues → HistoryStep → Answer → Type 0
+abbrev pub IsSpared : AllQueues → HistoryStep → HouseAnswer → Type 0
 IsSpared all (Own (steps.Delete at uid)) (Ok reply) = IsRelay all uid → ⊥
 IsSpared all step answer = ⊤
 
 -- no step of the list deletes such a queue; whether it is one is read off whole journals
-abbrev pub NoRelayDeleted : AllQueues → List HistoryStep → List Answer → Type 0
+abbrev pub NoRelayDeleted : AllQueues → List HistoryStep → List HouseAnswer → Type 0
 NoRelayDeleted all [] answers = ⊤
 NoRelayDeleted all (step ∷ steps) [] = ⊤
 NoRelayDeleted all (step ∷ steps) (answer ∷ answers) = IsSpared all step answer × NoRelayDeleted (whole_after_step all step answer) steps answers

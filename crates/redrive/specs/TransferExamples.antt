@@ -13,12 +13,12 @@ use Rattle.queue_core.specs.Queue.{QueueHistory}
 use Rattle.redrive.specs.declared.steps.HouseStep.{HouseStep}
 use Rattle.redrive.specs.declared.steps.HouseStep.TheVariants as steps
 use Rattle.redrive.specs.History.{AllQueues}
-use Rattle.redrive.specs.WorldRun.{Answer}
+use Rattle.redrive.specs.WorldRun.{HouseAnswer}
 use Rattle.redrive.specs.HistorySteps.{HistoryStep, Own, Settle, answer_in_history, after_history_step, after_history_steps}
 use Rattle.redrive.specs.Places.{first_history}
 
 -- what is answered where no memory is wanting
-abbrev pub answers_to : AllQueues → List HistoryStep → List Answer
+abbrev pub answers_to : AllQueues → List HistoryStep → List HouseAnswer
 answers_to all [] = []
 answers_to all (step ∷ steps) = answer_in_history all step ∷ answers_to (after_history_step all step (answer_in_history all step)) steps
 

@@ -8,7 +8,7 @@ use Rattle.queue_core.specs.Standing.{StandsFor}
 use Rattle.queue_core.specs.Whole.{whole_after}
 use Rattle.redrive.specs.World.{queue_of_uid, with_queue_changed}
 use Rattle.redrive.specs.History.{AllQueues}
-use Rattle.redrive.specs.WorldRun.{Answer, WorldChange, Performs, all_changed}
+use Rattle.redrive.specs.WorldRun.{HouseAnswer, WorldChange, Performs, all_changed}
 use Rattle.redrive.specs.HistorySteps.{HistoryStep, act_in_history}
 
 -- a command for the queue of a uid, which is answered so
@@ -16,14 +16,14 @@ abbrev pub with_command : {T : Type 0} → AllQueues → ℕ → ℕ → Command
 with_command all uid at command answer = record all { world = with_queue_changed all.world uid (λ q. whole_after q at command answer) }
 
 -- what a change leaves
-abbrev pub whole_changed : AllQueues → ℕ → WorldChange → Answer → AllQueues
+abbrev pub whole_changed : AllQueues → ℕ → WorldChange → HouseAnswer → AllQueues
 whole_changed all at (Performs uid command) answer = with_command all uid at command answer
 whole_changed all at change answer = all_changed all at change answer
 
-abbrev pub whole_after_step : AllQueues → HistoryStep → Answer → AllQueues
+abbrev pub whole_after_step : AllQueues → HistoryStep → HouseAnswer → AllQueues
 whole_after_step all step answer = whole_changed all (act_in_history all step).at (act_in_history all step).change answer
 
-abbrev pub whole_after_steps : AllQueues → List HistoryStep → List Answer → AllQueues
+abbrev pub whole_after_steps : AllQueues → List HistoryStep → List HouseAnswer → AllQueues
 whole_after_steps all [] answers = all
 whole_after_steps all (step ∷ steps) [] = all
 whole_after_steps all (step ∷ steps) (answer ∷ answers) = whole_after_steps (whole_after_step all step answer) steps answers

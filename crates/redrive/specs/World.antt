@@ -191,12 +191,12 @@ abbrev pub first_parcel_in : World → ℕ → Option Parcel
 first_parcel_in w source = option_and_then (λ q. first_parcel_of q) (queue_of_uid w source)
 
 -- a command, and the uid of the queue that it is for
-pub record Delivery : Type 0 where
+pub record AddressedCommand : Type 0 where
   pub uid : ℕ
   pub command : Command
 
 -- a parcel goes to its queue where that is there; else its source takes back everything that waits for that queue
-abbrev pub delivery_of : World → ℕ → Parcel → Delivery
+abbrev pub delivery_of : World → ℕ → Parcel → AddressedCommand
 delivery_of w source p =
     if has_queue w p.target then record { uid = p.target; command = Arrive p } else record { uid = source; command = Orphan p.target }
 
@@ -211,7 +211,7 @@ abbrev pub as_moved : Result Reply Fault → Result Moved Fault
 as_moved (Ok reply) = Ok (moved_of reply)
 as_moved (Err fault) = Err fault
 
-abbrev pub delivered_answer : World → ℕ → Delivery → Result Moved Fault
+abbrev pub delivered_answer : World → ℕ → AddressedCommand → Result Moved Fault
 delivered_answer w at d = as_moved (queue_answer w d.uid at d.command)
 
 -- what becomes of the first parcel of the queue of a uid, which is there

@@ -24,10 +24,10 @@ use Rattle.redrive.specs.declared.steps.QueueMetrics.{QueueMetrics}
 use Rattle.redrive.specs.World.{World, next_queue, with_queue, queue_named, queue_of_uid, target_uid, opens_queue, created_answer, step_refusal, reply_alone, takes_alone, world_after_command, closed_queue, taken_alone, world_after_delete, first_parcel_in, delivery_of, moved_of, accepted_number, needs_confirmation, world_at_moment}
 use Rattle.redrive.specs.History.{AllQueues}
 
-abbrev pub Answer : Type 0
-Answer = Result HouseReply Fault
+abbrev pub HouseAnswer : Type 0
+HouseAnswer = Result HouseReply Fault
 
-abbrev pub as_house_reply : {T : Type 0} → (T → HouseReply) → Result T Fault → Answer
+abbrev pub as_house_reply : {T : Type 0} → (T → HouseReply) → Result T Fault → HouseAnswer
 as_house_reply reply (Ok x) = Ok (reply x)
 as_house_reply reply (Err fault) = Err fault
 
@@ -46,7 +46,7 @@ pub data WorldChange : Type 0 where
 pub record Act : Type 0 where
   pub at : ℕ
   pub uid : Option ℕ
-  pub answer : Option QueueHistory → Answer
+  pub answer : Option QueueHistory → HouseAnswer
   pub takes_memory : Option QueueHistory → Bool
   pub change : WorldChange
 
@@ -111,10 +111,10 @@ act_of w (steps.Advance at) = record { at = at; uid = None; answer = λ q. Ok Ad
 abbrev pub found_for : World → Act → Option QueueHistory
 found_for w act = option_and_then (queue_of_uid w) act.uid
 
-abbrev pub answer_of_act : World → Act → Answer
+abbrev pub answer_of_act : World → Act → HouseAnswer
 answer_of_act w act = act.answer (found_for w act)
 
-abbrev pub answer_of_step : World → HouseStep → Answer
+abbrev pub answer_of_step : World → HouseStep → HouseAnswer
 answer_of_step w step = answer_of_act w (act_of w step)
 
 -- whether it needs memory: where it opens a queue, adds to the journal of one or begins it anew, or shares the content of a parcel for its client. To hand a
@@ -123,56 +123,56 @@ abbrev pub needs_memory : World → HouseStep → Bool
 needs_memory w step = (act_of w step).takes_memory (found_for w (act_of w step))
 
 -- the registry that a change leaves where it is answered so
-abbrev pub world_changed : World → ℕ → WorldChange → Answer → World
+abbrev pub world_changed : World → ℕ → WorldChange → HouseAnswer → World
 world_changed w at Nothing answer = w
 world_changed w at (Performs uid command) answer = world_after_command w uid at command answer
 world_changed w at (Opens name settings) answer = if is_out_of_memory answer then w else with_queue w (next_queue w at name settings [])
 world_changed w at (Closes uid) answer = world_after_delete w uid at answer
 world_changed w at Passes answer = world_at_moment w at
 
-abbrev pub world_after : World → HouseStep → Answer → World
+abbrev pub world_after : World → HouseStep → HouseAnswer → World
 world_after w step answer = world_changed w (act_of w step).at (act_of w step).change answer
 
 -- the queues that were deleted, with the one that a change closes
-abbrev pub with_closed : World → ℕ → WorldChange → Answer → List QueueHistory → List QueueHistory
+abbrev pub with_closed : World → ℕ → WorldChange → HouseAnswer → List QueueHistory → List QueueHistory
 with_closed w at (Closes uid) answer deleted =
     if is_out_of_memory answer then deleted else option_map_or (λ q. closed_queue q at ∷ deleted) (queue_of_uid w uid) deleted
 with_closed w at change answer deleted = deleted
 
 -- everything after a change, an act, and a step
-abbrev pub all_changed : AllQueues → ℕ → WorldChange → Answer → AllQueues
+abbrev pub all_changed : AllQueues → ℕ → WorldChange → HouseAnswer → AllQueues
 all_changed all at change answer =
     record { world = world_changed all.world at change answer; deleted = with_closed all.world at change answer all.deleted }
 
-abbrev pub all_left : AllQueues → Act → Answer → AllQueues
+abbrev pub all_left : AllQueues → Act → HouseAnswer → AllQueues
 all_left all act answer = all_changed all act.at act.change answer
 
-abbrev pub all_after : AllQueues → HouseStep → Answer → AllQueues
+abbrev pub all_after : AllQueues → HouseStep → HouseAnswer → AllQueues
 all_after all step answer = all_left all (act_of all.world step) answer
 
 -- ---- a list of steps
 
 -- the answer is that of the registry; only a step that needs memory may find none
-pub record IsAnswerOf (w : World) (step : HouseStep) (answer : Answer) : Type 0 where
+pub record IsAnswerOf (w : World) (step : HouseStep) (answer : HouseAnswer) : Type 0 where
   pub meets : Meets answer (answer_of_step w step)
   pub exact : needs_memory w step ≡ false → answer ≡ answer_of_step w step
 
 -- each answer is that of the registry which the answers before it leave
-abbrev pub AreHouseAnswers : World → List HouseStep → List Answer → Type 0
+abbrev pub AreHouseAnswers : World → List HouseStep → List HouseAnswer → Type 0
 AreHouseAnswers w [] [] = Unit {0}
 AreHouseAnswers w [] (answer ∷ answers) = ⊥
 AreHouseAnswers w (step ∷ steps) [] = ⊥
 AreHouseAnswers w (step ∷ steps) (answer ∷ answers) = IsAnswerOf w step answer × AreHouseAnswers (world_after w step answer) steps answers
 
 -- the registry that the answers leave
-abbrev pub world_after_all : World → List HouseStep → List Answer → World
+abbrev pub world_after_all : World → List HouseStep → List HouseAnswer → World
 world_after_all w [] answers = w
 world_after_all w (step ∷ steps) [] = w
 world_after_all w (step ∷ steps) (answer ∷ answers) = world_after_all (world_after w step answer) steps answers
 
 -- some answers of the registry to these steps leave the new world
 pub record AreStepsTo (old : World) (steps : List HouseStep) (new : World) : Type 0 where
-  pub answers : List Answer
+  pub answers : List HouseAnswer
   pub answered : AreHouseAnswers old steps answers
   pub left : new ≡ world_after_all old steps answers
 
@@ -181,7 +181,7 @@ abbrev pub steps_of_move : ℕ → ℕ → Result Moved Fault → List HouseStep
 steps_of_move source at handed_over = steps.HandOver at source ∷ (if needs_confirmation handed_over then steps.Confirm at source ∷ [] else [])
 
 -- everything that the answers leave
-abbrev pub history_after : AllQueues → List HouseStep → List Answer → AllQueues
+abbrev pub history_after : AllQueues → List HouseStep → List HouseAnswer → AllQueues
 history_after all [] answers = all
 history_after all (step ∷ steps) [] = all
 history_after all (step ∷ steps) (answer ∷ answers) = history_after (all_after all step answer) steps answers
@@ -189,7 +189,7 @@ history_after all (step ∷ steps) (answer ∷ answers) = history_after (all_aft
 -- ---- one queue of many
 
 -- what a change leaves of the queue of a uid, if there is one: it sees its own opening, the commands that are for it, its deletion, and time, and nothing else
-abbrev pub queue_changed : World → ℕ → Option QueueHistory → ℕ → WorldChange → Answer → Option QueueHistory
+abbrev pub queue_changed : World → ℕ → Option QueueHistory → ℕ → WorldChange → HouseAnswer → Option QueueHistory
 queue_changed w uid q at Nothing answer = q
 queue_changed w uid q at (Performs own command) answer = if own == uid then option_map (λ q. after_answer q at command answer) q else q
 queue_changed w uid q at (Opens name settings) answer =
@@ -197,16 +197,16 @@ queue_changed w uid q at (Opens name settings) answer =
 queue_changed w uid q at (Closes own) answer = if own == uid then (if is_out_of_memory answer then option_map (λ q. at_moment q at) q else None) else q
 queue_changed w uid q at Passes answer = option_map (λ q. at_moment q at) q
 
-abbrev pub queue_after : World → ℕ → Option QueueHistory → HouseStep → Answer → Option QueueHistory
+abbrev pub queue_after : World → ℕ → Option QueueHistory → HouseStep → HouseAnswer → Option QueueHistory
 queue_after w uid q step answer = queue_changed w uid q (act_of w step).at (act_of w step).change answer
 
 -- what the queue of a uid answers by itself to a step that is for it, or for all: to a create of its name, its deletion, its commands, a parcel that comes to it or
 -- comes back, its confirmations, and, as a source, that no parcel waits or that it is not there
-abbrev pub answer_alone : World → ℕ → Option QueueHistory → HouseStep → Option Answer
+abbrev pub answer_alone : World → ℕ → Option QueueHistory → HouseStep → Option HouseAnswer
 answer_alone w uid q step = if option_map_or (λ own. own == uid) (act_of w step).uid true then Some ((act_of w step).answer q) else None
 
 -- the queue of a uid answers all that is for it, and becomes what the commands for it leave, as if no other queue were there
-abbrev pub IsAsIfAlone : World → ℕ → Option QueueHistory → List HouseStep → List Answer → Option QueueHistory → Type 0
+abbrev pub IsAsIfAlone : World → ℕ → Option QueueHistory → List HouseStep → List HouseAnswer → Option QueueHistory → Type 0
 IsAsIfAlone w uid q [] answers new = new ≡ q
 IsAsIfAlone w uid q (step ∷ steps) [] new = new ≡ q
 IsAsIfAlone w uid q (step ∷ steps) (answer ∷ answers) new =
@@ -221,14 +221,14 @@ IsTold q commands.Look (replies.Looked look) = look.gauges ≡ gauges_of q.lines
 IsTold q (commands.Receive maximum timeout) (replies.Received offers) = offers ≡ offers_of q (offered_candidates q maximum)
 IsTold q _ _ = Unit {0}
 
-abbrev pub IsToldIn : World → ℕ → WorldChange → Answer → Type 0
+abbrev pub IsToldIn : World → ℕ → WorldChange → HouseAnswer → Type 0
 IsToldIn w at (Performs uid command) (Ok (Performed reply)) = IfSome (queue_of_uid w uid) (λ q. IsTold (rebased_where (outcome_at q at command).rebases (at_moment q at)) command reply)
 IsToldIn w at change answer = Unit {0}
 
-abbrev pub IsToldBy : World → HouseStep → Answer → Type 0
+abbrev pub IsToldBy : World → HouseStep → HouseAnswer → Type 0
 IsToldBy w step answer = IsToldIn w (act_of w step).at (act_of w step).change answer
 
-abbrev pub AreTold : World → List HouseStep → List Answer → Type 0
+abbrev pub AreTold : World → List HouseStep → List HouseAnswer → Type 0
 AreTold w [] answers = Unit {0}
 AreTold w (step ∷ steps) [] = Unit {0}
 AreTold w (step ∷ steps) (answer ∷ answers) = IsToldBy w step answer × AreTold (world_after w step answer) steps answers
@@ -244,6 +244,6 @@ metrics_of minute alarm q = record {
 }
 
 -- the main theorem of the registry: each look, each receive, and at the end the counts, the age, each row and each alarm of every queue are what the journal of the queue gives
-pub record AreRecomputed (old new : World) (steps : List HouseStep) (answers : List Answer) (minute alarm : ℕ) (metrics : List QueueMetrics) : Type 0 where
+pub record AreRecomputed (old new : World) (steps : List HouseStep) (answers : List HouseAnswer) (minute alarm : ℕ) (metrics : List QueueMetrics) : Type 0 where
   pub told : AreTold old steps answers
   pub measured : metrics ≡ map (λ q. metrics_of minute alarm q) new.queues

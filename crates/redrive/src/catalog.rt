@@ -35,9 +35,9 @@ pub struct Catalog {
 }
 
 impl Model for Catalog {
-    ghost use Rattle.redrive.specs.Catalog.{Directory, IsKeptDirectory};
+    ghost use Rattle.redrive.specs.Catalog.{NameDirectory, IsKeptDirectory};
 
-    ghost Value = { Directory };
+    ghost Value = { NameDirectory };
 
     ghost view = { λ c. record { next_uid = c.next_uid; queues = c.queues.items } };
 

@@ -16,7 +16,7 @@ ghost use Rattle.redrive.specs.History.{IsWholeHistory};
 ghost use Rattle.redrive.specs.Listing.{listed_names};
 ghost use Rattle.redrive.specs.Refused.{IsRefusedBy};
 ghost use Rattle.redrive.specs.World.{World, IsRegistry, queue_of_uid};
-ghost use Rattle.redrive.specs.WorldRun.{Answer, AreHouseAnswers, world_after, world_after_all};
+ghost use Rattle.redrive.specs.WorldRun.{HouseAnswer, AreHouseAnswers, world_after, world_after_all};
 
 /// Of names that differ, each that is listed stands before the next in the order of their bytes, and
 /// the names listed are those that begin with the prefix.
@@ -44,13 +44,13 @@ pub fn histories_begin()
 /// command that is refused in any other way, or finds no memory, leaves every journal as it was, of
 /// queues that began with journals that a queue can have.
 pub fn refused_steps_change_nothing()
-    ensures own { (w : World) (steps later : List HouseStep) (answers rest : List Answer) (at uid : ℕ) (command : Command) (fault : Fault)
+    ensures own { (w : World) (steps later : List HouseStep) (answers rest : List HouseAnswer) (at uid : ℕ) (command : Command) (fault : Fault)
         → length steps ≡ length answers
         → AreHouseAnswers w (steps ++ Perform at uid command ∷ later) (answers ++ Err fault ∷ rest)
         → is_own_refusal fault ≡ true
         → IsRefusedBy (world_after_all w steps answers) uid at command fault
         (world_after (world_after_all w steps answers) (Perform at uid command) (Err fault)) }
-    ensures no_other { (w : World) (steps later : List HouseStep) (answers rest : List Answer) (at uid : ℕ) (command : Command) (fault : Fault)
+    ensures no_other { (w : World) (steps later : List HouseStep) (answers rest : List HouseAnswer) (at uid : ℕ) (command : Command) (fault : Fault)
         → length steps ≡ length answers
         → AreHouseAnswers w (steps ++ Perform at uid command ∷ later) (answers ++ Err fault ∷ rest)
         → is_own_refusal fault ≡ false → All (λ q. IsLegal q) w.queues

@@ -17,14 +17,14 @@ ghost use Rattle.redrive.specs.Waiting.{waiting_in};
 ghost use Rattle.redrive.specs.History.{AllQueues};
 ghost use Rattle.redrive.specs.HistorySteps.{HistoryStep, Own, AreHistoryAnswers, after_history_steps};
 ghost use Rattle.redrive.specs.WholeSteps.{StandForWhole, whole_after_steps};
-ghost use Rattle.redrive.specs.WorldRun.{Answer, AreHouseAnswers, AreStepsTo, steps_of_move, world_after_all, history_after};
+ghost use Rattle.redrive.specs.WorldRun.{HouseAnswer, AreHouseAnswers, AreStepsTo, steps_of_move, world_after_all, history_after};
 ghost use Rattle.redrive.specs.Places.{first_history, EachAcceptedOnce, EachHasItsFate, EachHasOnePlace, NoRelayDeleted};
 
 /// Whatever the steps are, and wherever memory runs out, each queue that is there or was deleted stands for
 /// the queue with its whole journal: it has the same uid, name and clock, and its journal, of which a checkpoint
 /// may be the first entry, comes to the same.
 pub fn queues_stand_for_their_whole_journals()
-    ensures { (config : Configuration) (at : ℕ) (steps : List HistoryStep) (answers : List Answer)
+    ensures { (config : Configuration) (at : ℕ) (steps : List HistoryStep) (answers : List HouseAnswer)
         → AreHistoryAnswers (first_history config at) steps answers
         → StandForWhole (after_history_steps (first_history config at) steps answers) (whole_after_steps (first_history config at) steps answers) }
 {}
@@ -33,10 +33,10 @@ pub fn queues_stand_for_their_whole_journals()
 /// of a queue that is there or was deleted accepts the same message of the same source twice. [whole] is of
 /// whole journals, [kept] of those that are there, which may begin with a checkpoint.
 pub fn transfers_are_accepted_once()
-    ensures whole { (config : Configuration) (at : ℕ) (steps : List HistoryStep) (answers : List Answer)
+    ensures whole { (config : Configuration) (at : ℕ) (steps : List HistoryStep) (answers : List HouseAnswer)
         → AreHistoryAnswers (first_history config at) steps answers
         → EachAcceptedOnce (whole_after_steps (first_history config at) steps answers) }
-    ensures kept { (config : Configuration) (at : ℕ) (steps : List HistoryStep) (answers : List Answer)
+    ensures kept { (config : Configuration) (at : ℕ) (steps : List HistoryStep) (answers : List HouseAnswer)
         → AreHistoryAnswers (first_history config at) steps answers
         → EachAcceptedOnce (after_history_steps (first_history config at) steps answers) }
 {}
@@ -46,7 +46,7 @@ pub fn transfers_are_accepted_once()
 /// that queue is gone. A message that left more than once has such a fate each time; the first entry
 /// behind the departure that ends the transfer tells which.
 pub fn each_departure_has_its_fate()
-    ensures { (config : Configuration) (at : ℕ) (steps : List HistoryStep) (answers : List Answer)
+    ensures { (config : Configuration) (at : ℕ) (steps : List HistoryStep) (answers : List HouseAnswer)
         → AreHistoryAnswers (first_history config at) steps answers
         → EachHasItsFate (whole_after_steps (first_history config at) steps answers) }
 {}
@@ -57,11 +57,11 @@ pub fn each_departure_has_its_fate()
 /// transfer by which the message came there is not confirmed at its source, although a next queue has accepted
 /// it from there. The source would take the message back, since it cannot know.
 pub fn each_message_has_one_place()
-    ensures whole { (config : Configuration) (at : ℕ) (steps : List HistoryStep) (answers : List Answer)
+    ensures whole { (config : Configuration) (at : ℕ) (steps : List HistoryStep) (answers : List HouseAnswer)
         → AreHistoryAnswers (first_history config at) steps answers
         → NoRelayDeleted (first_history config at) steps answers
         → EachHasOnePlace (whole_after_steps (first_history config at) steps answers) }
-    ensures kept { (config : Configuration) (at : ℕ) (steps : List HistoryStep) (answers : List Answer)
+    ensures kept { (config : Configuration) (at : ℕ) (steps : List HistoryStep) (answers : List HouseAnswer)
         → AreHistoryAnswers (first_history config at) steps answers
         → NoRelayDeleted (first_history config at) steps answers
         → EachHasOnePlace (after_history_steps (first_history config at) steps answers) }
@@ -70,9 +70,9 @@ pub fn each_message_has_one_place()
 /// The registry's own steps are steps of everything that it ever had: they are answered so, and leave
 /// the same. So the laws over lists of such steps are laws of [`House::run`](crate::House::run).
 pub fn own_steps_are_history_steps()
-    ensures answered { (all : AllQueues) (steps : List HouseStep) (answers : List Answer)
+    ensures answered { (all : AllQueues) (steps : List HouseStep) (answers : List HouseAnswer)
         → AreHouseAnswers all.world steps answers → AreHistoryAnswers all (map Own steps) answers }
-    ensures left { (all : AllQueues) (steps : List HouseStep) (answers : List Answer)
+    ensures left { (all : AllQueues) (steps : List HouseStep) (answers : List HouseAnswer)
         → after_history_steps all (map Own steps) answers ≡ history_after all steps answers }
 {}
 
@@ -100,7 +100,7 @@ pub fn moves_leave_fewer()
 /// No queue is ever its own dead-letter queue: from configured queues of which none is, whatever the
 /// steps are and however they are answered.
 pub fn no_queue_is_its_own_target()
-    ensures { (config : Configuration) (at : ℕ) (steps : List HouseStep) (answers : List Answer)
+    ensures { (config : Configuration) (at : ℕ) (steps : List HouseStep) (answers : List HouseAnswer)
         → AreConfigured config.queues
         → All (λ q. has_target q.uid q ≡ false) (world_after_all (new_world config at) steps answers).queues }
 {}

@@ -1,7 +1,7 @@
 //! The actions that are counted.
 
 ghost use Rattle.std.specs.Prelude.{◌≡◌, ◌≢◌, ◌<◌, None, codes};
-ghost use Rattle.aws_json.specs.Request.{row_of};
+ghost use Rattle.aws_json.specs.Request.{action_row};
 ghost use Rattle.request_log.specs.Actions.{place_of, name_at};
 
 /// How many places there are: one for each action that is served, and a last one for all else.
@@ -11,8 +11,8 @@ pub const PLACES: usize = 16;
 pub fn place_of(action: &str) -> usize
     ensures place { result ≡ place_of action.now }
     ensures range { result < 16 }
-    ensures served { row_of action.now ≢ None → name_at result ≡ action.now }
-    ensures unserved { row_of action.now ≡ None → name_at result ≡ codes "-" }
+    ensures served { action_row action.now ≢ None → name_at result ≡ action.now }
+    ensures unserved { action_row action.now ≡ None → name_at result ≡ codes "-" }
 {
     match action {
         "CreateQueue" => 0,

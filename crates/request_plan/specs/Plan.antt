@@ -15,7 +15,7 @@ use Rattle.aws_json.specs.declared.request.AttributeNames.{AttributeNames}
 use Rattle.aws_json.specs.declared.reply.ReplyShape.{ReplyShape}
 use Rattle.aws_json.specs.declared.reply.ReplyShape.TheVariants as shapes
 use Rattle.request_plan.specs.declared.plan.Performed.{Performed}
-use Rattle.request_plan.specs.declared.plan.Told.{Told}
+use Rattle.request_plan.specs.declared.plan.ReceiveParts.{ReceiveParts}
 use Rattle.request_plan.specs.declared.plan.Then.{Then}
 use Rattle.request_plan.specs.declared.plan.Then.TheVariants as thens
 use Rattle.request_plan.specs.declared.plan.Step.{Step}
@@ -32,11 +32,11 @@ abbrev pub attributes : List ℕ → Option AttributeNames → Step
 attributes queue names = Ask commands.Look 0 (thens.Attributes queue names)
 
 -- messages, for which it may wait so many seconds
-abbrev pub receive_within : ℕ → Option ℕ → ℕ → Told → Step
+abbrev pub receive_within : ℕ → Option ℕ → ℕ → ReceiveParts → Step
 receive_within maximum timeout seconds told = Ask (commands.Receive maximum timeout) seconds (thens.Messages told)
 
 -- messages; where it is not said how long to wait for them, the queue is looked at first
-abbrev pub receive : ℕ → Option ℕ → Option ℕ → Told → Step
+abbrev pub receive : ℕ → Option ℕ → Option ℕ → ReceiveParts → Step
 receive maximum timeout (Some seconds) told = receive_within maximum timeout seconds told
 receive maximum timeout None told = Ask commands.Look 0 (thens.Receive maximum timeout told)
 
@@ -81,11 +81,11 @@ abbrev pub attributes_answer : List ℕ → Option AttributeNames → Result Per
 attributes_answer queue names outcome = outcome >>= λ p. attributes_shape queue names p.reply
 
 -- of a receive from the queue of a uid
-abbrev pub messages_shape : ℕ → Told → Reply → ReplyShape
+abbrev pub messages_shape : ℕ → ReceiveParts → Reply → ReplyShape
 messages_shape uid told (replies.Received offers) = shapes.Messages uid told.names told.attributes offers
 messages_shape uid told reply = shapes.Nothing
 
-abbrev pub messages_answer : ℕ → Told → Result Performed Fault → Result ReplyShape Fault
+abbrev pub messages_answer : ℕ → ReceiveParts → Result Performed Fault → Result ReplyShape Fault
 messages_answer uid told outcome = result_map (λ p. messages_shape uid told p.reply) outcome
 
 -- of an entry of a batch
@@ -95,7 +95,7 @@ entry_answer outcome = result_map (λ p. done_reply p.command p.reply) outcome
 -- ---- what comes after a command that was asked of the queue of a uid
 
 -- messages are asked for after a look, for as long as the queue has it; a queue that was closed is not there any more
-abbrev pub receive_looked : ℕ → Option ℕ → Told → Reply → Step
+abbrev pub receive_looked : ℕ → Option ℕ → ReceiveParts → Reply → Step
 receive_looked maximum timeout told (replies.Looked look) =
     if look.closed then Answer (Err QueueDoesNotExist) else receive_within maximum timeout look.settings.wait_seconds told
 receive_looked maximum timeout told reply = Answer (Ok shapes.Nothing)
@@ -105,7 +105,7 @@ abbrev pub step_or : {A : Type 0} → (A → Step) → Result A Fault → Step
 step_or next (Ok x) = next x
 step_or next (Err fault) = Answer (Err fault)
 
-abbrev pub receive_after : ℕ → Option ℕ → Told → Result Performed Fault → Step
+abbrev pub receive_after : ℕ → Option ℕ → ReceiveParts → Result Performed Fault → Step
 receive_after maximum timeout told outcome = step_or (λ p. receive_looked maximum timeout told p.reply) outcome
 
 -- the other entries of a batch, whatever became of this one

@@ -42,7 +42,7 @@ impl Remaining {
 
 /// What a client is told of messages that it receives.
 #[derive(Debug, Drop)]
-pub struct Told {
+pub struct ReceiveParts {
     pub names: ReceiveNames,
     pub attributes: Patterns,
 }
@@ -61,10 +61,10 @@ pub enum Then {
     Receive {
         maximum: Maximum,
         timeout: Option<Timeout>,
-        told: Told,
+        told: ReceiveParts,
     },
     /// Messages are told.
-    Messages(Told),
+    Messages(ReceiveParts),
     /// An entry of a batch is told behind those before it, and then come the entries that are left.
     Entry {
         id: QueueName,
@@ -119,7 +119,7 @@ pub(crate) fn attributes(queue: QueueName, names: Option<AttributeNames>) -> Ste
 }
 
 /// Asks for messages, for which it may wait so many seconds.
-fn receive_within(maximum: Maximum, timeout: Option<Timeout>, seconds: u64, told: Told) -> Step
+fn receive_within(maximum: Maximum, timeout: Option<Timeout>, seconds: u64, told: ReceiveParts) -> Step
     ensures { result ≡ plan.receive_within maximum timeout seconds told }
 {
     Step::Ask {
@@ -134,7 +134,7 @@ pub(crate) fn receive(
     maximum: Maximum,
     timeout: Option<Timeout>,
     wait: Option<u64>,
-    told: Told,
+    told: ReceiveParts,
 ) -> Step
     ensures { result ≡ plan.receive maximum timeout wait told }
 {
@@ -247,7 +247,7 @@ fn attributes_answer(
 }
 
 /// What a client is told of a receive.
-fn messages_shape(uid: u64, told: Told, reply: Reply) -> ReplyShape
+fn messages_shape(uid: u64, told: ReceiveParts, reply: Reply) -> ReplyShape
     ensures { result ≡ messages_shape uid told reply }
 {
     match reply {
@@ -262,7 +262,7 @@ fn messages_shape(uid: u64, told: Told, reply: Reply) -> ReplyShape
 }
 
 /// What a client is told where it asked for messages.
-fn messages_answer(uid: u64, told: Told, outcome: Outcome) -> Result<ReplyShape, Fault>
+fn messages_answer(uid: u64, told: ReceiveParts, outcome: Outcome) -> Result<ReplyShape, Fault>
     ensures { result ≡ messages_answer uid told outcome }
 {
     let Performed { command: _, reply } = outcome?;
@@ -271,7 +271,7 @@ fn messages_answer(uid: u64, told: Told, outcome: Outcome) -> Result<ReplyShape,
 
 /// Asks for messages after a look, and waits for them as the queue has it. One that was closed is not
 /// there any more.
-fn receive_looked(maximum: Maximum, timeout: Option<Timeout>, told: Told, reply: Reply) -> Step
+fn receive_looked(maximum: Maximum, timeout: Option<Timeout>, told: ReceiveParts, reply: Reply) -> Step
     ensures { result ≡ plan.receive_looked maximum timeout told reply }
 {
     match reply {
@@ -285,7 +285,7 @@ fn receive_looked(maximum: Maximum, timeout: Option<Timeout>, told: Told, reply:
 }
 
 /// The same, where the look may have failed.
-fn receive_after(maximum: Maximum, timeout: Option<Timeout>, told: Told, outcome: Outcome) -> Step
+fn receive_after(maximum: Maximum, timeout: Option<Timeout>, told: ReceiveParts, outcome: Outcome) -> Step
     ensures { result ≡ plan.receive_after maximum timeout told outcome }
 {
     match outcome {

@@ -2,7 +2,7 @@
 
 ghost use Rattle.request_plan.specs.Task.{Begins};
 
-use crate::plan::{Step, Told, attributes, batch, done, receive};
+use crate::plan::{Step, ReceiveParts, attributes, batch, done, receive};
 use aws_json::{Prefix, Request};
 use message::QueueName;
 use queue_config::Wish;
@@ -52,7 +52,7 @@ pub fn task_of(alloc: Global, request: Request) -> Task
             attributes,
         } => Task::Ask {
             queue,
-            step: receive(maximum, timeout, wait, Told { names, attributes }),
+            step: receive(maximum, timeout, wait, ReceiveParts { names, attributes }),
         },
         Request::SendMessage {
             queue,

@@ -25,7 +25,7 @@ use Rattle.redrive.specs.History.{AllQueues}
 use Rattle.redrive.specs.HistorySteps.{Own}
 use Rattle.redrive.specs.Places.{IsSpared, NoRelayDeleted}
 use Rattle.redrive.specs.WholeSteps.{whole_after_step}
-use Rattle.redrive.specs.WorldRun.{Answer, act_of, world_after, world_after_all}
+use Rattle.redrive.specs.WorldRun.{HouseAnswer, act_of, world_after, world_after_all}
 use Rattle.redrive.proofs.AnswerLemmas.{meets-itself, performed-done, confirmed-done, accepted-there, handed-done, created-done, deleted-done}
 use Rattle.redrive.proofs.OpeningLemmas.{opened-more, next_name-new, next_name-place}
 use Rattle.redrive.proofs.RegistryLemmas.{IsRegistry-empty, IsRegistry-with_queue, IsRegistry-after_step, IsRegistry-at_moment, IsRegistry-without, IsRegistry-moved}
@@ -42,28 +42,28 @@ use Rattle.sqs_replay.specs.declared.answer.Asked.TheVariants.{Client, Tick, Sta
 use Rattle.sqs_replay.specs.declared.answer.Timed.{Timed}
 use Rattle.sqs_replay.specs.Answers.{texts, state_after}
 use Rattle.sqs_replay.specs.Moves.{world_between, confirmed_world, world_after_move, goes_on, some_moves, message_count_in, all_moves}
-use Rattle.sqs_replay.specs.Served.{Served, unchanged, step_served, played, most_commands, task_served, named_sheet_served, asked_of, queue_of_asked, asked_served, line_served, text_of_line, world_of_line}
-use Rattle.sqs_replay.specs.Steps.{AskNoDeletion, Course, DeleteNone, IsOutputOf, asks_deletion, deletes_queue, is_deletion}
+use Rattle.sqs_replay.specs.Served.{AnswerAndWorld, unchanged, step_served, played, most_commands, task_served, named_sheet_served, asked_of, queue_of_asked, asked_served, line_served, text_of_line, world_of_line}
+use Rattle.sqs_replay.specs.Steps.{AskNoDeletion, LineCourse, DeleteNone, IsOutputOf, asks_deletion, deletes_queue, is_deletion}
 
 -- ---- steps one after another, each taken in a registry
 
 -- may is whether a queue may be deleted among them
 pub record Walk (may : Bool) (old new : World) : Type 0 where
   pub steps : List HouseStep
-  pub answers : List Answer
+  pub answers : List HouseAnswer
   pub answered : AreAnswered old steps answers
   pub left : new ≡ world_after_all old steps answers
   pub registry : IsRegistry new
   pub quiet : may ≡ false → DeleteNone steps
 
-both-answered : (a b : World) (first more : List HouseStep) (answers others : List Answer) → AreAnswered a first answers → b ≡ world_after_all a first answers → AreAnswered b more others
+both-answered : (a b : World) (first more : List HouseStep) (answers others : List HouseAnswer) → AreAnswered a first answers → b ≡ world_after_all a first answers → AreAnswered b more others
     → AreAnswered a (first ++ more) (answers ++ others)
 both-answered a b [] more [] others h is k = subst (λ (w : World). AreAnswered w more others) is k
 both-answered a b [] more (x ∷ xs) others h is k = absurd h
 both-answered a b (s ∷ ss) more [] others h is k = absurd h
 both-answered a b (s ∷ ss) more (x ∷ xs) others h is k = (h.0, (h.1.0, both-answered (world_after a s x) b ss more xs others h.1.1 is k))
 
-both-left : (a b : World) (first more : List HouseStep) (answers others : List Answer) → AreAnswered a first answers → b ≡ world_after_all a first answers
+both-left : (a b : World) (first more : List HouseStep) (answers others : List HouseAnswer) → AreAnswered a first answers → b ≡ world_after_all a first answers
     → world_after_all b more others ≡ world_after_all a (first ++ more) (answers ++ others)
 both-left a b [] more [] others h is = ap (λ (w : World). world_after_all w more others) is
 both-left a b [] more (x ∷ xs) others h is = absurd h
@@ -113,7 +113,7 @@ module _ (may : Bool) where
   stays : (w : World) → IsRegistry w → Walk may w w
   stays w h = record { steps = []; answers = []; answered = tt; left = refl; registry = h; quiet = λ none. tt }
 
-  one : (old new : World) (step : HouseStep) (answer : Answer) → (may ≡ false → is_deletion step ≡ false) → IsRegistry old → IsDone old (act_of old step) answer new 0 0
+  one : (old new : World) (step : HouseStep) (answer : HouseAnswer) → (may ≡ false → is_deletion step ≡ false) → IsRegistry old → IsDone old (act_of old step) answer new 0 0
       → IsRegistry new → Walk may old new
   one old new step answer keeps h done after = record {
     steps = step ∷ [];
@@ -266,7 +266,7 @@ module _ (may : Bool) where
       join w (step_served w uid at command purpose).world _ asked
       (played-walk n (step_served w uid at command purpose).world uid at (step_served w uid at command purpose).answer asked.registry)
 
-  in-queue-walk : {T : Type 0} (w : World) (serve : ℕ → Served (Result T Fault)) (o : Option ℕ) → IsRegistry w → ((uid : ℕ) → Walk may w (serve uid).world)
+  in-queue-walk : {T : Type 0} (w : World) (serve : ℕ → AnswerAndWorld (Result T Fault)) (o : Option ℕ) → IsRegistry w → ((uid : ℕ) → Walk may w (serve uid).world)
       → Walk may w (option_map_or serve o (unchanged w (Err QueueDoesNotExist))).world
   in-queue-walk w serve None h go = stays w h
   in-queue-walk w serve (Some uid) h go = go uid
@@ -310,7 +310,7 @@ module _ (may : Bool) where
 
 -- ---- what a walk is a proof of
 
-abbrev pub course : (may : Bool) (old new : World) → Walk may old new → Course old new
+abbrev pub course : (may : Bool) (old new : World) → Walk may old new → LineCourse old new
 course may old new p = record {
   steps = p.steps;
   answers = p.answers;
@@ -371,7 +371,7 @@ configured-output config lines are = output-by (new_world config 0) (new_world c
 
 -- ---- where no queue is deleted
 
-spared-step : (all : AllQueues) (step : HouseStep) (answer : Answer) → is_deletion step ≡ false → IsSpared all (Own step) answer
+spared-step : (all : AllQueues) (step : HouseStep) (answer : HouseAnswer) → is_deletion step ≡ false → IsSpared all (Own step) answer
 spared-step all (steps.Create at name wish) answer none = tt
 spared-step all (steps.Delete at uid) answer none = absurd (true≢false none)
 spared-step all (steps.Perform at uid command) answer none = tt
@@ -379,7 +379,7 @@ spared-step all (steps.HandOver at source) answer none = tt
 spared-step all (steps.Confirm at source) answer none = tt
 spared-step all (steps.Advance at) answer none = tt
 
-pub spared : (all : AllQueues) (steps : List HouseStep) (answers : List Answer) → DeleteNone steps → NoRelayDeleted all (map Own steps) answers
+pub spared : (all : AllQueues) (steps : List HouseStep) (answers : List HouseAnswer) → DeleteNone steps → NoRelayDeleted all (map Own steps) answers
 spared all [] answers none = tt
 spared all (step ∷ steps) [] none = tt
 spared all (step ∷ steps) (answer ∷ answers) none = (spared-step all step answer none.0, spared (whole_after_step all (Own step) answer) steps answers none.1)

@@ -9,7 +9,7 @@ use Rattle.message.specs.Name.{is_letter}
 use Rattle.message.specs.declared.fault.Fault.{Fault}
 use Rattle.message.specs.declared.fault.Fault.TheVariants.{SerializationException}
 use Rattle.aws_json.specs.Steps.{◌>>=◌}
-use Rattle.sqs_replay.specs.InputLine.{LineParts, space, is_space, cut, within_moments, moment_of, is_action, action_of, input_line_of, IsInputLine}
+use Rattle.sqs_replay.specs.InputLine.{LineParts, space, is_space, cut, within_moments, moment_read, is_action, action_of, input_line_of, IsInputLine}
 
 both : (a b : Bool) → (a && b) ≡ true → (a ≡ true) × (b ≡ true)
 both true b h = (refl, h)
@@ -48,7 +48,7 @@ pub input_line_of-form : (line : List ℕ) (parts : LineParts) → input_line_of
 input_line_of-form line parts h =
     let first = chain_ok (cut line) _ parts h in
     let second = chain_ok (cut first.0.1) _ parts first.2 in
-    let third = chain_ok (moment_of first.0.0) _ parts second.2 in
+    let third = chain_ok (moment_read first.0.0) _ parts second.2 in
     let fourth = chain_ok (action_of second.0.0) _ parts third.2 in
     let action = tested_ok (is_action second.0.0) SerializationException second.0.0 fourth.0 fourth.1 in
     let given : LineParts = record { at = third.0; action = fourth.0; body = second.0.1 } in
@@ -95,7 +95,7 @@ digits_alone : (b : Bool) (n m : ℕ) → within_moments (cond b (Some n) None) 
 digits_alone true n m h = refl
 digits_alone false n m h = absurd cc
 
-moment_digits : (text : List ℕ) (m : ℕ) → moment_of text ≡ Ok m → list_all is_ascii_digit text ≡ true
+moment_digits : (text : List ℕ) (m : ℕ) → moment_read text ≡ Ok m → list_all is_ascii_digit text ≡ true
 moment_digits text m h =
     let test = digits_alone (nat_le 1 (length text) && nat_le (length text) 19 && list_all is_ascii_digit text) _ m h in
     (both (nat_le 1 (length text) && nat_le (length text) 19) (list_all is_ascii_digit text) test).1

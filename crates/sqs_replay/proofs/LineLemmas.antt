@@ -8,7 +8,7 @@ use Rattle.std.proofs.lemmas.Str.{IsUtf8-from_ascii}
 use Rattle.message.specs.Name.{is_letter}
 use Rattle.message.specs.declared.fault.Fault.TheVariants.{SerializationException}
 use Rattle.queue_config.specs.Decimal.{decimal_of}
-use Rattle.sqs_replay.specs.InputLine.{is_space, cut, moment_of, is_action}
+use Rattle.sqs_replay.specs.InputLine.{is_space, cut, moment_read, is_action}
 
 both : (a b : Bool) → (a && b) ≡ true → (a ≡ true) × (b ≡ true)
 both true b h = (refl, h)
@@ -42,7 +42,7 @@ decimal_of-other most text h =
     h (IsUtf8-from_ascii text (IsAscii-from_test is_ascii_digit digit_low text digits.1)))
 
 -- bytes that are no UTF-8 are no moment
-pub moment_of-other : (text : List ℕ) → (IsUtf8 text → ⊥) → moment_of text ≡ Err SerializationException
+pub moment_of-other : (text : List ℕ) → (IsUtf8 text → ⊥) → moment_read text ≡ Err SerializationException
 moment_of-other text h = rw (decimal_of-other 19 text h)
 
 some_place : (b : Bool) (m n : ℕ) → cond b (Some m) None ≡ Some n → (b ≡ true) × (m ≡ n)

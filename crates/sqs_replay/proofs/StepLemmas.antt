@@ -18,12 +18,12 @@ use Rattle.request_plan.specs.declared.plan.Step.{Step}
 use Rattle.request_plan.specs.declared.plan.Step.TheVariants as steps
 use Rattle.request_plan.specs.declared.plan.Then.{Then}
 use Rattle.request_plan.specs.declared.plan.Then.TheVariants as thens
-use Rattle.request_plan.specs.declared.plan.Told.{Told}
+use Rattle.request_plan.specs.declared.plan.ReceiveParts.{ReceiveParts}
 use Rattle.request_plan.specs.declared.task.Task.{Task}
 use Rattle.request_plan.specs.declared.task.Task.TheVariants as tasks
 use Rattle.request_plan.specs.Plan.{Comes, Follows, after, batch, by_case, next_entry, receive_looked}
 use Rattle.request_plan.specs.Task.{Begins, task_of}
-use Rattle.sqs_replay.specs.Served.{Served, Leaves, most_behind, most_commands, played, step_served, steps_served, task_served, unchanged}
+use Rattle.sqs_replay.specs.Served.{AnswerAndWorld, Leaves, most_behind, most_commands, played, step_served, steps_served, task_served, unchanged}
 use Rattle.sqs_replay.proofs.Memory.{memory_or_other, met}
 
 -- ---- a step asks no more commands than the one before it says
@@ -43,7 +43,7 @@ most-if : (b : Bool) (one other : Step) (n : ℕ) → most_commands one ≤ n �
 most-if true one other n h k = h
 most-if false one other n h k = k
 
-most-looked : (maximum : ℕ) (timeout : Option ℕ) (told : Told) (reply : Reply) → most_commands (receive_looked maximum timeout told reply) ≤ 1
+most-looked : (maximum : ℕ) (timeout : Option ℕ) (told : ReceiveParts) (reply : Reply) → most_commands (receive_looked maximum timeout told reply) ≤ 1
 most-looked maximum timeout told (replies.Looked look) = most-if look.closed _ _ 1 (omega arith) (omega arith)
 most-looked maximum timeout told (replies.Sent posted) = omega arith
 most-looked maximum timeout told (replies.Received offers) = omega arith
@@ -77,11 +77,11 @@ follows_comes (thens.Entry id es answers) step wanted h = h
 -- ---- the steps from here
 
 -- what they come to, with commands enough, is what they come to from the first one, unless memory ran out
-abbrev pub GoesOn : Served (Result ReplyShape Fault) → World → ℕ → ℕ → Step → Type 0
+abbrev pub GoesOn : AnswerAndWorld (Result ReplyShape Fault) → World → ℕ → ℕ → Step → Type 0
 GoesOn whole now uid at step =
     ((most : ℕ) × (most_commands step ≤ most) × (played most now uid at step ≡ whole)) ⊎ (step ≡ steps.Answer (Err OutOfMemory))
 
-pub GoesOn-next : (whole : Served (Result ReplyShape Fault)) (now : World) (uid at : ℕ) (command : Command) (seconds : ℕ) (purpose : Then) (step next : Step)
+pub GoesOn-next : (whole : AnswerAndWorld (Result ReplyShape Fault)) (now : World) (uid at : ℕ) (command : Command) (seconds : ℕ) (purpose : Then) (step next : Step)
     (left : World) → GoesOn whole now uid at step → step ≡ steps.Ask command seconds purpose
     → Comes next (step_served now uid at command purpose).answer → left ≡ (step_served now uid at command purpose).world
     → GoesOn whole left uid at next
@@ -137,10 +137,10 @@ meets_memory answer meets =
     ]
 
 module _ (w left : World) (result : Result ReplyShape Fault) where
-  abbrev IsMet : Served (Result ReplyShape Fault) → Type 0
+  abbrev IsMet : AnswerAndWorld (Result ReplyShape Fault) → Type 0
   IsMet s = Meets result s.answer × Leaves result left s.world
 
-  begun_in : (found : Option ℕ) (serve : ℕ → Served (Result ReplyShape Fault))
+  begun_in : (found : Option ℕ) (serve : ℕ → AnswerAndWorld (Result ReplyShape Fault))
       → IsMet (option_map_or (λ uid. unchanged w (Err OutOfMemory)) found (unchanged w (Err QueueDoesNotExist)))
       → IsMet (option_map_or serve found (unchanged w (Err QueueDoesNotExist)))
   begun_in None serve h = h

@@ -32,8 +32,8 @@ within_moments None = Err SerializationException
 within_moments (Some n) = if nat_lt n (2 ^ 62) then Ok n else Err SerializationException
 
 -- 1 to 19 decimal digits, below 2 ^ 62
-abbrev pub moment_of : List ℕ → Result ℕ Fault
-moment_of text = within_moments (decimal_of 19 text)
+abbrev pub moment_read : List ℕ → Result ℕ Fault
+moment_read text = within_moments (decimal_of 19 text)
 
 -- 1 to 64 ASCII letters
 abbrev pub is_action : List ℕ → Bool
@@ -47,7 +47,7 @@ abbrev pub input_line_of : List ℕ → Result LineParts Fault
 input_line_of line = do
   front ← cut line
   back ← cut front.1
-  moment ← moment_of front.0
+  moment ← moment_read front.0
   action ← action_of back.0
   Ok (record { at = moment; action = action; body = back.1 })
 
@@ -55,5 +55,5 @@ input_line_of line = do
 pub record IsInputLine (line : List ℕ) (parts : LineParts) : Type 0 where
   pub digits : List ℕ
   pub text : line ≡ digits ++ space ∷ (parts.action ++ space ∷ parts.body)
-  pub moment : moment_of digits ≡ Ok parts.at
+  pub moment : moment_read digits ≡ Ok parts.at
   pub action : is_action parts.action ≡ true

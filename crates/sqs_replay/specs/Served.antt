@@ -30,8 +30,8 @@ use Rattle.request_plan.specs.Task.{task_of}
 use Rattle.sqs_replay.specs.declared.answer.Asked.{Asked}
 use Rattle.sqs_replay.specs.declared.answer.Asked.TheVariants.{Client, Tick, Statistics, Rows, Alarms}
 use Rattle.sqs_replay.specs.declared.answer.Timed.{Timed}
-use Rattle.sqs_replay.specs.declared.shown.Shown.{Shown}
-use Rattle.sqs_replay.specs.declared.shown.Shown.TheVariants as shown
+use Rattle.sqs_replay.specs.declared.shown.LineAnswer.{LineAnswer}
+use Rattle.sqs_replay.specs.declared.shown.LineAnswer.TheVariants as shown
 use Rattle.board.specs.Sheet as board
 use Rattle.board.specs.Queue.{sheet_of}
 use Rattle.statistics_api.specs.Texts.{sheet_text, sheets_text, rows_text, alarms_text}
@@ -65,32 +65,32 @@ asked_of line =
 -- ---- what an action answers, and what it leaves
 
 -- the answer, and the world after it
-pub record Served (T : Type 0) : Type 0 where
+pub record AnswerAndWorld (T : Type 0) : Type 0 where
   pub answer : T
   pub world : World
 
 -- nothing changes
-abbrev pub unchanged : {T : Type 0} → World → T → Served T
+abbrev pub unchanged : {T : Type 0} → World → T → AnswerAndWorld T
 unchanged w answer = record { answer = answer; world = w }
 
 -- a call of the queue registry, by its answer and what it leaves with an answer
-abbrev pub called : {T : Type 0} → Result T Fault → (Result T Fault → World) → Served (Result T Fault)
+abbrev pub called : {T : Type 0} → Result T Fault → (Result T Fault → World) → AnswerAndWorld (Result T Fault)
 called answer after = record { answer = answer; world = after answer }
 
 -- the same with another form of its answer
-abbrev pub told : {A B : Type 0} → (A → B) → Served A → Served B
+abbrev pub told : {A B : Type 0} → (A → B) → AnswerAndWorld A → AnswerAndWorld B
 told form s = record { answer = form s.answer; world = s.world }
 
 -- what is done in the queue of a name; nothing where no queue has it
-abbrev pub in_queue : {T : Type 0} → World → List ℕ → (ℕ → Served (Result T Fault)) → Served (Result T Fault)
+abbrev pub in_queue : {T : Type 0} → World → List ℕ → (ℕ → AnswerAndWorld (Result T Fault)) → AnswerAndWorld (Result T Fault)
 in_queue w name serve = option_map_or serve (found_uid w name) (unchanged w (Err QueueDoesNotExist))
 
 -- a command in the queue of a uid
-abbrev pub command_served : World → ℕ → ℕ → Command → Served (Result Reply Fault)
+abbrev pub command_served : World → ℕ → ℕ → Command → AnswerAndWorld (Result Reply Fault)
 command_served w uid at command = called (step_answer w uid at command) (world_after_step w uid at command)
 
 -- the deletion of the queue of a uid
-abbrev pub delete_served : World → ℕ → ℕ → Served (Result (Unit {0}) Fault)
+abbrev pub delete_served : World → ℕ → ℕ → AnswerAndWorld (Result (Unit {0}) Fault)
 delete_served w uid at = called (delete_answer w uid) (world_after_delete w uid at)
 
 -- ---- requests, each by its plan: what it is about, and the steps that it asks of one queue
@@ -100,12 +100,12 @@ abbrev pub outcome_of : Command → Result Reply Fault → Result Performed Faul
 outcome_of command answer = result_map (λ reply. record { command = command; reply = reply }) answer
 
 -- a command in the queue of a uid, and the step that comes behind it
-abbrev pub step_served : World → ℕ → ℕ → Command → Then → Served Step
+abbrev pub step_served : World → ℕ → ℕ → Command → Then → AnswerAndWorld Step
 step_served w uid at command purpose = told (λ answer. after uid purpose (outcome_of command answer)) (command_served w uid at command)
 
 -- Steps in the queue of a uid, one after another until there is an answer: so many commands at most, and then as if memory had run out. The replay does
 -- not wait, so the seconds are not looked at
-abbrev pub played : ℕ → World → ℕ → ℕ → Step → Served (Result ReplyShape Fault)
+abbrev pub played : ℕ → World → ℕ → ℕ → Step → AnswerAndWorld (Result ReplyShape Fault)
 played n w uid at (steps.Answer answer) = unchanged w answer
 played zero w uid at (steps.Ask command seconds purpose) = unchanged w (Err OutOfMemory)
 played (suc n) w uid at (steps.Ask command seconds purpose) =
@@ -123,10 +123,10 @@ most_commands (steps.Ask command seconds purpose) = suc (most_behind purpose)
 most_commands (steps.Answer answer) = 0
 
 -- from a step on, all that it may ask
-abbrev pub steps_served : World → ℕ → ℕ → Step → Served (Result ReplyShape Fault)
+abbrev pub steps_served : World → ℕ → ℕ → Step → AnswerAndWorld (Result ReplyShape Fault)
 steps_served w uid at step = played (most_commands step) w uid at step
 
-abbrev pub task_served : World → ℕ → Task → Served (Result ReplyShape Fault)
+abbrev pub task_served : World → ℕ → Task → AnswerAndWorld (Result ReplyShape Fault)
 task_served w at (tasks.Create name wish) = told (result_map (λ uid. QueueUrl name))
     (called (create_answer w name wish) (world_after_create w at name wish))
 task_served w at (tasks.Delete queue) = in_queue w queue (λ uid. told (result_map (λ deleted. Nothing)) (delete_served w uid at))
@@ -137,7 +137,7 @@ task_served w at (tasks.Urls prefix) = unchanged w (Ok (QueueUrls (names_in_worl
 task_served w at (tasks.Sources queue) = in_queue w queue (λ uid. unchanged w (result_map SourceQueueUrls (sources_answer w uid)))
 task_served w at (tasks.Ask queue step) = in_queue w queue (λ uid. steps_served w uid at step)
 
-abbrev pub served : World → ℕ → Request → Served (Result ReplyShape Fault)
+abbrev pub served : World → ℕ → Request → AnswerAndWorld (Result ReplyShape Fault)
 served w at request = task_served w at (task_of request)
 
 -- ---- statistics
@@ -147,25 +147,25 @@ abbrev pub sheet_in : World → ℕ → Result board.Statistics Fault
 sheet_in w uid = option_map_or (λ q. Ok (sheet_of q)) (queue_of_uid w uid) (Err QueueDoesNotExist)
 
 -- the same after a look at the queue, which moves its clock to that moment
-abbrev pub sheet_served : World → ℕ → ℕ → Served (Result board.Statistics Fault)
+abbrev pub sheet_served : World → ℕ → ℕ → AnswerAndWorld (Result board.Statistics Fault)
 sheet_served w uid at = told (λ reply. sheet_in (command_served w uid at commands.Look).world uid) (command_served w uid at commands.Look)
 
 -- the same of the queue of a name
-abbrev pub named_sheet_served : World → ℕ → List ℕ → Served (Result board.Statistics Fault)
+abbrev pub named_sheet_served : World → ℕ → List ℕ → AnswerAndWorld (Result board.Statistics Fault)
 named_sheet_served w at name = in_queue w name (λ uid. sheet_served w uid at)
 
 -- what is shown of it
-abbrev pub sheet_shown : (board.Statistics → Shown) → World → ℕ → List ℕ → Served (Result Shown Fault)
+abbrev pub sheet_shown : (board.Statistics → LineAnswer) → World → ℕ → List ℕ → AnswerAndWorld (Result LineAnswer Fault)
 sheet_shown show w at name = told (result_map show) (named_sheet_served w at name)
 
 -- every queue's clock moves to a moment, and then this is the answer
-abbrev pub all_served : {T : Type 0} → World → ℕ → (World → T) → Served T
+abbrev pub all_served : {T : Type 0} → World → ℕ → (World → T) → AnswerAndWorld T
 all_served w at answer = record { answer = answer (world_at_moment w at); world = world_at_moment w at }
 
 -- ---- lines
 
 -- a client's request, or one of the replay's own actions
-abbrev pub asked_served : World → ℕ → Asked → Served (Result Shown Fault)
+abbrev pub asked_served : World → ℕ → Asked → AnswerAndWorld (Result LineAnswer Fault)
 asked_served w at (Client request) = told (result_map shown.Reply) (served w at request)
 asked_served w at Tick = all_served w at (λ after. Ok (shown.Reply Nothing))
 asked_served w at (Statistics None) = all_served w at (λ after. Ok (shown.Queues (sheets_of after)))
@@ -201,20 +201,20 @@ abbrev pub moves_after : World → ℕ → Option (List ℕ) → World
 moves_after w at name = option_map_or (λ uid. all_moves w uid at) (option_and_then (λ name. found_uid w name) name) w
 
 -- the answer, and what the moves leave that come after it
-abbrev pub then_moves : {T : Type 0} → ℕ → Option (List ℕ) → Served T → Served T
+abbrev pub then_moves : {T : Type 0} → ℕ → Option (List ℕ) → AnswerAndWorld T → AnswerAndWorld T
 then_moves at name s = record { answer = s.answer; world = moves_after s.world at name }
 
 -- what is asked is answered, and then the dead letters of the queue that it names move on, whatever the answer was
-abbrev pub timed_served : World → Timed → Served (Result Shown Fault)
+abbrev pub timed_served : World → Timed → AnswerAndWorld (Result LineAnswer Fault)
 timed_served w timed = then_moves timed.at (queue_of_asked timed.asked) (asked_served w timed.at timed.asked)
 
 -- a line that cannot be read changes nothing
-abbrev pub line_served : World → Result Timed Fault → Served (Result Shown Fault)
+abbrev pub line_served : World → Result Timed Fault → AnswerAndWorld (Result LineAnswer Fault)
 line_served w (Ok timed) = timed_served w timed
 line_served w (Err fault) = unchanged w (Err fault)
 
 -- the JSON text of what is shown; no request comes to a port, so URLs have that of the server where it is told no other
-abbrev pub shown_text : Shown → List ℕ
+abbrev pub shown_text : LineAnswer → List ℕ
 shown_text (shown.Reply shape) = compact_text (reply_data 9324 shape)
 shown_text (shown.Queue sheet) = sheet_text sheet
 shown_text (shown.Queues sheets) = sheets_text sheets
@@ -222,7 +222,7 @@ shown_text (shown.Rows sheet) = rows_text sheet.rows
 shown_text (shown.Alarms sheet) = alarms_text sheet.alarms
 
 -- the status, a space, the JSON text and a line feed
-abbrev pub answer_text : Result Shown Fault → List ℕ
+abbrev pub answer_text : Result LineAnswer Fault → List ℕ
 answer_text (Ok shown) = decimal 200 ++ codes " " ++ shown_text shown ++ codes "\n"
 answer_text (Err fault) = decimal (fault_status fault) ++ codes " " ++ fault_body fault ++ codes "\n"
 

@@ -14,7 +14,7 @@ use crate::ReplayFault;
 use crate::input_line::{InputLine, read_line};
 use crate::lines::{LINE_LIMIT, Lines};
 use crate::moves::move_dead_letters;
-use crate::shown::{Shown, shown_text};
+use crate::shown::{LineAnswer, shown_text};
 use crate::statistics::{show_alarms, show_rows, show_statistics};
 use crate::steps::{play, serve_command};
 use aws_json::{
@@ -265,16 +265,16 @@ fn serve_asked(
     house: &mut House,
     timed: Timed,
     ticks: &mut Ticks,
-) -> Result<Shown, Fault>
+) -> Result<LineAnswer, Fault>
     ensures answer { Meets result (asked_served house.old timed.at timed.asked).answer }
     ensures state { Leaves result house.new (asked_served house.old timed.at timed.asked).world }
 {
     let Timed { at, asked } = timed;
     match asked {
-        Asked::Client(request) => Ok(Shown::Reply(serve(alloc, house, at, request, ticks)?)),
+        Asked::Client(request) => Ok(LineAnswer::Reply(serve(alloc, house, at, request, ticks)?)),
         Asked::Tick => {
             house.advance_all(at, ticks);
-            Ok(Shown::Reply(ReplyShape::Nothing))
+            Ok(LineAnswer::Reply(ReplyShape::Nothing))
         }
         Asked::Statistics(queue) => show_statistics(alloc, house, at, queue, ticks),
         Asked::Rows(queue) => show_rows(alloc, house, at, &queue, ticks),
@@ -321,7 +321,7 @@ fn serve_timed(
     house: &mut House,
     timed: Timed,
     ticks: &mut Ticks,
-) -> Result<Shown, Fault>
+) -> Result<LineAnswer, Fault>
     ensures answer { Meets result (timed_served house.old timed).answer }
     ensures state { Leaves result house.new (timed_served house.old timed).world }
 {
@@ -341,7 +341,7 @@ fn serve_line(
     house: &mut House,
     line: &[u8],
     ticks: &mut Ticks,
-) -> Result<Shown, Fault>
+) -> Result<LineAnswer, Fault>
     ensures answer { Meets result (line_served house.old (asked_of line.now)).answer }
     ensures state { Leaves result house.new (line_served house.old (asked_of line.now)).world }
 {
@@ -350,7 +350,7 @@ fn serve_line(
 }
 
 /// The text of an answer: its status, a space, the JSON text and a line feed.
-fn text_of_answer(alloc: Global, answer: &Result<Shown, Fault>) -> Result<Vec<u8>, ReplayFault>
+fn text_of_answer(alloc: Global, answer: &Result<LineAnswer, Fault>) -> Result<Vec<u8>, ReplayFault>
     ensures text { IfOk result (λ bytes. bytes.items ≡ answer_text answer.now) }
     ensures answered { OnOk result (is_out_of_memory answer.now ≡ false) }
     ensures fault { IfErr result (λ fault. fault ≡ ReplayFault.OutOfMemory) }
@@ -368,7 +368,7 @@ fn text_of_answer(alloc: Global, answer: &Result<Shown, Fault>) -> Result<Vec<u8
 }
 
 /// Whether an answer is that memory ran out, which is never told as an answer.
-fn has_no_memory(answer: &Result<Shown, Fault>) -> bool
+fn has_no_memory(answer: &Result<LineAnswer, Fault>) -> bool
     ensures { result ≡ is_out_of_memory answer.now }
 {
     match answer {

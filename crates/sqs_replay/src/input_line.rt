@@ -3,7 +3,7 @@
 
 ghost use Rattle.std.specs.Prelude.{◌≡◌, ℕ, List, Ok, position};
 ghost use Rattle.aws_json.specs.Steps.{result_map};
-ghost use Rattle.sqs_replay.specs.InputLine.{is_space, cut, moment_of, is_action, action_of, LineParts, parts_of, input_line_of, IsInputLine};
+ghost use Rattle.sqs_replay.specs.InputLine.{is_space, cut, moment_read, is_action, action_of, LineParts, parts_of, input_line_of, IsInputLine};
 ghost use Rattle.message.specs.Name.{is_letter};
 ghost use Rattle.std.specs.List.{list_all};
 
@@ -45,7 +45,7 @@ fn cut(text: &[u8]) -> Result<(&[u8], &[u8]), Fault>
 
 /// The moment that 1 to 19 decimal digits are, below 2^62.
 fn read_moment(text: &[u8]) -> Result<Moment, Fault>
-    ensures { result ≡ moment_of text.now }
+    ensures { result ≡ moment_read text.now }
 {
     let Ok(text) = str::from_utf8(text) else {
         return Err(Fault::SerializationException);

@@ -14,7 +14,7 @@ ghost use Rattle.sqs_replay.specs.Cutting.{lines_of};
 ghost use Rattle.sqs_replay.specs.Moves.{WasRefused};
 ghost use Rattle.sqs_replay.specs.Replay.{replay_output};
 ghost use Rattle.sqs_replay.specs.Served.{asked_of, asked_served, most_commands, played, queue_of_asked, steps_served, world_of_line};
-ghost use Rattle.sqs_replay.specs.Steps.{AskNoDeletion, Course, DeleteNone, IsOutputOf, KeepsDeadLetters, kept_after, asks_deletion, everything_after};
+ghost use Rattle.sqs_replay.specs.Steps.{AskNoDeletion, LineCourse, DeleteNone, IsOutputOf, KeepsDeadLetters, kept_after, asks_deletion, everything_after};
 
 use redrive::{
     each_departure_has_its_fate, each_message_has_one_place, own_steps_are_history_steps,
@@ -25,9 +25,9 @@ use redrive::{
 /// [`House::run`](redrive::House::run) takes them. Each look and each receive among them is answered with what the journal
 /// of its queue gives. A line that asks to delete no queue has no deletion among them.
 pub fn lines_are_steps()
-    ensures steps { (w : World) (line : List ℕ) → IsRegistry w → Course w (world_of_line w line) }
+    ensures steps { (w : World) (line : List ℕ) → IsRegistry w → LineCourse w (world_of_line w line) }
     ensures deletions { (w : World) (line : List ℕ) → IsRegistry w → asks_deletion (asked_of line) ≡ false
-        → (course : Course w (world_of_line w line)) × DeleteNone course.steps }
+        → (course : LineCourse w (world_of_line w line)) × DeleteNone course.steps }
 {}
 
 /// The output of a replay is that of a list of steps of the registry which the configuration makes: each line is answered
@@ -41,7 +41,7 @@ pub fn outputs_are_of_steps()
 /// at most, unless a queue was deleted while it relayed a message. All three hold of whole journals, the first and the last
 /// also of those that are there, which may begin with a checkpoint.
 pub fn lines_keep_dead_letters()
-    ensures { (config : Configuration) (new : World) (course : Course (new_world config 0) new) → KeepsDeadLetters config new course }
+    ensures { (config : Configuration) (new : World) (course : LineCourse (new_world config 0) new) → KeepsDeadLetters config new course }
 {
     own_steps_are_history_steps();
     transfers_are_accepted_once();
@@ -69,10 +69,10 @@ pub fn steps_come_to_their_end()
 /// After steps none of which deletes a queue [courses], and after lines none of which asks for it [lines], each message is in
 /// one place at most, by whole journals and by those that are there.
 pub fn lines_without_deletions_keep_one_place()
-    ensures courses { (config : Configuration) (new : World) (course : Course (new_world config 0) new) → DeleteNone course.steps
+    ensures courses { (config : Configuration) (new : World) (course : LineCourse (new_world config 0) new) → DeleteNone course.steps
         → EachHasOnePlace (everything_after config new course) × EachHasOnePlace (kept_after config new course) }
     ensures lines { (config : Configuration) (lines : List (List ℕ)) → AreConfigured config.queues → AskNoDeletion lines
-        → (course : Course (new_world config 0) (state_after world_of_line (new_world config 0) lines))
+        → (course : LineCourse (new_world config 0) (state_after world_of_line (new_world config 0) lines))
         × DeleteNone course.steps
         × EachHasOnePlace (everything_after config (state_after world_of_line (new_world config 0) lines) course)
         × EachHasOnePlace (kept_after config (state_after world_of_line (new_world config 0) lines) course) }

@@ -46,7 +46,7 @@ pub use program::Refusal;
 use program::{Ending, Wanted, arguments_among, configuration_in, default_configuration, finish};
 use queue_config::Config;
 pub use run::run_lines;
-pub use shown::Shown;
+pub use shown::LineAnswer;
 use startup::VERSION;
 use std::process::ExitCode;
 use std::{env, fs, io};

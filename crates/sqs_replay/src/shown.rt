@@ -16,7 +16,7 @@ const PORT: u16 = 9324;
 
 /// What a line is answered.
 #[derive(Debug, Drop)]
-pub enum Shown {
+pub enum LineAnswer {
     /// What a client is answered.
     Reply(ReplyShape),
     /// The statistics of a queue.
@@ -30,14 +30,14 @@ pub enum Shown {
 }
 
 /// The JSON text of an answer. `OutOfMemory` is the only refusal.
-pub(crate) fn shown_text(alloc: Global, shown: &Shown) -> Result<String, Fault>
+pub(crate) fn shown_text(alloc: Global, shown: &LineAnswer) -> Result<String, Fault>
     ensures { Meets (result_map (λ s. string_bytes s) result) (Ok (shown_text shown.now)) }
 {
     match shown {
-        Shown::Reply(shape) => reply_text(alloc, PORT, shape),
-        Shown::Queue(sheet) => sheet_text(alloc, sheet),
-        Shown::Queues(sheets) => sheets_text(alloc, sheets.as_slice()),
-        Shown::Rows(sheet) => rows_text(alloc, sheet.rows.as_slice()),
-        Shown::Alarms(sheet) => alarms_text(alloc, sheet.alarms.as_slice()),
+        LineAnswer::Reply(shape) => reply_text(alloc, PORT, shape),
+        LineAnswer::Queue(sheet) => sheet_text(alloc, sheet),
+        LineAnswer::Queues(sheets) => sheets_text(alloc, sheets.as_slice()),
+        LineAnswer::Rows(sheet) => rows_text(alloc, sheet.rows.as_slice()),
+        LineAnswer::Alarms(sheet) => alarms_text(alloc, sheet.alarms.as_slice()),
     }
 }

@@ -11,7 +11,7 @@ ghost use Rattle.sqs_replay.specs.Sheets.{sheets_of};
 ghost use Rattle.sqs_replay.specs.Served.{Leaves, sheet_in, sheet_served, named_sheet_served, asked_served};
 ghost use Rattle.sqs_replay.specs.declared.answer.Asked.TheVariants.{Statistics, Rows, Alarms};
 
-use crate::shown::Shown;
+use crate::shown::LineAnswer;
 use crate::steps::serve_command;
 use aws_json::Listed;
 use board::Sheet;
@@ -110,13 +110,13 @@ pub(crate) fn show_statistics(
     at: Moment,
     queue: Option<QueueName>,
     ticks: &mut Ticks,
-) -> Result<Shown, Fault>
+) -> Result<LineAnswer, Fault>
     ensures answer { Meets result (asked_served house.old at (Statistics queue)).answer }
     ensures state { Leaves result house.new (asked_served house.old at (Statistics queue)).world }
 {
     match queue {
-        Some(name) => Ok(Shown::Queue(named_sheet(alloc, house, at, &name, ticks)?)),
-        None => Ok(Shown::Queues(all_sheets(alloc, house, at, ticks)?)),
+        Some(name) => Ok(LineAnswer::Queue(named_sheet(alloc, house, at, &name, ticks)?)),
+        None => Ok(LineAnswer::Queues(all_sheets(alloc, house, at, ticks)?)),
     }
 }
 
@@ -127,11 +127,11 @@ pub(crate) fn show_rows(
     at: Moment,
     queue: &QueueName,
     ticks: &mut Ticks,
-) -> Result<Shown, Fault>
+) -> Result<LineAnswer, Fault>
     ensures answer { Meets result (asked_served house.old at (Rows queue.now)).answer }
     ensures state { Leaves result house.new (asked_served house.old at (Rows queue.now)).world }
 {
-    Ok(Shown::Rows(named_sheet(alloc, house, at, queue, ticks)?))
+    Ok(LineAnswer::Rows(named_sheet(alloc, house, at, queue, ticks)?))
 }
 
 /// Answers the alarms of a queue.
@@ -141,9 +141,9 @@ pub(crate) fn show_alarms(
     at: Moment,
     queue: &QueueName,
     ticks: &mut Ticks,
-) -> Result<Shown, Fault>
+) -> Result<LineAnswer, Fault>
     ensures answer { Meets result (asked_served house.old at (Alarms queue.now)).answer }
     ensures state { Leaves result house.new (asked_served house.old at (Alarms queue.now)).world }
 {
-    Ok(Shown::Alarms(named_sheet(alloc, house, at, queue, ticks)?))
+    Ok(LineAnswer::Alarms(named_sheet(alloc, house, at, queue, ticks)?))
 }

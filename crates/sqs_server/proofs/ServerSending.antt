@@ -15,7 +15,7 @@ use Rattle.futures.proofs.future.made.ready.Ready.TheSendSync as readies
 use Rattle.board.proofs.Sending.{publisher_send}
 use Rattle.board.specs.contracts.publisher.Publisher as publisher
 use Rattle.board.specs.contracts.publisher.PublisherPress.TheImpl as impl
-use Rattle.board.specs.contracts.told.Told as told
+use Rattle.board.specs.contracts.told.KnownTurns as told
 use Rattle.desk.proofs.Sending.{pass_sends, desk_sends, desk_syncs}
 use Rattle.desk.specs.contracts.desk.Desk as desk
 use Rattle.desk.specs.contracts.pass.Pass as pass
@@ -50,7 +50,7 @@ use Rattle.tokio.proofs.net.stream.TcpStream.TheSendSync as tcp
 use Rattle.tokio.proofs.sync.semaphore.Semaphore.TheSendSync as semaphore
 use Rattle.tokio.specs.contracts.net.stream.TcpStream as stream
 use Rattle.sqs_server.proofs.arriving.Arriving.TheSendSync as arriving
-use Rattle.sqs_server.proofs.arriving.Asked.TheSendSync as asked
+use Rattle.sqs_server.proofs.arriving.KeptRequest.TheSendSync as asked
 use Rattle.sqs_server.proofs.attendance.Attendance.TheSendSync as attendance
 use Rattle.sqs_server.proofs.bodies.Bodies.TheSendSync as bodies
 use Rattle.sqs_server.proofs.door.Guest.TheSendSync as guest
@@ -63,7 +63,7 @@ use Rattle.sqs_server.proofs.serving.Port.TheSendSync as port
 use Rattle.sqs_server.proofs.stage.Creation.TheSendSync as creation
 use Rattle.sqs_server.proofs.stage.Purpose.TheSendSync as purpose
 use Rattle.sqs_server.specs.contracts.answering.Answering as answering
-use Rattle.sqs_server.specs.contracts.arriving.Asked as asked_type
+use Rattle.sqs_server.specs.contracts.arriving.KeptRequest as asked_type
 use Rattle.sqs_server.specs.contracts.door.Caller as caller
 use Rattle.sqs_server.specs.contracts.door.Exhibition as exhibition
 use Rattle.sqs_server.specs.contracts.door.Guest as guest_type

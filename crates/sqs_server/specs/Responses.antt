@@ -24,7 +24,7 @@ use Rattle.sqs_server.specs.declared.stage.Halt.TheVariants as halts
 use Rattle.sqs_server.specs.declared.stage.Next.TheVariants.{On, Ends}
 use Rattle.sqs_server.specs.declared.stage.Stage.{Stage}
 use Rattle.sqs_server.specs.declared.stage.Stage.TheVariants as stages
-use Rattle.sqs_server.specs.declared.stage.Turn.TheVariants.{Goes, Waits}
+use Rattle.sqs_server.specs.declared.stage.Polled.TheVariants.{Goes, Waits}
 use Rattle.sqs_server.specs.Head.{body_limit, counted, denial_of}
 use Rattle.sqs_server.specs.Sent.{HoldsBody, crowded, denied, refused, reply_headers}
 use Rattle.sqs_server.specs.Stages.{Turns}
@@ -62,8 +62,8 @@ module _ {R : Type 0} where
   Judged head body announced None stage = ((counted announced ≢ 0) × (stage ≡ stages.Sending crowded)) ⊎ Comes head body (counted announced) stage
 
   -- the same, by the method, by the announced size, where there is one, and by the least size that its body can have
-  abbrev pub IsFirst : Request (Incoming TcpStream) → Stage R → Type 0
-  IsFirst asked stage =
+  abbrev pub IsFirstStage : Request (Incoming TcpStream) → Stage R → Type 0
+  IsFirstStage asked stage =
       (hint : SizeHint) × (exact hint ≡ size_left (request.body_of asked).kind)
       × Judged (request.head_of asked) (request.body_of asked) (exact hint) (denial_of (has_origin (request.head_of asked)) (request.head_of asked).method (lower hint)) stage
 

@@ -36,7 +36,7 @@ use Rattle.queue_core.specs.declared.command.Command.{Command}
 use Rattle.queue_core.specs.declared.command.Command.TheVariants as commands
 use Rattle.queue_core.specs.declared.reply.Reply.{Reply}
 use Rattle.queue_core.specs.declared.reply.Reply.TheVariants as replies
-use Rattle.redrive.specs.Catalog.{Directory, IsDirectory, names_listed}
+use Rattle.redrive.specs.Catalog.{NameDirectory, IsDirectory, names_listed}
 use Rattle.std.specs.Str.{bytes_eq}
 use Rattle.tokio.specs.declared.net.stream.TcpStream.{TcpStream}
 use Rattle.sqs_server.specs.declared.arriving.Arriving.{Arriving}
@@ -59,8 +59,8 @@ use Rattle.sqs_server.specs.declared.stage.Purpose.{Purpose}
 use Rattle.sqs_server.specs.declared.stage.Purpose.TheVariants as purposes
 use Rattle.sqs_server.specs.declared.stage.Stage.{Stage}
 use Rattle.sqs_server.specs.declared.stage.Stage.TheVariants as stages
-use Rattle.sqs_server.specs.declared.stage.Turn.{Turn}
-use Rattle.sqs_server.specs.declared.stage.Turn.TheVariants.{Goes, Waits}
+use Rattle.sqs_server.specs.declared.stage.Polled.{Polled}
+use Rattle.sqs_server.specs.declared.stage.Polled.TheVariants.{Goes, Waits}
 use Rattle.request_plan.specs.declared.task.Task.{Task}
 use Rattle.request_plan.specs.declared.task.Task.TheVariants as tasks
 use Rattle.sqs_server.specs.Head.{action_of, asked_of}
@@ -180,7 +180,7 @@ module _ {R : Type 0} where
   -- ---- turns
 
   -- a stage goes on, and this holds of it; or it waits, and this holds of the stage that is left
-  abbrev pub Leads : (Next R → Type 0) → (Stage R → Type 0) → Turn R → Type 0
+  abbrev pub Leads : (Next R → Type 0) → (Stage R → Type 0) → Polled R → Type 0
   Leads goes waits (Goes next) = goes next
   Leads goes waits (Waits stage) = waits stage
 
@@ -283,7 +283,7 @@ module _ {R : Type 0} (port : ℕ) where
   -- the names of a directory that begin with a prefix are told
   abbrev pub TellsUrls : List ℕ → Next R → Type 0
   TellsUrls prefix next =
-      ((listed : Directory) × IsDirectory listed × Tells (Ok (shapes.QueueUrls (names_listed listed prefix))) next)
+      ((listed : NameDirectory) × IsDirectory listed × Tells (Ok (shapes.QueueUrls (names_listed listed prefix))) next)
       ⊎ (next ≡ refuses OutOfMemory)
 
   -- names are told of queues that have a queue for their dead letters
@@ -340,24 +340,24 @@ module _ {R : Type 0} (port : ℕ) where
   IsCollected head (Err error) next = (sent : Result Sent Error) × SentOfError error sent × (next ≡ Ends sent)
 
   -- a body comes, or still comes, behind the same head and with the same part, and may give then only what it may give now
-  abbrev pub Collects : Arriving → Turn R → Type 0
+  abbrev pub Collects : Arriving → Polled R → Type 0
   Collects arriving =
       Leads (λ next. (given : Result Collected (LimitedError Error)) × MayCollect arriving.body given × IsCollected arriving.head given next)
       (λ stage. (left : Arriving) × (stage ≡ stages.Collecting left) × (left.head ≡ arriving.head) × (left.part ≡ arriving.part)
       × ((given : Result Collected (LimitedError Error)) → MayCollect left.body given → MayCollect arriving.body given))
 
   -- a queue is to be there
-  abbrev pub Names : Creation → Turn R → Type 0
+  abbrev pub Names : Creation → Polled R → Type 0
   Names creation = Leads (λ next. Creates creation (Ok next)) (λ stage. stage ≡ stages.Creating creation)
 
   -- a queue was ordered; or the thread that makes queues is gone
-  abbrev pub AwaitsQueue : Creation → Turn R → Type 0
+  abbrev pub AwaitsQueue : Creation → Polled R → Type 0
   AwaitsQueue creation =
       Leads (λ next. ((outcome : Result ⊤ Fault) × Makes creation outcome next) ⊎ (next ≡ refuses ActorGone))
       (λ stage. (made : Receiver Made) × (stage ≡ stages.Making creation made))
 
   -- a queue was asked
-  abbrev pub AwaitsAnswer : Exchange R → Turn R → Type 0
+  abbrev pub AwaitsAnswer : Exchange R → Polled R → Type 0
   AwaitsAnswer exchange =
       Leads (λ next. (given : Result Answered (AskFault Publications Publications)) × MayGive exchange.future given × Returned exchange given next)
       (λ stage. (left : Exchange R) × (stage ≡ stages.Asking left) × (left.uid ≡ exchange.uid) × (left.at ≡ exchange.at)
@@ -365,7 +365,7 @@ module _ {R : Type 0} (port : ℕ) where
       × ((given : Result Answered (AskFault Publications Publications)) → MayGive left.future given → MayGive exchange.future given))
 
   -- what becomes of a stage that is looked at
-  abbrev pub Turns : Stage R → Turn R → Type 0
+  abbrev pub Turns : Stage R → Polled R → Type 0
   Turns (stages.Collecting arriving) turn = Collects arriving turn
   Turns (stages.Creating creation) turn = Names creation turn
   Turns (stages.Making creation made) turn = AwaitsQueue creation turn

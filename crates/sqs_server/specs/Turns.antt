@@ -1,9 +1,9 @@
 -- What becomes of a stage of a request that is looked at.
 use Rattle.std.specs.Prelude.{⊤}
-use Rattle.sqs_server.specs.declared.stage.Turn.{Turn}
-use Rattle.sqs_server.specs.declared.stage.Turn.TheVariants.{Goes, Waits}
+use Rattle.sqs_server.specs.declared.stage.Polled.{Polled}
+use Rattle.sqs_server.specs.declared.stage.Polled.TheVariants.{Goes, Waits}
 
 -- a fact of where a request waits
-abbrev pub OnWaits : {R : Type 0} → Turn R → Type 0 → Type 0
+abbrev pub OnWaits : {R : Type 0} → Polled R → Type 0 → Type 0
 OnWaits (Waits stage) P = P
 OnWaits (Goes next) P = ⊤

@@ -19,18 +19,18 @@ use Rattle.hyper.specs.declared.body.incoming.Incoming.{Incoming}
 use Rattle.statistics_api.specs.Answer.{out_of_memory}
 use Rattle.statistics_api.specs.Asked.{TellsOfQueues}
 use Rattle.statistics_api.specs.Metrics.{served_text}
-use Rattle.statistics_api.specs.Response.{Told, as_json, response_of}
-use Rattle.statistics_api.specs.declared.served.Served.{Served}
+use Rattle.statistics_api.specs.Response.{TypedText, as_json, response_of}
+use Rattle.statistics_api.specs.declared.served.ServerFacts.{ServerFacts}
 use Rattle.tokio.specs.declared.net.stream.TcpStream.{TcpStream}
 use Rattle.sqs_server.specs.Head.{body_limit, is_foreign}
 use Rattle.sqs_server.specs.Sent.{HoldsBody}
 
 -- lack of memory
-abbrev pub no_memory : Told
+abbrev pub no_memory : TypedText
 no_memory = as_json out_of_memory
 
 -- where the body of a request is too long
-abbrev pub body_too_large : Told
+abbrev pub body_too_large : TypedText
 body_too_large = as_json (413, codes "{\"message\":\"body too large\"}")
 
 -- the headers of a response of a content type
@@ -38,27 +38,27 @@ abbrev pub typed_headers : List ℕ → Entries FieldValue
 typed_headers kind = insert [] (codes "content-type") (plain_value kind)
 
 -- a response sends this: its status, its bytes, and the content type, unless there was no memory for that
-pub record Sends (told : Told) (response : Response (Full (List ℕ))) : Type 0 where
+pub record Sends (told : TypedText) (response : Response (Full (List ℕ))) : Type 0 where
   pub status : IsStatusCode told.0 → (head_of response).status ≡ told.0
   pub body : HoldsBody (body_of response) told.2
   pub headers : ((head_of response).headers ≡ typed_headers told.1) ⊎ ((head_of response).headers ≡ [])
 
 -- A method and a path are answered by the statistics of some queues and by what a server tells of itself. There may be no memory for an answer that tells of queues, and for no other.
-abbrev pub IsTold : List ℕ → List ℕ → Told → Type 0
+abbrev pub IsTold : List ℕ → List ℕ → TypedText → Type 0
 IsTold method path told =
-    ((sheets : List Statistics) × (served : Served) × (told ≡ response_of method path sheets (served_text served))) ⊎ ((told ≡ no_memory) × TellsOfQueues method path)
+    ((sheets : List Statistics) × (served : ServerFacts) × (told ≡ response_of method path sheets (served_text served))) ⊎ ((told ≡ no_memory) × TellsOfQueues method path)
 
 -- the same, where a body of this least size is not too large for the one method whose bodies are looked at
-abbrev pub IsJudgedBySize : List ℕ → List ℕ → ℕ → Told → Type 0
+abbrev pub IsJudgedBySize : List ℕ → List ℕ → ℕ → TypedText → Type 0
 IsJudgedBySize method path size told =
     MatchBool (bytes_eq method (codes "GET") && nat_lt body_limit size) (told ≡ body_too_large) (IsTold method path told)
 
 -- where a client names another host than this machine
-abbrev pub foreign_host : Told
+abbrev pub foreign_host : TypedText
 foreign_host = as_json (403, codes "{\"message\":\"this host is not served\"}")
 
 -- the same, behind the host that the client names
-abbrev pub IsJudged : Option (List ℕ) → List ℕ → List ℕ → ℕ → Told → Type 0
+abbrev pub IsJudged : Option (List ℕ) → List ℕ → List ℕ → ℕ → TypedText → Type 0
 IsJudged host method path size told = MatchBool (is_foreign host) (told ≡ foreign_host) (IsJudgedBySize method path size told)
 
 -- the host that a head names
@@ -68,6 +68,6 @@ host_in head = option_map (λ value. value.bytes) (get head.headers (codes "host
 -- a request is judged by the host that it names, by its method, by the least size that its body can have, which is the announced one where there is one, and by its path
 abbrev pub IsAnswered : Request (Incoming TcpStream) → Response (Full (List ℕ)) → Type 0
 IsAnswered asked response =
-    (hint : SizeHint) × (exact hint ≡ size_left (request.body_of asked).kind) × (told : Told)
+    (hint : SizeHint) × (exact hint ≡ size_left (request.body_of asked).kind) × (told : TypedText)
     × IsJudged (host_in (request.head_of asked)) (request.head_of asked).method (uri_path (request.head_of asked).uri) (lower hint) told
     × Sends told response

@@ -3,9 +3,9 @@
 ghost use Rattle.std.specs.Prelude.{◌≡◌, ℕ, Ok, None, IfSome, option_map};
 ghost use Rattle.sqs_server.specs.Head as head_spec;
 ghost use Rattle.sqs_server.specs.Responses as response;
-ghost use Rattle.sqs_server.specs.Responses.{Comes, IsFirst, IsGiven, Judged, Responds};
+ghost use Rattle.sqs_server.specs.Responses.{Comes, IsFirstStage, IsGiven, Judged, Responds};
 
-use crate::arriving::{Arriving, Asked};
+use crate::arriving::{Arriving, KeptRequest};
 use crate::bodies::{Bodies, Part};
 use crate::front::Front;
 use crate::head::{BODY_LIMIT, denial_of};
@@ -34,7 +34,7 @@ pub struct Answering<R: Wait + Drop> {
     front: Option<Front<R>>,
     stage: Stage<R>,
     /// The request, once its body has come.
-    asked: Option<Asked>,
+    asked: Option<KeptRequest>,
 }
 
 /// What is sent where there was no memory to begin. What is known by the head needs none.
@@ -105,7 +105,7 @@ fn first_stage<R: Wait + Drop>(
     bodies: &Arc<Bodies>,
     request: Request<Incoming>,
 ) -> Stage<R>
-    ensures { IsFirst request result }
+    ensures { IsFirstStage request result }
 {
     let (head, body) = request.into_parts();
     let hint = body.size_hint();
@@ -142,7 +142,7 @@ impl<R: Wait + Clock + Copy + Drop> Service<Request<Incoming>> for Front<R> {
 
     type Future = Answering<R>;
 
-    ghost calls = { λ front request answering. IsFirst request answering.stage × IfSome answering.front (λ own. own.port ≡ front.port) };
+    ghost calls = { λ front request answering. IsFirstStage request answering.stage × IfSome answering.front (λ own. own.port ≡ front.port) };
 
     fn call(&self, request: Request<Incoming>) -> Answering<R> {
         Answering {

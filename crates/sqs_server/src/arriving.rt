@@ -21,7 +21,7 @@ pub struct Arriving {
 
 /// A request whose body has come: what is told of it once it is answered.
 #[derive(Drop)]
-pub struct Asked {
+pub struct KeptRequest {
     pub head: Parts,
     pub body: Bytes,
     pub part: Part,

@@ -29,20 +29,20 @@ fn status_place(status: u16) -> usize
 
 /// A number for each action and status.
 #[derive(Drop)]
-pub struct Counts {
+pub struct RequestCounts {
     numbers: Vec<AtomicU64>,
 }
 
-impl Counts {
+impl RequestCounts {
     /// All of them 0. `OutOfMemory` is the only refusal.
-    pub fn new(alloc: Global) -> Result<Counts, Fault>
+    pub fn new(alloc: Global) -> Result<RequestCounts, Fault>
         ensures { IfErr result (λ fault. fault ≡ OutOfMemory) }
     {
         let mut numbers = Vec::new(alloc);
         for _ in 0..PLACES * STATUSES.len() {
             numbers.push(AtomicU64::new(0))?;
         }
-        Ok(Counts { numbers })
+        Ok(RequestCounts { numbers })
     }
 
     /// Counts a request.

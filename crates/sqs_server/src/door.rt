@@ -10,7 +10,7 @@ use crate::attendance::{Attendance, Presence};
 use crate::front::Front;
 use crate::notices::Notices;
 use crate::statistics::StatisticsFront;
-use crate::watch::Watch;
+use crate::watch::IdleWatch;
 use bytes::Bytes;
 use futures::Future;
 use futures::executor::TaskSet;
@@ -40,7 +40,7 @@ pub struct Guest<C, R> {
     /// In a place of its own: it is large, and who spawns and polls a guest moves it.
     connection: Box<C>,
     notices: Notices,
-    watch: Watch,
+    watch: IdleWatch,
     /// For as long as the guest is there.
     _presence: Presence,
 }
@@ -131,7 +131,7 @@ impl<R: Wait + Clock + Copy + Send + Drop + 'static> Welcome for Reception<R> {
             alloc: self.alloc,
             connection,
             notices,
-            watch: Watch::new(&self.rt, &self.timers),
+            watch: IdleWatch::new(&self.rt, &self.timers),
             _presence: presence,
         };
         Ok(Caller { guest })
@@ -166,7 +166,7 @@ impl<R: Wait + Clock + Copy + Send + Drop + 'static> Welcome for Exhibition<R> {
             alloc: self.alloc,
             connection,
             notices,
-            watch: Watch::new(&self.rt, &self.timers),
+            watch: IdleWatch::new(&self.rt, &self.timers),
             _presence: presence,
         })
     }

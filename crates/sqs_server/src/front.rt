@@ -5,7 +5,7 @@ ghost use Rattle.futures.specs.Task.{IsArmed, Keeps};
 ghost use Rattle.aws_json.specs.declared.reply.ReplyShape.TheVariants as shapes;
 ghost use Rattle.message.specs.declared.fault.Fault.TheVariants.{OutOfMemory, QueueDoesNotExist};
 ghost use Rattle.queue_config.specs.Settings.{requested_target};
-ghost use Rattle.redrive.specs.Catalog.{Directory, IsDirectory, names_listed};
+ghost use Rattle.redrive.specs.Catalog.{NameDirectory, IsDirectory, names_listed};
 ghost use Rattle.sqs_server.specs.declared.stage.Purpose.TheVariants as purposes;
 ghost use Rattle.sqs_server.specs.declared.stage.Stage.TheVariants as stages;
 ghost use Rattle.request_plan.specs.declared.task.Task.TheVariants as tasks;
@@ -15,14 +15,14 @@ ghost use Rattle.sqs_server.specs.Stages as told;
 ghost use Rattle.request_plan.specs.Task.{Begins};
 ghost use Rattle.sqs_server.specs.Turns.{OnWaits};
 
-use crate::arriving::{Arriving, Asked};
+use crate::arriving::{Arriving, KeptRequest};
 use crate::bodies::{Bodies, Part};
 use crate::clock::{Day, wait_limit};
 use crate::head::{Denial, asked_of, target_of};
 use crate::queues::{Made, Mailbox, NewQueue, Order, Printer, Queue, Queues, is_full};
 use crate::register::Register;
 use crate::reply::{Sent, busy, denied, refused, sent_for};
-use crate::stage::{Creation, Exchange, Halt, Next, Postponed, Purpose, Stage, Turn};
+use crate::stage::{Creation, Exchange, Halt, Next, Postponed, Purpose, Stage, Polled};
 use aws_json::{Prefix, QueueNames, ReplyShape, Request};
 use crossbeam_channel::{SendError, Sender};
 use desk::NoGate;
@@ -263,7 +263,7 @@ impl<R: Wait + Clock + Drop> Front<R> {
 
     /// The URLs of the queues whose names begin with a prefix.
     fn urls(&self, prefix: &Prefix) -> Result<ReplyShape, Fault>
-        ensures ok { IfOk result (λ shape. (listed : Directory) × IsDirectory listed × (shape ≡ shapes.QueueUrls (names_listed listed prefix.now))) }
+        ensures ok { IfOk result (λ shape. (listed : NameDirectory) × IsDirectory listed × (shape ≡ shapes.QueueUrls (names_listed listed prefix.now))) }
         ensures errors { IfErr result (λ fault. fault ≡ OutOfMemory) }
     {
         let names = self
@@ -498,13 +498,13 @@ impl<R: Wait + Clock + Drop> Front<R> {
     }
 
     /// Begins what a request asks whose body has come, and keeps the request.
-    fn read(&self, head: Parts, body: Collected, part: Part, kept: &mut Option<Asked>) -> Next<R>
+    fn read(&self, head: Parts, body: Collected, part: Part, kept: &mut Option<KeptRequest>) -> Next<R>
         ensures { IsRead self.now.port head body result }
     {
         match body.to_bytes() {
             Ok(body) => {
                 let next = self.judge(&head, body.as_slice());
-                *kept = Some(Asked { head, body, part });
+                *kept = Some(KeptRequest { head, body, part });
                 next
             }
             Err(_refused) => refuses(Fault::OutOfMemory),
@@ -516,8 +516,8 @@ impl<R: Wait + Clock + Drop> Front<R> {
         &self,
         cx: &mut Context<'_>,
         arriving: Arriving,
-        kept: &mut Option<Asked>,
-    ) -> Turn<R>
+        kept: &mut Option<KeptRequest>,
+    ) -> Polled<R>
         ensures waits { OnWaits result (IsArmed cx.new) }
         ensures kept { Keeps cx.old cx.new }
         ensures leads { Collects self.now.port arriving result }
@@ -528,9 +528,9 @@ impl<R: Wait + Clock + Drop> Front<R> {
             part,
         } = arriving;
         match body.poll(cx) {
-            Poll::Pending => Turn::Waits(Stage::Collecting(Arriving { head, body, part })),
-            Poll::Ready(Ok(body)) => Turn::Goes(self.read(head, body, part, kept)),
-            Poll::Ready(Err(error)) => Turn::Goes(Next::Ends(sent_of_error(error))),
+            Poll::Pending => Polled::Waits(Stage::Collecting(Arriving { head, body, part })),
+            Poll::Ready(Ok(body)) => Polled::Goes(self.read(head, body, part, kept)),
+            Poll::Ready(Err(error)) => Polled::Goes(Next::Ends(sent_of_error(error))),
         }
     }
 
@@ -568,15 +568,15 @@ impl<R: Wait + Clock + Drop> Front<R> {
         cx: &mut Context<'_>,
         creation: Creation,
         mut made: Receiver<Made>,
-    ) -> Turn<R>
+    ) -> Polled<R>
         ensures waits { OnWaits result (IsArmed cx.new) }
         ensures kept { Keeps cx.old cx.new }
         ensures leads { AwaitsQueue self.now.port creation result }
     {
         match made.poll(cx) {
-            Poll::Pending => Turn::Waits(Stage::Making { creation, made }),
-            Poll::Ready(Ok(made)) => Turn::Goes(self.ordered(creation, made)),
-            Poll::Ready(Err(_gone)) => Turn::Goes(refuses(Fault::ActorGone)),
+            Poll::Pending => Polled::Waits(Stage::Making { creation, made }),
+            Poll::Ready(Ok(made)) => Polled::Goes(self.ordered(creation, made)),
+            Poll::Ready(Err(_gone)) => Polled::Goes(refuses(Fault::ActorGone)),
         }
     }
 
@@ -605,16 +605,16 @@ impl<R: Wait + Clock + Drop> Front<R> {
     }
 
     /// The same, and looks for that one again once others had a turn.
-    fn await_name(&self, cx: &mut Context<'_>, creation: Creation) -> Turn<R>
+    fn await_name(&self, cx: &mut Context<'_>, creation: Creation) -> Polled<R>
         ensures waits { OnWaits result (IsArmed cx.new) }
         ensures kept { Keeps cx.old cx.new }
         ensures leads { Names self.now.port creation result }
     {
         match self.create(creation) {
-            Ok(next) => Turn::Goes(next),
+            Ok(next) => Polled::Goes(next),
             Err(creation) => {
                 let _: Poll<()> = cx.yield_now();
-                Turn::Waits(Stage::Creating(creation))
+                Polled::Waits(Stage::Creating(creation))
             }
         }
     }
@@ -764,14 +764,14 @@ impl<R: Wait + Clock + Drop> Front<R> {
     }
 
     /// Looks whether a command was answered.
-    fn await_answer(&self, cx: &mut Context<'_>, mut exchange: Exchange<R>) -> Turn<R>
+    fn await_answer(&self, cx: &mut Context<'_>, mut exchange: Exchange<R>) -> Polled<R>
         ensures waits { OnWaits result (IsArmed cx.new) }
         ensures kept { Keeps cx.old cx.new }
         ensures leads { AwaitsAnswer self.now.port exchange result }
     {
         match exchange.future.poll(cx) {
-            Poll::Pending => Turn::Waits(Stage::Asking(exchange)),
-            Poll::Ready(given) => Turn::Goes(self.answered(exchange, given)),
+            Poll::Pending => Polled::Waits(Stage::Asking(exchange)),
+            Poll::Ready(given) => Polled::Goes(self.answered(exchange, given)),
         }
     }
 
@@ -780,8 +780,8 @@ impl<R: Wait + Clock + Drop> Front<R> {
         &self,
         cx: &mut Context<'_>,
         stage: Stage<R>,
-        kept: &mut Option<Asked>,
-    ) -> Turn<R>
+        kept: &mut Option<KeptRequest>,
+    ) -> Polled<R>
         ensures waits { OnWaits result (IsArmed cx.new) }
         ensures kept { Keeps cx.old cx.new }
         ensures leads { Turns self.now.port stage result }
@@ -796,14 +796,14 @@ impl<R: Wait + Clock + Drop> Front<R> {
                 queue,
                 at,
                 step,
-            } => Turn::Goes(self.go_on(uid, queue, at, step)),
-            Stage::Sending(sent) => Turn::Goes(Next::Ends(Ok(sent))),
-            Stage::Over => Turn::Goes(refuses(Fault::OutOfMemory)),
+            } => Polled::Goes(self.go_on(uid, queue, at, step)),
+            Stage::Sending(sent) => Polled::Goes(Next::Ends(Ok(sent))),
+            Stage::Over => Polled::Goes(refuses(Fault::OutOfMemory)),
         }
     }
 
     /// Notes how a request has ended. One whose connection failed gets no answer.
-    pub(crate) fn note(&self, asked: Option<&Asked>, ended: &Result<Sent, hyper::Error>) {
+    pub(crate) fn note(&self, asked: Option<&KeptRequest>, ended: &Result<Sent, hyper::Error>) {
         if let Ok(sent) = ended {
             self.hall.register.note(&self.rt, self.alloc, asked, sent);
         }
@@ -814,7 +814,7 @@ impl<R: Wait + Clock + Drop> Front<R> {
         &self,
         cx: &mut Context<'_>,
         mut stage: Stage<R>,
-        kept: &mut Option<Asked>,
+        kept: &mut Option<KeptRequest>,
     ) -> Halt<R>
         ensures waits { OnHeld result (IsArmed cx.new) }
         ensures kept { Keeps cx.old cx.new }
@@ -822,9 +822,9 @@ impl<R: Wait + Clock + Drop> Front<R> {
     {
         for _ in self.rt.forever() {
             match self.turn(cx, stage, kept) {
-                Turn::Waits(left) => return Halt::Waits(left),
-                Turn::Goes(Next::On(next)) => stage = next,
-                Turn::Goes(Next::Ends(ended)) => return Halt::Ends(ended),
+                Polled::Waits(left) => return Halt::Waits(left),
+                Polled::Goes(Next::On(next)) => stage = next,
+                Polled::Goes(Next::Ends(ended)) => return Halt::Ends(ended),
             }
         }
         unreachable!()

@@ -52,20 +52,20 @@ pub struct Notices {
 
 /// Where lines are found that are to be told.
 #[derive(Drop)]
-pub struct Waiting {
+pub struct WaitingLines {
     pub lines: Receiver<String>,
     shortage: Arc<Shortage>,
 }
 
 impl Notices {
     /// A place for lines, and where they are found. `OutOfMemory` is the only refusal.
-    pub fn new(alloc: Global) -> Result<(Notices, Waiting), Fault> {
+    pub fn new(alloc: Global) -> Result<(Notices, WaitingLines), Fault> {
         let (lines, found) = bounded::<String, Global>(alloc, LINES)?;
         let shortage = Shortage {
             is_there: AtomicBool::new(false),
         };
         let shortage = Arc::new(alloc, shortage)?;
-        let waiting = Waiting {
+        let waiting = WaitingLines {
             lines: found,
             shortage: Arc::try_clone(&shortage)?,
         };
@@ -125,8 +125,8 @@ fn tell_shortage<R: Clock + Eprint>(rt: &R, shortage: &Shortage, told: &mut u64)
 }
 
 /// Tells lines on standard error until nobody has any more.
-fn tell_all<R: Wait + Clock + Eprint>(rt: &R, alloc: Global, waiting: Waiting) {
-    let Waiting { lines, shortage } = waiting;
+fn tell_all<R: Wait + Clock + Eprint>(rt: &R, alloc: Global, waiting: WaitingLines) {
+    let WaitingLines { lines, shortage } = waiting;
     let mut burst = Burst::new(alloc);
     let mut told = 0;
     for _ in rt.forever() {
@@ -143,7 +143,7 @@ fn tell_all<R: Wait + Clock + Eprint>(rt: &R, alloc: Global, waiting: Waiting) {
 pub(crate) fn start_telling<R: Wait + Clock + Threads + Eprint + Copy + Send + 'static>(
     rt: &R,
     alloc: Global,
-    waiting: Waiting,
+    waiting: WaitingLines,
 ) -> Result<(), Fault> {
     let own = *rt;
     match thread::spawn(rt, move || tell_all(&own, alloc, waiting)) {

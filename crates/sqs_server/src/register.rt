@@ -3,16 +3,16 @@
 ghost use Rattle.std.specs.Prelude.{◌≡◌, IfErr};
 ghost use Rattle.message.specs.declared.fault.Fault.TheVariants.{OutOfMemory};
 
-use crate::arriving::Asked;
+use crate::arriving::KeptRequest;
 use crate::clock::moment_of_day;
-use crate::counts::Counts;
+use crate::counts::RequestCounts;
 use crate::head::action_in;
 use crate::notices::Notices;
 use crate::reply::Sent;
 use message::Fault;
 use request_log::{Level, Reply, line_for, place_of};
 use startup::VERSION;
-use statistics_api::Served;
+use statistics_api::ServerFacts;
 use std::alloc::{AllocError, Global};
 use std::sync::Wait;
 use std::time::Clock;
@@ -23,7 +23,7 @@ pub struct Register {
     level: Level,
     /// When the server was started, in seconds since 1970.
     started: u64,
-    counts: Counts,
+    counts: RequestCounts,
     notices: Notices,
 }
 
@@ -40,7 +40,7 @@ impl Register {
         Ok(Register {
             level,
             started: moment_of_day(clock).milliseconds() / 1000,
-            counts: Counts::new(alloc)?,
+            counts: RequestCounts::new(alloc)?,
             notices,
         })
     }
@@ -51,7 +51,7 @@ impl Register {
     }
 
     /// Counts a request, and tells of it where it is to be told. `None` is one whose body was not read.
-    pub fn note<R: Wait + Clock>(&self, rt: &R, alloc: Global, asked: Option<&Asked>, sent: &Sent) {
+    pub fn note<R: Wait + Clock>(&self, rt: &R, alloc: Global, asked: Option<&KeptRequest>, sent: &Sent) {
         let (action, body) = match asked {
             Some(asked) => (action_in(&asked.head), asked.body.as_slice()),
             None => ("", b"".as_slice()),
@@ -68,10 +68,10 @@ impl Register {
     }
 
     /// What the server tells of itself. `OutOfMemory` is the only refusal.
-    pub fn served(&self, alloc: Global) -> Result<Served, Fault>
+    pub fn served(&self, alloc: Global) -> Result<ServerFacts, Fault>
         ensures { IfErr result (λ fault. fault ≡ OutOfMemory) }
     {
-        Ok(Served {
+        Ok(ServerFacts {
             version: VERSION,
             started: self.started,
             requests: self.counts.requested(alloc)?,

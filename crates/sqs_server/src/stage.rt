@@ -88,7 +88,7 @@ pub enum Next<R: Wait + Drop> {
 
 /// What becomes of a stage that is looked at.
 #[derive(Drop)]
-pub enum Turn<R: Wait + Drop> {
+pub enum Polled<R: Wait + Drop> {
     Goes(Next<R>),
     /// It waits, and the task was registered.
     Waits(Stage<R>),

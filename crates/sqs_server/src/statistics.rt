@@ -27,7 +27,7 @@ use hyper::Request;
 use hyper::body::Incoming;
 use hyper::service::Service;
 use message::{Fault, QueueName};
-use statistics_api::{Asked, Served, Text, asked_for, out_of_memory, respond};
+use statistics_api::{AskedSheets, ServerFacts, AnswerText, asked_for, out_of_memory, respond};
 use std::alloc::Global;
 use std::sync::{Arc, Wait};
 
@@ -65,7 +65,7 @@ fn body_too_large() -> Told
     Told {
         status: 413,
         content_type: "application/json",
-        text: Text::Constant(r#"{"message":"body too large"}"#),
+        text: AnswerText::Constant(r#"{"message":"body too large"}"#),
     }
 }
 
@@ -77,7 +77,7 @@ fn foreign_host() -> Told
     Told {
         status: 403,
         content_type: "application/json",
-        text: Text::Constant(r#"{"message":"this host is not served"}"#),
+        text: AnswerText::Constant(r#"{"message":"this host is not served"}"#),
     }
 }
 
@@ -92,14 +92,14 @@ fn host_of(head: &Parts) -> Option<&[u8]>
 }
 
 /// The bytes of a text. `OutOfMemory` is the only refusal, and a constant takes no memory.
-fn bytes_of(text: Text) -> Result<Bytes, Fault>
+fn bytes_of(text: AnswerText) -> Result<Bytes, Fault>
     ensures ok { IfOk result (λ bytes. bytes ≡ bytes_of text) }
     ensures constant { is_written text ≡ false → IsOk result }
     ensures errors { IfErr result (λ fault. fault ≡ OutOfMemory) }
 {
     match text {
-        Text::Written(text) => Ok(Bytes::from_string(text)?),
-        Text::Constant(text) => Ok(Bytes::from_static(text.as_bytes())),
+        AnswerText::Written(text) => Ok(Bytes::from_string(text)?),
+        AnswerText::Constant(text) => Ok(Bytes::from_static(text.as_bytes())),
     }
 }
 
@@ -163,20 +163,20 @@ impl<R: Wait + Drop> StatisticsFront<R> {
         ensures { IfErr result (λ fault. (fault ≡ OutOfMemory) × TellsOfQueues method.now path.now) }
     {
         match asked_for(method, path) {
-            Asked::Nothing => Ok(Vec::new(self.alloc)),
-            Asked::Queues => self.queues.sheets(&self.rt, self.alloc),
-            Asked::Queue(name) => self.sheets_named(name),
+            AskedSheets::Nothing => Ok(Vec::new(self.alloc)),
+            AskedSheets::Queues => self.queues.sheets(&self.rt, self.alloc),
+            AskedSheets::Queue(name) => self.sheets_named(name),
         }
     }
 
     /// What the server tells of itself, where that is asked for. `OutOfMemory` is the only refusal, and only where an
     /// answer can tell of it.
-    fn served(&self, method: &str, path: &str) -> Result<Served, Fault>
+    fn served(&self, method: &str, path: &str) -> Result<ServerFacts, Fault>
         ensures { IfErr result (λ fault. (fault ≡ OutOfMemory) × TellsOfQueues method.now path.now) }
     {
         match asked_for(method, path) {
-            Asked::Queues => self.register.served(self.alloc),
-            _ => Ok(Served::nothing(self.alloc)),
+            AskedSheets::Queues => self.register.served(self.alloc),
+            _ => Ok(ServerFacts::nothing(self.alloc)),
         }
     }
 

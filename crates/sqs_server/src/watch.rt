@@ -16,17 +16,17 @@ const PERIODS: u32 = 4;
 
 /// Notes how long nothing has happened.
 #[derive(Drop)]
-pub struct Watch {
+pub struct IdleWatch {
     /// `None` where there was no memory for it: then it goes without.
     timer: Option<Sleep>,
     /// How often in a row nothing happened.
     still: u32,
 }
 
-impl Watch {
+impl IdleWatch {
     /// Begins to note.
-    pub fn new<C: Clock>(clock: &C, timers: &Handle) -> Watch {
-        Watch {
+    pub fn new<C: Clock>(clock: &C, timers: &Handle) -> IdleWatch {
+        IdleWatch {
             timer: timers.sleep(clock, Duration::from_secs(PERIOD)).ok(),
             still: 0,
         }

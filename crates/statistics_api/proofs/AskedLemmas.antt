@@ -6,8 +6,8 @@ use Rattle.std.proofs.Common.{◌≡◌, ◌≢◌, ℕ, Bool, true, false, cond
 use Rattle.board.specs.Sheet.{Statistics}
 use Rattle.statistics_api.specs.declared.routes.Route.{Route}
 use Rattle.statistics_api.specs.declared.routes.Route.TheVariants.{Queues, Queue, Rows, Alarms}
-use Rattle.statistics_api.specs.Answer.{Answer, queue_named, of_queue, told, if_allowed, answer_of, not_found, method_not_allowed}
-use Rattle.statistics_api.specs.Response.{Told, as_json, page, health, metrics, if_get, is_constant, response_of}
+use Rattle.statistics_api.specs.Answer.{StatusText, sheet_named, of_queue, told, if_allowed, answer_of, not_found, method_not_allowed}
+use Rattle.statistics_api.specs.Response.{TypedText, as_json, page, health, metrics, if_get, is_constant, response_of}
 use Rattle.statistics_api.specs.Asked.{TellsOfQueues}
 use Rattle.statistics_api.specs.Routes.{target_of}
 
@@ -21,14 +21,14 @@ again : {X : Type 0} (p : X → Bool) (xs : List X) → find p (option_to_list (
 again p [] = refl
 again p (x ∷ xs) = again-if p x xs (p x) refl (again p xs)
 
-told_again : (route : Route) (name : List ℕ) (sheets : List Statistics) → route ≢ Queues → told route name (option_to_list (queue_named name sheets)) ≡ told route name sheets
+told_again : (route : Route) (name : List ℕ) (sheets : List Statistics) → route ≢ Queues → told route name (option_to_list (sheet_named name sheets)) ≡ told route name sheets
 told_again Queues name sheets other = absurd (other refl)
 told_again Queue name sheets other = ap (of_queue Queue) (again (λ s. bytes_eq s.name name) sheets)
 told_again Rows name sheets other = ap (of_queue Rows) (again (λ s. bytes_eq s.name name) sheets)
 told_again Alarms name sheets other = ap (of_queue Alarms) (again (λ s. bytes_eq s.name name) sheets)
 
 -- at each path but that of the metrics the answer alone depends on queues
-by_answer-if : (root well all : Bool) (p h m n : Told) (a b : Answer) → all ≡ false → a ≡ b
+by_answer-if : (root well all : Bool) (p h m n : TypedText) (a b : StatusText) → all ≡ false → a ≡ b
     → cond root p (cond well h (cond all m (as_json a))) ≡ cond root p (cond well h (cond all n (as_json b)))
 by_answer-if true well all p h m n a b none same = refl
 by_answer-if false true all p h m n a b none same = refl
@@ -43,12 +43,12 @@ by_answer method path xs ys own other same =
 
 -- a path of a queue
 pub enough_named : (method path name : List ℕ) (route : Route) (sheets : List Statistics) (own : List ℕ) → bytes_eq path (codes "/metrics") ≡ false → Some (route, name) ≡ target_of path → route ≢ Queues
-    → response_of method path sheets own ≡ response_of method path (option_to_list (queue_named name sheets)) own
+    → response_of method path sheets own ≡ response_of method path (option_to_list (sheet_named name sheets)) own
 enough_named method path name route sheets own other is one =
     let there : (xs : List Statistics) → answer_of method path xs ≡ if_allowed method (Some (route, name)) xs = λ xs. ap (λ o. if_allowed method o xs) (sym is) in
-    let same : if_allowed method (Some (route, name)) sheets ≡ if_allowed method (Some (route, name)) (option_to_list (queue_named name sheets)) =
-    ap (λ (a : Answer). cond (bytes_eq method (codes "GET")) a method_not_allowed) (sym (told_again route name sheets one)) in
-    by_answer method path sheets (option_to_list (queue_named name sheets)) own other (there sheets ∙ same ∙ sym (there (option_to_list (queue_named name sheets))))
+    let same : if_allowed method (Some (route, name)) sheets ≡ if_allowed method (Some (route, name)) (option_to_list (sheet_named name sheets)) =
+    ap (λ (a : StatusText). cond (bytes_eq method (codes "GET")) a method_not_allowed) (sym (told_again route name sheets one)) in
+    by_answer method path sheets (option_to_list (sheet_named name sheets)) own other (there sheets ∙ same ∙ sym (there (option_to_list (sheet_named name sheets))))
 
 -- a path that is none
 pub enough_none : (method path : List ℕ) (sheets : List Statistics) (own : List ℕ) → bytes_eq path (codes "/metrics") ≡ false → None ≡ target_of path
@@ -58,7 +58,7 @@ enough_none method path sheets own other is =
     by_answer method path sheets [] own other (there sheets ∙ sym (there []))
 
 -- another method
-get_refused : (method : List ℕ) (told : Told) → bytes_eq method (codes "GET") ≡ false → if_get method told ≡ as_json method_not_allowed
+get_refused : (method : List ℕ) (told : TypedText) → bytes_eq method (codes "GET") ≡ false → if_get method told ≡ as_json method_not_allowed
 get_refused method told other = ap (λ (b : Bool). cond b told (as_json method_not_allowed)) other
 
 allowed_refused : (method : List ℕ) (o : Option (Route × List ℕ)) (xs ys : List Statistics) → bytes_eq method (codes "GET") ≡ false → if_allowed method o xs ≡ if_allowed method o ys
@@ -66,7 +66,7 @@ allowed_refused method None xs ys other = refl
 allowed_refused method (Some t) xs ys other =
     ap (λ (b : Bool). cond b (told t.0 t.1 xs) method_not_allowed) other ∙ sym (ap (λ (b : Bool). cond b (told t.0 t.1 ys) method_not_allowed) other)
 
-both-if : (root well all : Bool) (p h m n : Told) (a b : Answer) → m ≡ n → a ≡ b
+both-if : (root well all : Bool) (p h m n : TypedText) (a b : StatusText) → m ≡ n → a ≡ b
     → cond root p (cond well h (cond all m (as_json a))) ≡ cond root p (cond well h (cond all n (as_json b)))
 both-if true well all p h m n a b first second = refl
 both-if false true all p h m n a b first second = refl
@@ -106,7 +106,7 @@ told_of Rows name = found_so Rows name (bytes_eq name name) ((bytes_eq-Decides n
 told_of Alarms name = found_so Alarms name (bytes_eq name name) ((bytes_eq-Decides name name).1 refl)
 
 -- at a path that is none of a constant and of the metrics
-status_by_answer : (root well all : Bool) (p h m : Told) (answer : Answer) → (root || well) ≡ false → all ≡ false → answer.0 ≡ 200
+status_by_answer : (root well all : Bool) (p h m : TypedText) (answer : StatusText) → (root || well) ≡ false → all ≡ false → answer.0 ≡ 200
     → (cond root p (cond well h (cond all m (as_json answer)))).0 ≡ 200
 status_by_answer false false false p h m answer constant none is = is
 status_by_answer true well all p h m answer constant none is = absurd cc

@@ -1,16 +1,16 @@
 -- Of which queues a request asks for statistics.
 use Rattle.std.specs.Prelude.{◌≡◌, ℕ, false, List, [], option_to_list}
 use Rattle.board.specs.Sheet.{Statistics}
-use Rattle.statistics_api.specs.Answer.{queue_named}
+use Rattle.statistics_api.specs.Answer.{sheet_named}
 use Rattle.statistics_api.specs.Response.{is_constant, response_of}
-use Rattle.statistics_api.specs.declared.asked.Asked.{Asked}
-use Rattle.statistics_api.specs.declared.asked.Asked.TheVariants.{Nothing, Queues, Queue}
+use Rattle.statistics_api.specs.declared.asked.AskedSheets.{AskedSheets}
+use Rattle.statistics_api.specs.declared.asked.AskedSheets.TheVariants.{Nothing, Queues, Queue}
 
 -- those of all queues that a request asks for
-abbrev pub taken : Asked → List Statistics → List Statistics
+abbrev pub taken : AskedSheets → List Statistics → List Statistics
 taken Nothing sheets = []
 taken Queues sheets = sheets
-taken (Queue name) sheets = option_to_list (queue_named name.now sheets)
+taken (Queue name) sheets = option_to_list (sheet_named name.now sheets)
 
 -- a request is answered with numbers, where there are such: it is not one for a constant, nor one that is refused by its method and path alone
 abbrev pub TellsOfQueues : List ℕ → List ℕ → Type 0

@@ -9,7 +9,7 @@ use Rattle.board.specs.Sheet.{Statistics}
 use Rattle.statistics_api.specs.Texts.{by_name}
 use Rattle.statistics_api.specs.declared.measure.Measure.{Measure}
 use Rattle.statistics_api.specs.declared.served.Requested.{Requested}
-use Rattle.statistics_api.specs.declared.served.Served.{Served}
+use Rattle.statistics_api.specs.declared.served.ServerFacts.{ServerFacts}
 use Rattle.statistics_api.specs.declared.measure.Measure.TheVariants.{Visible, Delayed, InFlight, Age, Entries, Sent, SentSize, Received, EmptyReceives, Deleted, Refused, DeadLettersArrived}
 
 abbrev pub measure_name : Measure → List ℕ
@@ -144,7 +144,7 @@ start_text started =
     head_text (codes "gauge") (codes "process_start_time_seconds") (codes "When the server was started, in seconds since 1970.")
     ++ concat (codes "process_start_time_seconds " ∷ decimal started ∷ codes "\n" ∷ [])
 
-abbrev pub served_text : Served → List ℕ
+abbrev pub served_text : ServerFacts → List ℕ
 served_text s = requests_family_text s.requests.items ++ (build_text s.version.now ++ start_text s.started)
 
 -- all metrics: those of queues, which stand in the order of their names, and behind them what the server tells of itself

@@ -3,40 +3,40 @@
 use Rattle.std.specs.Prelude.{ℕ, Bool, ◌||◌, List, codes, if◌then◌else◌}
 use Rattle.std.specs.Str.{bytes_eq}
 use Rattle.board.specs.Sheet.{Statistics}
-use Rattle.statistics_api.specs.Answer.{Answer, answer_of, method_not_allowed}
+use Rattle.statistics_api.specs.Answer.{StatusText, answer_of, method_not_allowed}
 use Rattle.statistics_api.specs.Metrics.{metrics_text}
 use Rattle.statistics_api.specs.Text.{bytes_of}
 use Rattle.statistics_api.specs.declared.page.TheConstants.{PAGE}
 use Rattle.statistics_api.specs.declared.port.Response.{Response}
 
-abbrev pub Told : Type 0
-Told = ℕ × List ℕ × List ℕ
+abbrev pub TypedText : Type 0
+TypedText = ℕ × List ℕ × List ℕ
 
 -- the status, the content type and the bytes of a response
-abbrev pub told_by : Response → Told
+abbrev pub told_by : Response → TypedText
 told_by r = (r.status, r.content_type.now, bytes_of r.text)
 
-abbrev pub as_json : Answer → Told
+abbrev pub as_json : StatusText → TypedText
 as_json answer = (answer.0, codes "application/json", answer.1)
 
 -- the page, which is a constant
-abbrev pub page : Told
+abbrev pub page : TypedText
 page = (200, codes "text/html; charset=utf-8", PAGE.now)
 
 -- that the server is there
-abbrev pub health : Told
+abbrev pub health : TypedText
 health = as_json (200, codes "{\"status\":\"ok\"}")
 
 -- a text for Prometheus
-abbrev pub for_prometheus : List ℕ → Told
+abbrev pub for_prometheus : List ℕ → TypedText
 for_prometheus text = (200, codes "text/plain; version=0.0.4; charset=utf-8", text)
 
 -- of queues, and what the server tells of itself
-abbrev pub metrics : List Statistics → List ℕ → Told
+abbrev pub metrics : List Statistics → List ℕ → TypedText
 metrics sheets own = for_prometheus (metrics_text sheets own)
 
 -- what is told to the method `GET`, and to no other
-abbrev pub if_get : List ℕ → Told → Told
+abbrev pub if_get : List ℕ → TypedText → TypedText
 if_get method told = if bytes_eq method (codes "GET") then told else as_json method_not_allowed
 
 -- the paths at which a constant is told
@@ -44,7 +44,7 @@ abbrev pub is_constant : List ℕ → Bool
 is_constant path = bytes_eq path (codes "/") || bytes_eq path (codes "/health")
 
 -- what a method and a path are answered by these queues and by what the server tells of itself
-abbrev pub response_of : List ℕ → List ℕ → List Statistics → List ℕ → Told
+abbrev pub response_of : List ℕ → List ℕ → List Statistics → List ℕ → TypedText
 response_of method path sheets own =
     if bytes_eq path (codes "/") then if_get method page
     else if bytes_eq path (codes "/health") then if_get method health

@@ -4,13 +4,13 @@ ghost use Rattle.std.specs.Prelude.{◌≡◌, ◌≢◌, ℕ, List};
 ghost use Rattle.board.specs.Sheet.{Statistics};
 ghost use Rattle.statistics_api.specs.Response.{response_of};
 ghost use Rattle.statistics_api.specs.Asked.{taken, TellsOfQueues};
-ghost use Rattle.statistics_api.specs.declared.asked.Asked.TheVariants.{Nothing};
+ghost use Rattle.statistics_api.specs.declared.asked.AskedSheets.TheVariants.{Nothing};
 
 use crate::routes::{Route, target_without_memory};
 
 /// Of which queues a request asks for statistics.
 #[derive(Clone, Copy, Debug)]
-pub enum Asked<'p> {
+pub enum AskedSheets<'p> {
     /// Of none: the answer is the same, whatever queues there are.
     Nothing,
     /// Of all.
@@ -22,19 +22,19 @@ pub enum Asked<'p> {
 /// Of which queues a request asks for statistics. Those of others do not change what [`respond`](crate::respond)
 /// answers, and where it asks for some, an answer can tell of them.
 #[tactic(auto, using(crate::proofs::AskedLemmas::enough_named, crate::proofs::AskedLemmas::enough_none, crate::proofs::AskedLemmas::enough_refused, crate::proofs::AskedLemmas::of_metrics))]
-pub fn asked_for<'p>(method: &str, path: &'p str) -> Asked<'p>
+pub fn asked_for<'p>(method: &str, path: &'p str) -> AskedSheets<'p>
     ensures enough { (sheets : List Statistics) (own : List ℕ) → response_of method.now path.now sheets own ≡ response_of method.now path.now (taken result sheets) own }
     ensures needed { result ≢ Nothing → TellsOfQueues method.now path.now }
 {
     if method != "GET" {
-        return Asked::Nothing;
+        return AskedSheets::Nothing;
     }
     if path == "/metrics" {
-        return Asked::Queues;
+        return AskedSheets::Queues;
     }
     match target_without_memory(path) {
-        None => Asked::Nothing,
-        Some(target) if target.route == Route::Queues => Asked::Queues,
-        Some(target) => Asked::Queue(target.name),
+        None => AskedSheets::Nothing,
+        Some(target) if target.route == Route::Queues => AskedSheets::Queues,
+        Some(target) => AskedSheets::Queue(target.name),
     }
 }

@@ -2,8 +2,8 @@
 //!
 //! - [`answer`]: the status and the text that a request is answered.
 //! - [`respond`]: what the port of the statistics answers: the page, the metrics and the word on its health too.
-//!   [`asked_for`]: the queues whose statistics that takes. [`Served`]: what a server tells of itself.
-//! - [`Text`]: a text that was written, or a constant.
+//!   [`asked_for`]: the queues whose statistics that takes. [`ServerFacts`]: what a server tells of itself.
+//! - [`AnswerText`]: a text that was written, or a constant.
 //! - [`sheet_text`], [`sheets_text`], [`rows_text`], [`alarms_text`]: the texts alone.
 //! - The function of [`laws`] is empty: its contract is a law about the definitions in `specs/`.
 //!
@@ -27,11 +27,11 @@ mod text;
 mod texts;
 mod values;
 
-pub use asked::{Asked, asked_for};
+pub use asked::{AskedSheets, asked_for};
 pub use metrics::metrics_text;
 pub use page::PAGE;
 pub use port::{Response, out_of_memory, respond};
 pub use replies::answer;
-pub use served::{Requested, Served};
-pub use text::Text;
+pub use served::{Requested, ServerFacts};
+pub use text::AnswerText;
 pub use texts::{alarms_text, rows_text, sheet_text, sheets_text};

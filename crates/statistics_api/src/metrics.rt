@@ -7,7 +7,7 @@ ghost use Rattle.statistics_api.specs.Metrics.{head_text, sample_text, family_te
 
 use crate::measure::{MEASURES, Measure};
 use crate::order::by_name;
-use crate::served::{Requested, Served};
+use crate::served::{Requested, ServerFacts};
 use alarm::AlarmState;
 use board::Sheet;
 use message::{Fault, QueueName};
@@ -202,7 +202,7 @@ fn start(alloc: Global, started: u64) -> Result<String, Fault>
 }
 
 /// What a server tells of itself.
-fn served(alloc: Global, served: &Served) -> Result<String, Fault>
+fn served(alloc: Global, served: &ServerFacts) -> Result<String, Fault>
     ensures { Meets (result_map (λ s. string_bytes s) result) (Ok (served_text served.now)) }
 {
     let requests = requests_family(alloc, served.requests.as_slice())?;
@@ -214,7 +214,7 @@ fn served(alloc: Global, served: &Served) -> Result<String, Fault>
 /// The text that Prometheus reads (this project's own metrics, in Prometheus's text format): each metric of queues, and
 /// in it a line for each queue, in the order of their names; then what the server tells of itself. `OutOfMemory` is
 /// the only refusal.
-pub fn metrics_text(alloc: Global, sheets: &[Sheet], server: &Served) -> Result<String, Fault>
+pub fn metrics_text(alloc: Global, sheets: &[Sheet], server: &ServerFacts) -> Result<String, Fault>
     ensures { Meets (result_map (λ s. string_bytes s) result) (Ok (metrics_text sheets.now (served_text server.now))) }
 {
     let order = by_name(alloc, sheets)?;

@@ -10,8 +10,8 @@ use crate::metrics::metrics_text;
 use crate::page::PAGE;
 use crate::replies;
 use crate::replies::{answer, method_not_allowed};
-use crate::served::Served;
-use crate::text::Text;
+use crate::served::ServerFacts;
+use crate::text::AnswerText;
 use board::Sheet;
 use std::alloc::Global;
 
@@ -20,11 +20,11 @@ use std::alloc::Global;
 pub struct Response {
     pub status: u16,
     pub content_type: &'static str,
-    pub text: Text,
+    pub text: AnswerText,
 }
 
 /// An answer, which is a JSON text.
-fn as_json(answer: (u16, Text)) -> Response
+fn as_json(answer: (u16, AnswerText)) -> Response
     ensures told { told_by result ≡ as_json (shown answer) }
     ensures constant { is_written result.text ≡ is_written answer.1 }
     ensures status { result.status ≡ answer.0 }
@@ -47,7 +47,7 @@ fn page() -> Response
     Response {
         status: 200,
         content_type,
-        text: Text::Constant(PAGE),
+        text: AnswerText::Constant(PAGE),
     }
 }
 
@@ -67,7 +67,7 @@ fn health() -> Response
     ensures told { told_by result ≡ health }
     ensures constant { is_written result.text ≡ false }
 {
-    as_json((200, Text::Constant(r#"{"status":"ok"}"#)))
+    as_json((200, AnswerText::Constant(r#"{"status":"ok"}"#)))
 }
 
 /// The same, where the method is `GET`.
@@ -90,7 +90,7 @@ fn for_prometheus(text: String) -> Response
     Response {
         status: 200,
         content_type,
-        text: Text::Written(text),
+        text: AnswerText::Written(text),
     }
 }
 
@@ -103,7 +103,7 @@ pub fn out_of_memory() -> Response
 }
 
 /// The metrics, or lack of memory.
-fn metrics(alloc: Global, sheets: &[Sheet], served: &Served) -> Response
+fn metrics(alloc: Global, sheets: &[Sheet], served: &ServerFacts) -> Response
     ensures told { (told_by result ≡ metrics sheets.now (served_text served.now)) ⊎ (told_by result ≡ as_json out_of_memory) }
     ensures constant { (result.status ≡ 200) ⊎ (is_written result.text ≡ false) }
 {
@@ -114,7 +114,7 @@ fn metrics(alloc: Global, sheets: &[Sheet], served: &Served) -> Response
 }
 
 /// The metrics, where the method is `GET`, or lack of memory.
-fn metrics_to(alloc: Global, method: &str, sheets: &[Sheet], served: &Served) -> Response
+fn metrics_to(alloc: Global, method: &str, sheets: &[Sheet], served: &ServerFacts) -> Response
     ensures told { (told_by result ≡ if_get method.now (metrics sheets.now (served_text served.now))) ⊎ (told_by result ≡ as_json out_of_memory) }
     ensures exact { (if_get method.now (metrics sheets.now (served_text served.now))).0 ≢ 200 → told_by result ≡ if_get method.now (metrics sheets.now (served_text served.now)) }
     ensures constant { (result.status ≡ 200) ⊎ (is_written result.text ≡ false) }
@@ -134,7 +134,7 @@ pub fn respond(
     method: &str,
     path: &str,
     sheets: &[Sheet],
-    served: &Served,
+    served: &ServerFacts,
 ) -> Response
     ensures response { (told_by result ≡ response_of method.now path.now sheets.now (served_text served.now)) ⊎ (told_by result ≡ as_json out_of_memory) }
     ensures constant { is_constant path.now ≡ true → told_by result ≡ response_of method.now path.now sheets.now (served_text served.now) }

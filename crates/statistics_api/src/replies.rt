@@ -5,10 +5,10 @@ ghost use Rattle.message.specs.Fault.{Meets};
 ghost use Rattle.statistics_api.specs.Steps.{result_map};
 ghost use Rattle.statistics_api.specs.Router.{router_rows};
 ghost use Rattle.statistics_api.specs.Text.{is_written, shown};
-ghost use Rattle.statistics_api.specs.Answer.{answer_of, told, text_of, not_found, method_not_allowed, out_of_memory, queue_named};
+ghost use Rattle.statistics_api.specs.Answer.{answer_of, told, text_of, not_found, method_not_allowed, out_of_memory, sheet_named};
 
 use crate::routes::{Route, routes, target_of, target_without_memory};
-use crate::text::Text;
+use crate::text::AnswerText;
 use crate::texts::{alarms_text, rows_text, sheet_text, sheets_text};
 use board::Sheet;
 use matchit::Router;
@@ -16,32 +16,32 @@ use message::Fault;
 use std::alloc::Global;
 
 /// There is no such path, or no such queue.
-fn not_found() -> (u16, Text)
+fn not_found() -> (u16, AnswerText)
     ensures answer { shown result ≡ not_found }
     ensures constant { is_written result.1 ≡ false }
 {
-    (404, Text::Constant(r#"{"message":"not found"}"#))
+    (404, AnswerText::Constant(r#"{"message":"not found"}"#))
 }
 
 /// The path is one, and the method is not `GET`.
-pub(crate) fn method_not_allowed() -> (u16, Text)
+pub(crate) fn method_not_allowed() -> (u16, AnswerText)
     ensures answer { shown result ≡ method_not_allowed }
     ensures constant { is_written result.1 ≡ false }
 {
-    (405, Text::Constant(r#"{"message":"method not allowed"}"#))
+    (405, AnswerText::Constant(r#"{"message":"method not allowed"}"#))
 }
 
 /// The text cannot be written for lack of memory.
-pub(crate) fn out_of_memory() -> (u16, Text)
+pub(crate) fn out_of_memory() -> (u16, AnswerText)
     ensures answer { shown result ≡ out_of_memory }
     ensures constant { is_written result.1 ≡ false }
 {
-    (500, Text::Constant(r#"{"message":"out of memory"}"#))
+    (500, AnswerText::Constant(r#"{"message":"out of memory"}"#))
 }
 
 /// The first queue of a name.
-fn queue_named<'a>(name: &str, sheets: &'a [Sheet]) -> Option<&'a Sheet>
-    ensures { option_map (λ s. s.now) result ≡ queue_named name.now sheets.now }
+fn sheet_named<'a>(name: &str, sheets: &'a [Sheet]) -> Option<&'a Sheet>
+    ensures { option_map (λ s. s.now) result ≡ sheet_named name.now sheets.now }
 {
     for sheet in sheets {
         if sheet.name.as_text() == name {
@@ -63,15 +63,15 @@ fn text_of(alloc: Global, route: Route, sheet: &Sheet) -> Result<String, Fault>
 }
 
 /// What a path tells.
-fn told(alloc: Global, route: Route, name: &str, sheets: &[Sheet]) -> Result<(u16, Text), Fault>
+fn told(alloc: Global, route: Route, name: &str, sheets: &[Sheet]) -> Result<(u16, AnswerText), Fault>
     ensures answer { Meets (result_map shown result) (Ok (told route name.now sheets.now)) }
     ensures constant { IfOk result (λ answer. (answer.0 ≡ 200) ⊎ (is_written answer.1 ≡ false)) }
 {
     if route == Route::Queues {
-        return Ok((200, Text::Written(sheets_text(alloc, sheets)?)));
+        return Ok((200, AnswerText::Written(sheets_text(alloc, sheets)?)));
     }
-    match queue_named(name, sheets) {
-        Some(sheet) => Ok((200, Text::Written(text_of(alloc, route, sheet)?))),
+    match sheet_named(name, sheets) {
+        Some(sheet) => Ok((200, AnswerText::Written(text_of(alloc, route, sheet)?))),
         None => Ok(not_found()),
     }
 }
@@ -89,7 +89,7 @@ fn answer_in_memory(
     method: &str,
     path: &str,
     sheets: &[Sheet],
-) -> Result<(u16, Text), Fault>
+) -> Result<(u16, AnswerText), Fault>
     ensures answer { IfOk result (λ answer. shown answer ≡ answer_of method.now path.now sheets.now) }
     ensures constant { IfOk result (λ answer. (answer.0 ≡ 200) ⊎ (is_written answer.1 ≡ false)) }
 {
@@ -102,19 +102,19 @@ fn answer_in_memory(
 }
 
 /// What a path tells where it takes no memory, and lack of memory where it takes some.
-fn told_without_memory(route: Route, name: &str, sheets: &[Sheet]) -> (u16, Text)
+fn told_without_memory(route: Route, name: &str, sheets: &[Sheet]) -> (u16, AnswerText)
     ensures answer { (shown result ≡ told route name.now sheets.now) ⊎ (shown result ≡ out_of_memory) }
     ensures exact { (told route name.now sheets.now).0 ≢ 200 → shown result ≡ told route name.now sheets.now }
     ensures constant { is_written result.1 ≡ false }
 {
-    match queue_named(name, sheets) {
+    match sheet_named(name, sheets) {
         None if route != Route::Queues => not_found(),
         _ => out_of_memory(),
     }
 }
 
 /// The answer where it takes no memory, and lack of memory where it takes some.
-fn answer_without_memory(method: &str, path: &str, sheets: &[Sheet]) -> (u16, Text)
+fn answer_without_memory(method: &str, path: &str, sheets: &[Sheet]) -> (u16, AnswerText)
     ensures answer { (shown result ≡ answer_of method.now path.now sheets.now) ⊎ (shown result ≡ out_of_memory) }
     ensures exact { (answer_of method.now path.now sheets.now).0 ≢ 200 → shown result ≡ answer_of method.now path.now sheets.now }
     ensures constant { is_written result.1 ≡ false }
@@ -131,7 +131,7 @@ fn answer_without_memory(method: &str, path: &str, sheets: &[Sheet]) -> (u16, Te
 /// the sheets. A method other than `GET` on one of these paths is 405, whatever queue it names. 500,
 /// which takes no memory itself, may stand in the place of a 200 for lack of memory, and of no other
 /// answer. The sheets come in any order; of two of one name the first is found.
-pub fn answer(alloc: Global, method: &str, path: &str, sheets: &[Sheet]) -> (u16, Text)
+pub fn answer(alloc: Global, method: &str, path: &str, sheets: &[Sheet]) -> (u16, AnswerText)
     ensures answer { (shown result ≡ answer_of method.now path.now sheets.now) ⊎ (shown result ≡ out_of_memory) }
     ensures exact { (answer_of method.now path.now sheets.now).0 ≢ 200 → shown result ≡ answer_of method.now path.now sheets.now }
     ensures constant { (result.0 ≡ 200) ⊎ (is_written result.1 ≡ false) }

@@ -13,7 +13,7 @@ pub struct Requested {
 
 /// What a server tells of itself.
 #[derive(Debug, Drop)]
-pub struct Served {
+pub struct ServerFacts {
     /// Its version, which stands in the text as it is.
     pub version: &'static str,
     /// When it was started, in seconds since 1970.
@@ -22,10 +22,10 @@ pub struct Served {
     pub requests: Vec<Requested>,
 }
 
-impl Served {
+impl ServerFacts {
     /// A server of no version that has answered nothing.
-    pub fn nothing(alloc: Global) -> Served {
-        Served {
+    pub fn nothing(alloc: Global) -> ServerFacts {
+        ServerFacts {
             version: "",
             started: 0,
             requests: Vec::new(alloc),

@@ -6,19 +6,19 @@ ghost use Rattle.statistics_api.specs.Text.{bytes_of};
 /// The text of an answer: one that was written for it, or a constant, which takes no memory.
 /// Contracts see its bytes by `bytes_of`.
 #[derive(Debug, Drop)]
-pub enum Text {
+pub enum AnswerText {
     Written(String),
     Constant(&'static str),
 }
 
-impl Text {
+impl AnswerText {
     /// The text.
     pub fn as_str(&self) -> &str
         ensures { result.now ≡ bytes_of self.now }
     {
         match self {
-            Text::Written(text) => text.as_str(),
-            Text::Constant(text) => text,
+            AnswerText::Written(text) => text.as_str(),
+            AnswerText::Constant(text) => text,
         }
     }
 }

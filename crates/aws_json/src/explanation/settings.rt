@@ -6,7 +6,7 @@ use crate::explanation::words::{
 };
 use crate::members::members_in;
 use message::Fault;
-use queue_config::{Setting, Wish, row_of, setting_named};
+use queue_config::{Setting, Wish, setting_row, setting_named};
 use serde_json::{Category, Map, Value};
 use std::alloc::{AllocError, Global};
 
@@ -60,7 +60,7 @@ fn look_at_setting(alloc: Global, name: &str, text: &str) -> Looked {
 
 /// Says what is wrong with the text of a number.
 fn number(alloc: Global, setting: Setting, text: &str) -> Looked {
-    let row = row_of(setting);
+    let row = setting_row(setting);
     let place = inside(alloc, "Attributes", row.name)?;
     let range = range(alloc, u64::from(row.least), u64::from(row.most))?;
     let wanted = format!(in alloc; "{range}, in 1 to 9 digits, is")?;

@@ -6,7 +6,7 @@ use crate::entries::{given_handle, required_timeout as judged_timeout, timeout_w
 use crate::explanation::words::{Looked, found, missing, quoted, range, unwanted};
 use crate::members::{items_in, number_in, text_in, within};
 use crate::named_queue::{known_name, name_part, named_queue, new_name};
-use queue_config::{Setting, row_of};
+use queue_config::{Setting, setting_row};
 use queue_core::{LONGEST_TIMEOUT, MOST_OFFERS};
 use serde_json::Value;
 use std::alloc::Global;
@@ -102,7 +102,7 @@ pub(super) fn look_at_numbers(alloc: Global, body: &Value) -> Looked {
         return out_of_range(alloc, "", name, body, 0, u64::from(LONGEST_TIMEOUT));
     }
     let name = "WaitTimeSeconds";
-    let longest = u64::from(row_of(Setting::ReceiveMessageWaitTimeSeconds).most);
+    let longest = u64::from(setting_row(Setting::ReceiveMessageWaitTimeSeconds).most);
     if within(0, longest, number_in(body, name)).is_err() {
         return out_of_range(alloc, "", name, body, 0, longest);
     }

@@ -3,7 +3,7 @@
 use journal::{Moment, Origin};
 use message::{Content, Fault, MessageId, QueueName};
 use queue_config::{AlarmRule, Limits, Metric, Operator, Settings, Wish};
-use queue_core::{Command, Delay, Maximum, Parcel, QueueState, Step, Timeout};
+use queue_core::{Command, Delay, Maximum, Parcel, QueueState, TimedCommand, Timeout};
 use receipt_handle::Handle;
 use std::alloc::Global;
 
@@ -117,11 +117,11 @@ fn command(alloc: Global, text: &str) -> Result<Command, Fault> {
 }
 
 /// The moment and the command that a line says.
-pub(super) fn step(alloc: Global, line: &str) -> Result<Step, Fault> {
+pub(super) fn step(alloc: Global, line: &str) -> Result<TimedCommand, Fault> {
     let (at, call) = first_word(line);
     let at = moment(at)?;
     let command = command(alloc, call)?;
-    Ok(Step { at, command })
+    Ok(TimedCommand { at, command })
 }
 
 /// The rule of the queue's alarm, which is on where more than one message was visible in two of the last three

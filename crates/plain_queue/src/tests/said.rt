@@ -2,7 +2,7 @@
 
 use super::commands::{MOST_IN_FLIGHT, UID};
 use crate::{
-    Entries, awaits_transfer, content_of, created_time, first_receive_time, first_transfer,
+    FirstEntries, awaits_transfer, content_of, created_time, first_receive_time, first_transfer,
     gauges_of, has_accepted, is_closed, is_in_state, last_receive_time, message_count,
     message_numbered, modified_time, numbers_of, receive_count, receive_order, row_of, settings_of,
     waiting_count,
@@ -16,7 +16,7 @@ use receipt_handle::Handle;
 use std::alloc::Global;
 
 /// How much the entries weigh: 1 each, and a checkpoint, which stands first, 1 more for each message that it keeps.
-fn weight_of(lines: &Entries<'_>) -> u64 {
+fn weight_of(lines: &FirstEntries<'_>) -> u64 {
     let kept = match lines.get(0).map(|line| &line.event) {
         Some(Event::Base(base)) => base.messages().len() as u64,
         _ => 0,
@@ -25,7 +25,7 @@ fn weight_of(lines: &Entries<'_>) -> u64 {
 }
 
 /// What a look tells.
-pub(super) fn look_of(lines: &Entries<'_>, clock: Moment) -> Look {
+pub(super) fn look_of(lines: &FirstEntries<'_>, clock: Moment) -> Look {
     Look {
         gauges: gauges_of(lines, clock),
         settings: settings_of(lines),
@@ -49,7 +49,7 @@ fn id_of(message: &Message) -> MessageId {
 }
 
 /// Where the dead letter comes from that has waited longest, and the uid of the queue that it is for.
-pub(super) fn first_waiting_of(lines: &Entries<'_>) -> Result<Option<(Origin, u64)>, Fault> {
+pub(super) fn first_waiting_of(lines: &FirstEntries<'_>) -> Result<Option<(Origin, u64)>, Fault> {
     let name = QueueName::read("jobs")?;
     let Some(transfer) = first_transfer(lines) else {
         return Ok(None);
@@ -69,7 +69,7 @@ pub(super) fn first_waiting_of(lines: &Entries<'_>) -> Result<Option<(Origin, u6
 /// The metrics of each minute that has a row.
 pub(super) fn rows_of(
     alloc: Global,
-    lines: &Entries<'_>,
+    lines: &FirstEntries<'_>,
     clock: Moment,
 ) -> Result<Vec<Row>, Fault> {
     let (first, end) = window_of(created_time(lines), clock);
@@ -89,7 +89,7 @@ struct Scan {
 
 /// What a receive does at a time: it goes through the visible messages in order, until so many are offered or
 /// 100 leave.
-fn scanned(alloc: Global, lines: &Entries<'_>, clock: Moment, limit: usize) -> Result<Scan, Fault> {
+fn scanned(alloc: Global, lines: &FirstEntries<'_>, clock: Moment, limit: usize) -> Result<Scan, Fault> {
     let policy = settings_of(lines).redrive_policy;
     let most = policy.map_or(u64::MAX, |policy| u64::from(policy.max_receive_count));
     let mut offered = Vec::new(alloc);
@@ -109,7 +109,7 @@ fn scanned(alloc: Global, lines: &Entries<'_>, clock: Moment, limit: usize) -> R
 }
 
 /// The offer of a message at a time, with its content.
-fn offer_of(lines: &Entries<'_>, clock: Moment, message: &Message) -> Result<Option<Offer>, Fault> {
+fn offer_of(lines: &FirstEntries<'_>, clock: Moment, message: &Message) -> Result<Option<Offer>, Fault> {
     let Some(content) = content_of(lines, message) else {
         return Ok(None);
     };
@@ -132,7 +132,7 @@ fn text_of(alloc: Global, offers: &[Offer], leaving: &Numbers) -> Result<String,
 /// The same of the offers that answered a receive, whose entry is the last one.
 pub(super) fn tell_received(
     alloc: Global,
-    lines: &Entries<'_>,
+    lines: &FirstEntries<'_>,
     offers: &[Offer],
 ) -> Result<String, Fault> {
     let none = Numbers::new(alloc);
@@ -146,7 +146,7 @@ pub(super) fn tell_received(
 /// What a receive of at most so many does at a time.
 fn received(
     alloc: Global,
-    lines: &Entries<'_>,
+    lines: &FirstEntries<'_>,
     clock: Moment,
     maximum: u8,
 ) -> Result<String, Fault> {
@@ -165,14 +165,14 @@ fn received(
 }
 
 /// Whether a handle was given by the queue.
-fn is_given(lines: &Entries<'_>, handle: &Handle) -> bool {
+fn is_given(lines: &FirstEntries<'_>, handle: &Handle) -> bool {
     let receives = receive_count(lines, handle.number);
     let is_known = handle.uid == UID && handle.number < message_count(lines);
     is_known && 1 <= handle.receipt && handle.receipt <= receives
 }
 
 /// Whether a handle is the latest one of a message in flight.
-fn holds_in_flight(lines: &Entries<'_>, clock: Moment, handle: &Handle) -> bool {
+fn holds_in_flight(lines: &FirstEntries<'_>, clock: Moment, handle: &Handle) -> bool {
     match message_numbered(lines, handle.number) {
         Some(message) => {
             is_in_state(MessageState::InFlight, lines, clock, &message)
@@ -184,7 +184,7 @@ fn holds_in_flight(lines: &Entries<'_>, clock: Moment, handle: &Handle) -> bool 
 
 /// Why a change is refused at a time, if it is.
 fn change_refusal(
-    lines: &Entries<'_>,
+    lines: &FirstEntries<'_>,
     clock: Moment,
     handle: &Handle,
     timeout: u32,
@@ -205,7 +205,7 @@ fn change_refusal(
 }
 
 /// Whether the message of a number waits for its dead-letter queue.
-fn waits(lines: &Entries<'_>, number: u64) -> bool {
+fn waits(lines: &FirstEntries<'_>, number: u64) -> bool {
     match message_numbered(lines, number) {
         Some(message) => awaits_transfer(lines, &message),
         None => false,
@@ -213,7 +213,7 @@ fn waits(lines: &Entries<'_>, number: u64) -> bool {
 }
 
 /// What becomes of a dead letter that arrives.
-fn arrival(lines: &Entries<'_>, origin: &Origin) -> Arrival {
+fn arrival(lines: &FirstEntries<'_>, origin: &Origin) -> Arrival {
     if has_accepted(lines, origin.uid, origin.number) {
         Arrival::Again
     } else {
@@ -230,7 +230,7 @@ fn answer_text(alloc: Global, refusal: Option<Fault>, reply: Reply) -> Result<St
 }
 
 /// How many messages are live at a time or wait for their dead-letter queue.
-fn kept_count(lines: &Entries<'_>, clock: Moment) -> u64 {
+fn kept_count(lines: &FirstEntries<'_>, clock: Moment) -> u64 {
     let gauges = gauges_of(lines, clock);
     let hidden = gauges.delayed.saturating_add(gauges.in_flight);
     let mut count = gauges.visible.saturating_add(hidden);
@@ -243,12 +243,12 @@ fn kept_count(lines: &Entries<'_>, clock: Moment) -> u64 {
 }
 
 /// Whether a journal that may weigh so much is full: it weighs that, and so would a checkpoint.
-pub(super) fn is_full(lines: &Entries<'_>, clock: Moment, most_lines: u64) -> bool {
+pub(super) fn is_full(lines: &FirstEntries<'_>, clock: Moment, most_lines: u64) -> bool {
     most_lines <= weight_of(lines) && most_lines <= kept_count(lines, clock).saturating_add(1)
 }
 
 /// What refuses a command at a time before anything of it is asked.
-fn first_refusal(lines: &Entries<'_>, clock: Moment, most_lines: u64) -> Option<Fault> {
+fn first_refusal(lines: &FirstEntries<'_>, clock: Moment, most_lines: u64) -> Option<Fault> {
     if is_closed(lines) {
         return Some(Fault::QueueDoesNotExist);
     }
@@ -262,7 +262,7 @@ fn first_refusal(lines: &Entries<'_>, clock: Moment, most_lines: u64) -> Option<
 /// weigh so much.
 pub(super) fn foreseen(
     alloc: Global,
-    lines: &Entries<'_>,
+    lines: &FirstEntries<'_>,
     clock: Moment,
     command: &Command,
     most_lines: u32,

@@ -8,12 +8,12 @@ use Rattle.redrive.specs.declared.steps.HouseStep.{HouseStep}
 use Rattle.redrive.specs.declared.steps.HouseStep.TheVariants.{HandOver, Confirm}
 use Rattle.redrive.specs.World.{World, has_queue, arrive_answer, needs_confirmation, IsHandedOver, IsConfirmed, IsMoved}
 use Rattle.redrive.specs.Cost.{IsDone}
-use Rattle.redrive.specs.WorldRun.{Answer, act_of, world_after, IsAnswerOf, AreStepsTo, steps_of_move}
+use Rattle.redrive.specs.WorldRun.{HouseAnswer, act_of, world_after, IsAnswerOf, AreStepsTo, steps_of_move}
 use Rattle.redrive.proofs.AnswerLemmas.{accepted-there, confirmed-done, handed-done}
 
 -- an answer of the registry to a step leaves the new world
 record IsStepTo (old : World) (step : HouseStep) (new : World) : Type 0 where
-  answer : Answer
+  answer : HouseAnswer
   answered : IsAnswerOf old step answer
   left : new ≡ world_after old step answer
 
@@ -26,7 +26,7 @@ two old between new first second s t =
     record { answers = s.answer ∷ u.answer ∷ []; answered = (s.answered, (u.answered, tt)); left = u.left }
 
 -- what an act leaves
-act-step : (old : World) (step : HouseStep) (answer : Answer) (new : World) → IsDone old (act_of old step) answer new 0 0 → IsStepTo old step new
+act-step : (old : World) (step : HouseStep) (answer : HouseAnswer) (new : World) → IsDone old (act_of old step) answer new 0 0 → IsStepTo old step new
 act-step old step answer new d = record { answer = answer; answered = record { meets = d.meets; exact = d.exact }; left = d.left }
 
 -- ---- a hand-over

@@ -24,7 +24,7 @@ use Rattle.redrive.specs.World.{queue_of_uid}
 use Rattle.redrive.specs.History.{AllQueues, queue_ever, journal_of, was_accepted}
 use Rattle.redrive.specs.HistorySteps.{HistoryStep, AreHistoryAnswers, after_history_steps}
 use Rattle.redrive.specs.WholeSteps.{whole_after_steps}
-use Rattle.redrive.specs.WorldRun.{Answer}
+use Rattle.redrive.specs.WorldRun.{HouseAnswer}
 use Rattle.redrive.specs.Places.{first_history, acceptance_count, EachAcceptedOnce, IsNumbered, IsStanding, IsInTransit, Place, Standing, InTransit, IsPlaceOf, EachHasOnePlace, NoRelayDeleted}
 use Rattle.redrive.proofs.transfers.Journals.{Lines}
 use Rattle.redrive.proofs.transfers.Laws.{accepted_once, each_has_one_place}
@@ -150,13 +150,13 @@ module _ (all whole : AllQueues) (twins : AreTwins all whole) where
 
 -- ---- the laws
 
-pub accepted_once_there : (config : Configuration) (at : ℕ) (steps : List HistoryStep) (answers : List Answer) → AreHistoryAnswers (first_history config at) steps answers
+pub accepted_once_there : (config : Configuration) (at : ℕ) (steps : List HistoryStep) (answers : List HouseAnswer) → AreHistoryAnswers (first_history config at) steps answers
     → EachAcceptedOnce (after_history_steps (first_history config at) steps answers)
 accepted_once_there config at steps answers are =
     let t = history_twins config at steps answers are in
     accepted_too (after_history_steps (first_history config at) steps answers) (whole_after_steps (first_history config at) steps answers) t.twins (accepted_once config at steps answers t.ending)
 
-pub one_place_there : (config : Configuration) (at : ℕ) (steps : List HistoryStep) (answers : List Answer) → AreHistoryAnswers (first_history config at) steps answers
+pub one_place_there : (config : Configuration) (at : ℕ) (steps : List HistoryStep) (answers : List HouseAnswer) → AreHistoryAnswers (first_history config at) steps answers
     → NoRelayDeleted (first_history config at) steps answers → EachHasOnePlace (after_history_steps (first_history config at) steps answers)
 one_place_there config at steps answers are spared =
     let t = history_twins config at steps answers are in

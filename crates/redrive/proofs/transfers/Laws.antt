@@ -17,7 +17,7 @@ use Rattle.redrive.specs.declared.steps.HouseStep.{HouseStep}
 use Rattle.redrive.specs.declared.steps.HouseStep.TheVariants as steps
 use Rattle.redrive.specs.World.{new_world, queue_of_uid}
 use Rattle.redrive.specs.History.{AllQueues, journal_of}
-use Rattle.redrive.specs.WorldRun.{Answer, all_after, AreHouseAnswers, history_after}
+use Rattle.redrive.specs.WorldRun.{HouseAnswer, all_after, AreHouseAnswers, history_after}
 use Rattle.redrive.specs.HistorySteps.{HistoryStep, Own, AreHistoryAnswers, after_history_steps}
 use Rattle.redrive.specs.WholeSteps.{whole_after_step, whole_after_steps}
 use Rattle.redrive.specs.Places.{first_history, acceptance_count, EachAcceptedOnce, HasFate, EachHasItsFate, status_numbered, IsNumbered, IsStanding, IsInTransit, Standing, InTransit, EachHasOnePlace, came_from, IsRelay, IsSpared, NoRelayDeleted}
@@ -34,13 +34,13 @@ journal-lines : (all : AllQueues) (uid : ℕ) (lines : Lines) → journal_of all
 journal-lines all uid lines h = ap (λ (o : Option Lines). unwrap_or o []) h
 
 -- the keys of all that a journal accepts are distinct
-keys_once : (config : Configuration) (at : ℕ) (steps : List HistoryStep) (answers : List Answer) → AreEnding (first_history config at) steps answers
+keys_once : (config : Configuration) (at : ℕ) (steps : List HistoryStep) (answers : List HouseAnswer) → AreEnding (first_history config at) steps answers
     → IsOnce (view_of (whole_after_steps (first_history config at) steps answers))
 keys_once config at steps answers are =
     let b : Begins IsOnce (new_world config at) = begins IsOnce (λ v v' u e g o h. once-opened v v' u e g o h) (λ u s n. omega arith) config at in
     through IsOnce (λ all step answer change h. once-after _ _ change h) (first_history config at) steps answers are b.fresh b.so
 
-pub accepted_once : (config : Configuration) (at : ℕ) (steps : List HistoryStep) (answers : List Answer) → AreEnding (first_history config at) steps answers
+pub accepted_once : (config : Configuration) (at : ℕ) (steps : List HistoryStep) (answers : List HouseAnswer) → AreEnding (first_history config at) steps answers
     → EachAcceptedOnce (whole_after_steps (first_history config at) steps answers)
 accepted_once config at steps answers are uid source number lines is =
     let all : AllQueues = whole_after_steps (first_history config at) steps answers in
@@ -64,7 +64,7 @@ module _ (all : AllQueues) (uid : ℕ) (q : QueueHistory) (here : queue_of_uid a
       }))
   fate-told (inr (inr h)) = inr (inr h)
 
-pub each_has_its_fate : (config : Configuration) (at : ℕ) (steps : List HistoryStep) (answers : List Answer) → AreEnding (first_history config at) steps answers
+pub each_has_its_fate : (config : Configuration) (at : ℕ) (steps : List HistoryStep) (answers : List HouseAnswer) → AreEnding (first_history config at) steps answers
     → EachHasItsFate (whole_after_steps (first_history config at) steps answers)
 each_has_its_fate config at steps answers are uid place t q here d =
     let b : Begins HasFates (new_world config at) = begins HasFates (λ v v' u e g o h. fates-opened v v' u e g o h) (λ u h. absurd (false≢true h)) config at in
@@ -109,7 +109,7 @@ relay_told all uid here r =
       gone_on = accepted-lines (journal_of all r.next) uid r.own_number r.gone_on;
     }
 
-spared_told : (all : AllQueues) (step : HistoryStep) (answer : Answer) → IsSpared all step answer → (uid : ℕ) → (view_of all).is_open uid ≡ true → IsEnding step answer uid → Relays (view_of all) uid → ⊥
+spared_told : (all : AllQueues) (step : HistoryStep) (answer : HouseAnswer) → IsSpared all step answer → (uid : ℕ) → (view_of all).is_open uid ≡ true → IsEnding step answer uid → Relays (view_of all) uid → ⊥
 spared_told all (Own (steps.Delete at own)) (Ok reply) spared uid here is r = spared (subst (IsRelay all) (sym is) (relay_told all uid here r))
 spared_told all step answer spared uid here is r = absurd is
 
@@ -118,7 +118,7 @@ record IsHeld (all : AllQueues) : Type 0 where
   sound : IsSound (view_of all)
   one : HasOneHolder (view_of all)
 
-held-after : (all : AllQueues) (step : HistoryStep) (answer : Answer) → Change (IsEnding step answer) (view_of all) (view_of (whole_after_step all step answer)) → IsSpared all step answer → IsHeld all → IsHeld (whole_after_step all step answer)
+held-after : (all : AllQueues) (step : HistoryStep) (answer : HouseAnswer) → Change (IsEnding step answer) (view_of all) (view_of (whole_after_step all step answer)) → IsSpared all step answer → IsHeld all → IsHeld (whole_after_step all step answer)
 held-after all step answer change spared h = record {
   sound = sound-after (view_of all) (view_of (whole_after_step all step answer)) change h.sound;
   one = one-after (view_of all) (view_of (whole_after_step all step answer)) change h.sound (spared_told all step answer spared) h.one;
@@ -167,7 +167,7 @@ one_place all one id (InTransit u n) (InTransit w k) h h' =
 abbrev IsWell : View → Type 0
 IsWell v = IsSound v × HasOneHolder v
 
-pub each_has_one_place : (config : Configuration) (at : ℕ) (steps : List HistoryStep) (answers : List Answer) → AreEnding (first_history config at) steps answers
+pub each_has_one_place : (config : Configuration) (at : ℕ) (steps : List HistoryStep) (answers : List HouseAnswer) → AreEnding (first_history config at) steps answers
     → NoRelayDeleted (first_history config at) steps answers → EachHasOnePlace (whole_after_steps (first_history config at) steps answers)
 each_has_one_place config at steps answers are spared =
     let nothing : IsSound (record { is_open = λ u. false; lines = λ u. [] }) = record {
@@ -184,13 +184,13 @@ each_has_one_place config at steps answers are spared =
 
 -- ---- the registry's own steps
 
-pub own-answered : (all : AllQueues) (steps : List HouseStep) (answers : List Answer) → AreHouseAnswers all.world steps answers → AreHistoryAnswers all (map Own steps) answers
+pub own-answered : (all : AllQueues) (steps : List HouseStep) (answers : List HouseAnswer) → AreHouseAnswers all.world steps answers → AreHistoryAnswers all (map Own steps) answers
 own-answered all [] [] h = tt
 own-answered all [] (answer ∷ answers) h = absurd h
 own-answered all (step ∷ steps) [] h = absurd h
 own-answered all (step ∷ steps) (answer ∷ answers) h = (h.0, own-answered (all_after all step answer) steps answers h.1)
 
-pub own-left : (all : AllQueues) (steps : List HouseStep) (answers : List Answer) → after_history_steps all (map Own steps) answers ≡ history_after all steps answers
+pub own-left : (all : AllQueues) (steps : List HouseStep) (answers : List HouseAnswer) → after_history_steps all (map Own steps) answers ≡ history_after all steps answers
 own-left all [] answers = refl
 own-left all (step ∷ steps) [] = refl
 own-left all (step ∷ steps) (answer ∷ answers) = own-left (all_after all step answer) steps answers

@@ -6,7 +6,7 @@ use Rattle.queue_config.specs.declared.config.ConfiguredAlarm.{ConfiguredAlarm}
 use Rattle.queue_config.specs.declared.config.ConfiguredQueue.{ConfiguredQueue}
 use Rattle.redrive.specs.World.{World, empty_world, with_queue, next_queue, new_world}
 use Rattle.redrive.specs.History.{AllQueues}
-use Rattle.redrive.specs.WorldRun.{Answer}
+use Rattle.redrive.specs.WorldRun.{HouseAnswer}
 use Rattle.redrive.specs.HistorySteps.{HistoryStep}
 use Rattle.redrive.specs.WholeSteps.{whole_after_step, whole_after_steps}
 use Rattle.redrive.specs.Places.{IsSpared, NoRelayDeleted}
@@ -15,7 +15,7 @@ use Rattle.redrive.proofs.transfers.Views.{View, view_of, Grows, IsOpened, Chang
 use Rattle.redrive.proofs.transfers.Worlds.{IsFresh, LeadsTo, IsEnding, Ends, history-led, opening, opened-grows, opened-is, opened-fresh}
 
 -- each deletion of a list is answered as it is done
-abbrev pub AreEnding : AllQueues → List HistoryStep → List Answer → Type 0
+abbrev pub AreEnding : AllQueues → List HistoryStep → List HouseAnswer → Type 0
 AreEnding all [] answers = ⊤
 AreEnding all (step ∷ steps) [] = ⊤
 AreEnding all (step ∷ steps) (answer ∷ answers) = Ends all step answer × AreEnding (whole_after_step all step answer) steps answers
@@ -43,8 +43,8 @@ module _ (P : View → Type 0) where
   begins f h config at =
       begins-with f at config.alarms config.queues (empty_world config.limits) (record { fresh = record { none_there = λ u l. refl; none_deleted = λ u l. refl }; so = h })
 
-  pub through : ((all : AllQueues) (step : HistoryStep) (answer : Answer) → Change (IsEnding step answer) (view_of all) (view_of (whole_after_step all step answer)) → P (view_of all) → P (view_of (whole_after_step all step answer)))
-      → (all : AllQueues) (steps : List HistoryStep) (answers : List Answer) → AreEnding all steps answers → IsFresh all → P (view_of all) → P (view_of (whole_after_steps all steps answers))
+  pub through : ((all : AllQueues) (step : HistoryStep) (answer : HouseAnswer) → Change (IsEnding step answer) (view_of all) (view_of (whole_after_step all step answer)) → P (view_of all) → P (view_of (whole_after_step all step answer)))
+      → (all : AllQueues) (steps : List HistoryStep) (answers : List HouseAnswer) → AreEnding all steps answers → IsFresh all → P (view_of all) → P (view_of (whole_after_steps all steps answers))
   through f all [] answers are fresh h = h
   through f all (step ∷ steps) [] are fresh h = h
   through f all (step ∷ steps) (answer ∷ answers) are fresh h =
@@ -53,8 +53,8 @@ module _ (P : View → Type 0) where
 
 -- what every step keeps that spares relays is so after each list of such steps
 pub through_spared : (P : AllQueues → Type 0)
-    → ((all : AllQueues) (step : HistoryStep) (answer : Answer) → Change (IsEnding step answer) (view_of all) (view_of (whole_after_step all step answer)) → IsSpared all step answer → P all → P (whole_after_step all step answer))
-    → (all : AllQueues) (steps : List HistoryStep) (answers : List Answer) → AreEnding all steps answers → NoRelayDeleted all steps answers → IsFresh all → P all → P (whole_after_steps all steps answers)
+    → ((all : AllQueues) (step : HistoryStep) (answer : HouseAnswer) → Change (IsEnding step answer) (view_of all) (view_of (whole_after_step all step answer)) → IsSpared all step answer → P all → P (whole_after_step all step answer))
+    → (all : AllQueues) (steps : List HistoryStep) (answers : List HouseAnswer) → AreEnding all steps answers → NoRelayDeleted all steps answers → IsFresh all → P all → P (whole_after_steps all steps answers)
 through_spared P f all [] answers are spared fresh h = h
 through_spared P f all (step ∷ steps) [] are spared fresh h = h
 through_spared P f all (step ∷ steps) (answer ∷ answers) are spared fresh h =

@@ -28,8 +28,8 @@ use Rattle.queue_core.specs.Queue.{QueueHistory, at_moment, outcome_in, reached,
 use Rattle.redrive.specs.declared.steps.HouseReply.TheVariants as replies
 use Rattle.redrive.specs.declared.steps.HouseStep.{HouseStep}
 use Rattle.redrive.specs.declared.steps.HouseStep.TheVariants as steps
-use Rattle.redrive.specs.World.{World, empty_world, with_queue, next_queue, new_world, queue_named, found_uid, has_queue, target_uid, may_name_target, may_set, is_internal, step_refusal, has_target, with_queue_changed, world_after_command, without_queue, first_parcel_in, Delivery, accepted_number}
-use Rattle.redrive.specs.WorldRun.{Answer, WorldChange, Nothing, Performs, Opens, Closes, Passes, perform_act, hand_over_act, confirm_act, act_of, world_changed, world_after, world_after_all}
+use Rattle.redrive.specs.World.{World, empty_world, with_queue, next_queue, new_world, queue_named, found_uid, has_queue, target_uid, may_name_target, may_set, is_internal, step_refusal, has_target, with_queue_changed, world_after_command, without_queue, first_parcel_in, AddressedCommand, accepted_number}
+use Rattle.redrive.specs.WorldRun.{HouseAnswer, WorldChange, Nothing, Performs, Opens, Closes, Passes, perform_act, hand_over_act, confirm_act, act_of, world_changed, world_after, world_after_all}
 use Rattle.queue_core.proofs.CauseLemmas.{IsSoOfAdded, added}
 use Rattle.queue_core.proofs.PushLemmas.{settings_from-push}
 use Rattle.redrive.proofs.KeyedLemmas.{find-holds}
@@ -187,7 +187,7 @@ Aims w (Opens name settings) = names_uid w.next_uid settings.redrive_policy ≡ 
 Aims w change = ⊤
 
 module _ (w : World) (at : ℕ) (h : AreAimed w) where
-  after_change : (change : WorldChange) (answer : Answer) → Aims w change → AreAimed (world_changed w at change answer)
+  after_change : (change : WorldChange) (answer : HouseAnswer) → Aims w change → AreAimed (world_changed w at change answer)
   after_change Nothing answer aims = h
   after_change (Performs uid command) answer aims = commanded w at answer h uid command aims
   after_change (Opens name settings) answer aims =
@@ -209,7 +209,7 @@ module _ (w : World) (at : ℕ) where
   performed-aims uid command (Some fault) e = tt
   performed-aims uid command None e = performed-sets w uid command e
 
-  delivered-aims : (source : ℕ) (p : Parcel) (b : Bool) → let d : Delivery = cond b (record { uid = p.target; command = commands.Arrive p }) (record { uid = source; command = commands.Orphan p.target }) in Sets d.uid d.command
+  delivered-aims : (source : ℕ) (p : Parcel) (b : Bool) → let d : AddressedCommand = cond b (record { uid = p.target; command = commands.Arrive p }) (record { uid = source; command = commands.Orphan p.target }) in Sets d.uid d.command
   delivered-aims source p true = λ policy wish target is k. absurd cc
   delivered-aims source p false = λ policy wish target is k. absurd cc
 
@@ -229,10 +229,10 @@ step-aims w (steps.HandOver at source) h = handed-aims w at source (first_parcel
 step-aims w (steps.Confirm at source) h = confirmed-aims w at source (accepted_number w source)
 step-aims w (steps.Advance at) h = tt
 
-after_step : (w : World) (step : HouseStep) (answer : Answer) → AreAimed w → AreAimed (world_after w step answer)
+after_step : (w : World) (step : HouseStep) (answer : HouseAnswer) → AreAimed w → AreAimed (world_after w step answer)
 after_step w step answer h = after_change w (act_of w step).at h (act_of w step).change answer (step-aims w step h)
 
-after_all : (w : World) (steps : List HouseStep) (answers : List Answer) → AreAimed w → AreAimed (world_after_all w steps answers)
+after_all : (w : World) (steps : List HouseStep) (answers : List HouseAnswer) → AreAimed w → AreAimed (world_after_all w steps answers)
 after_all w [] answers h = h
 after_all w (step ∷ steps) [] h = h
 after_all w (step ∷ steps) (answer ∷ answers) h = after_all (world_after w step answer) steps answers (after_step w step answer h)
@@ -271,7 +271,7 @@ begun names at alarms (q ∷ queues) before w is next targets h =
     begun names at alarms queues (before ++ q.name ∷ []) (with_queue w (next_queue w at q.name q.settings (rules_of alarms w.next_uid))) (is ∙ sym (append_assoc before (q.name ∷ []) (names_of queues)))
     (rw length-append (omega arith)) (All-tail P q queues targets) (opened w at h (next_queue w at q.name q.settings (rules_of alarms w.next_uid)) refl other)
 
-pub none_its_own : (config : Configuration) (at : ℕ) (steps : List HouseStep) (answers : List Answer) → AreConfigured config.queues
+pub none_its_own : (config : Configuration) (at : ℕ) (steps : List HouseStep) (answers : List HouseAnswer) → AreConfigured config.queues
     → All (λ q. has_target q.uid q ≡ false) (world_after_all (new_world config at) steps answers).queues
 none_its_own config at steps answers configured =
     let w : World = world_after_all (new_world config at) steps answers in

@@ -27,9 +27,9 @@ use Rattle.queue_core.proofs.WholeLemmas.{AreAlike, later, alike_after, opened_a
 use Rattle.redrive.specs.declared.steps.HouseReply.{HouseReply}
 use Rattle.redrive.specs.declared.steps.HouseReply.TheVariants as replies
 use Rattle.redrive.specs.declared.steps.HouseStep.TheVariants as steps
-use Rattle.redrive.specs.World.{World, empty_world, with_queue, next_queue, queue_of_uid, queue_named, has_queue, found_uid, named_target, target_uid, may_name_target, has_no_place, opens_queue, is_internal, may_set, step_refusal, reply_alone, queue_answer, with_queue_changed, without_queue, closed_queue, Delivery, delivery_of, moved_of, first_parcel_in, is_accepted, accepted_number, world_at_moment}
+use Rattle.redrive.specs.World.{World, empty_world, with_queue, next_queue, queue_of_uid, queue_named, has_queue, found_uid, named_target, target_uid, may_name_target, has_no_place, opens_queue, is_internal, may_set, step_refusal, reply_alone, queue_answer, with_queue_changed, without_queue, closed_queue, AddressedCommand, delivery_of, moved_of, first_parcel_in, is_accepted, accepted_number, world_at_moment}
 use Rattle.redrive.specs.History.{AllQueues, queue_ever, was_accepted}
-use Rattle.redrive.specs.WorldRun.{Answer, as_house_reply, WorldChange, Nothing, Performs, Opens, Closes, Passes, Act, perform_act, hand_over_act, confirm_act, answer_of_act, all_changed}
+use Rattle.redrive.specs.WorldRun.{HouseAnswer, as_house_reply, WorldChange, Nothing, Performs, Opens, Closes, Passes, Act, perform_act, hand_over_act, confirm_act, answer_of_act, all_changed}
 use Rattle.redrive.specs.HistorySteps.{HistoryStep, Own, Settle, settled_number, act_in_history, IsHistoryAnswer, AreHistoryAnswers, after_history_step, after_history_steps}
 use Rattle.redrive.specs.WholeSteps.{with_command, whole_changed, whole_after_step, whole_after_steps, StandsIn, StandForWhole}
 use Rattle.redrive.specs.Places.{first_history}
@@ -240,7 +240,7 @@ module _ (all whole : AllQueues) (h : AreTwins all whole) where
 
   delivery_alike : (source : ℕ) (p : Parcel) → delivery_of all.world source p ≡ delivery_of whole.world source p
   delivery_alike source p =
-      ap (λ (b : Bool). let d : Delivery = cond b (record { uid = p.target; command = commands.Arrive p }) (record { uid = source; command = commands.Orphan p.target }) in d) (has_alike p.target)
+      ap (λ (b : Bool). let d : AddressedCommand = cond b (record { uid = p.target; command = commands.Arrive p }) (record { uid = source; command = commands.Orphan p.target }) in d) (has_alike p.target)
 
   accepted_number_alike : (source : ℕ) → accepted_number all.world source ≡ accepted_number whole.world source
   accepted_number_alike source = λ i. option_and_then (λ p. cond (is_accepted_alike p i) (Some p.origin.number) None) (parcel_in_alike source i)
@@ -306,7 +306,7 @@ abbrev ToldIn : {T : Type 0} → AllQueues → ℕ → ℕ → Command → Resul
 ToldIn all uid at command answer =
     (q : QueueHistory) → queue_of_uid all.world uid ≡ Some q → is_out_of_memory answer ≡ false → is_journal_full answer ≡ is_journal_full (outcome_at q at command).reply
 
-abbrev Tells : AllQueues → ℕ → WorldChange → Answer → Type 0
+abbrev Tells : AllQueues → ℕ → WorldChange → HouseAnswer → Type 0
 Tells all at (Performs uid command) answer = ToldIn all uid at command answer
 Tells all at change answer = ⊤
 
@@ -390,7 +390,7 @@ module _ (all whole : AllQueues) (h : AreTwins all whole) where
         (All-weaker (λ q. q.uid < all.world.next_uid) (λ q. (at_moment q at).uid < all.world.next_uid) (λ q l. l) all.world.queues h.used);
   }
 
-  both_changed : (at : ℕ) (change : WorldChange) (answer : Answer) → Tells all at change answer → AreTwins (all_changed all at change answer) (whole_changed whole at change answer)
+  both_changed : (at : ℕ) (change : WorldChange) (answer : HouseAnswer) → Tells all at change answer → AreTwins (all_changed all at change answer) (whole_changed whole at change answer)
   both_changed at Nothing answer told = h
   both_changed at (Performs uid command) answer told = commanded_twins uid at command answer told
   both_changed at (Opens name settings) answer told = opened-by at name settings (is_out_of_memory answer)
@@ -407,14 +407,14 @@ house_full f (Ok reply) = refl
 house_full f (Err fault) = refl
 
 -- what meets a queue's reply
-met_reply : (f : Reply → HouseReply) (answer : Answer) (r : Result Reply Fault) → Meets answer (as_house_reply f r) → is_out_of_memory answer ≡ false → is_journal_full answer ≡ is_journal_full r
+met_reply : (f : Reply → HouseReply) (answer : HouseAnswer) (r : Result Reply Fault) → Meets answer (as_house_reply f r) → is_out_of_memory answer ≡ false → is_journal_full answer ≡ is_journal_full r
 met_reply f answer r h memory = met_told answer (as_house_reply f r) h memory ∙ house_full f r
 
 -- the reply of the queue that is found
 alone_full : (o : Option QueueHistory) (q : QueueHistory) (at : ℕ) (command : Command) → o ≡ Some q → is_journal_full (reply_alone o at command) ≡ is_journal_full (outcome_at q at command).reply
 alone_full o q at command here = ap (λ (o : Option QueueHistory). is_journal_full (reply_alone o at command)) here
 
-module _ (all : AllQueues) (at : ℕ) (answer : Answer) where
+module _ (all : AllQueues) (at : ℕ) (answer : HouseAnswer) where
   created_tells : (opens : Bool) (name : List ℕ) (settings : QueueSettings) → Tells all at (cond opens (Opens name settings) Nothing) answer
   created_tells true name settings = tt
   created_tells false name settings = tt
@@ -439,15 +439,15 @@ module _ (all : AllQueues) (at : ℕ) (answer : Answer) where
       met_told answer (as_house_reply replies.Confirmed (queue_answer all.world source at (commands.Settle n))) meets memory
       ∙ house_full replies.Confirmed (queue_answer all.world source at (commands.Settle n)) ∙ alone_full (queue_of_uid all.world source) q at (commands.Settle n) here
 
-handed_tells : (all : AllQueues) (at source : ℕ) (answer : Answer) (o : Option Parcel) → Meets answer (answer_of_act all.world (hand_over_act all.world at source o))
+handed_tells : (all : AllQueues) (at source : ℕ) (answer : HouseAnswer) (o : Option Parcel) → Meets answer (answer_of_act all.world (hand_over_act all.world at source o))
     → Tells all (hand_over_act all.world at source o).at (hand_over_act all.world at source o).change answer
 handed_tells all at source answer None meets = tt
 handed_tells all at source answer (Some p) meets = λ q here memory.
-    let d : Delivery = delivery_of all.world source p in
+    let d : AddressedCommand = delivery_of all.world source p in
     met_reply (λ reply. replies.HandedOver (moved_of reply)) answer (reply_alone (queue_of_uid all.world d.uid) at d.command) meets memory
     ∙ alone_full (queue_of_uid all.world d.uid) q at d.command here
 
-step_tells : (all : AllQueues) (step : HistoryStep) (answer : Answer) → IsHistoryAnswer all step answer → Tells all (act_in_history all step).at (act_in_history all step).change answer
+step_tells : (all : AllQueues) (step : HistoryStep) (answer : HouseAnswer) → IsHistoryAnswer all step answer → Tells all (act_in_history all step).at (act_in_history all step).change answer
 step_tells all (Own (steps.Create at name wish)) answer h = created_tells all at answer (opens_queue all.world name wish) name (settings_with default_settings wish (target_uid all.world wish))
 step_tells all (Own (steps.Delete at uid)) answer h = tt
 step_tells all (Own (steps.Perform at uid command)) answer h = performed_tells all at answer uid command (step_refusal all.world uid command) h.meets
@@ -463,7 +463,7 @@ found_there (Some q) p w found e = (q, refl)
 found_there None (Some v) w found e = absurd found
 found_there None None w found e = absurd cc
 
-step_ends : (all whole : AllQueues) (step : HistoryStep) (answer : Answer) → AreTwins all whole → IsHistoryAnswer all step answer → Ends whole step answer
+step_ends : (all whole : AllQueues) (step : HistoryStep) (answer : HouseAnswer) → AreTwins all whole → IsHistoryAnswer all step answer → Ends whole step answer
 step_ends all whole (Own (steps.Delete at uid)) answer h are = λ w here memory.
     let q = found_there (queue_of_uid all.world uid) (queue_of_uid whole.world uid) w (uid_alike all whole h uid) here in
     deletion-known at uid answer (queue_of_uid all.world uid) q.0 q.1 memory are.meets
@@ -474,7 +474,7 @@ step_ends all whole (Own (steps.Confirm at source)) answer h are = tt
 step_ends all whole (Own (steps.Advance at)) answer h are = tt
 step_ends all whole (Settle at source) answer h are = tt
 
-step_twins : (all whole : AllQueues) (step : HistoryStep) (answer : Answer) → AreTwins all whole → IsHistoryAnswer all step answer
+step_twins : (all whole : AllQueues) (step : HistoryStep) (answer : HouseAnswer) → AreTwins all whole → IsHistoryAnswer all step answer
     → AreTwins (after_history_step all step answer) (whole_after_step whole step answer)
 step_twins all whole step answer h are =
     subst (λ (x : AllQueues). AreTwins (after_history_step all step answer) x)
@@ -483,11 +483,11 @@ step_twins all whole step answer h are =
 
 -- ---- a list of steps
 
-pub record StayTwins (all whole : AllQueues) (steps : List HistoryStep) (answers : List Answer) : Type 0 where
+pub record StayTwins (all whole : AllQueues) (steps : List HistoryStep) (answers : List HouseAnswer) : Type 0 where
   pub ending : AreEnding whole steps answers
   pub twins : AreTwins (after_history_steps all steps answers) (whole_after_steps whole steps answers)
 
-pub steps_twins : (all whole : AllQueues) (steps : List HistoryStep) (answers : List Answer) → AreTwins all whole → AreHistoryAnswers all steps answers → StayTwins all whole steps answers
+pub steps_twins : (all whole : AllQueues) (steps : List HistoryStep) (answers : List HouseAnswer) → AreTwins all whole → AreHistoryAnswers all steps answers → StayTwins all whole steps answers
 steps_twins all whole [] [] h are = record { ending = tt; twins = h }
 steps_twins all whole [] (answer ∷ answers) h are = absurd are
 steps_twins all whole (step ∷ steps) [] h are = absurd are
@@ -510,7 +510,7 @@ first_twins config at =
     begun_twins at config.alarms config.queues (empty_world config.limits)
     (record { limits = refl; next = refl; there = tt; gone = tt; own = tt; used = All-nil (λ q. q.uid < 1) })
 
-pub history_twins : (config : Configuration) (at : ℕ) (steps : List HistoryStep) (answers : List Answer) → AreHistoryAnswers (first_history config at) steps answers
+pub history_twins : (config : Configuration) (at : ℕ) (steps : List HistoryStep) (answers : List HouseAnswer) → AreHistoryAnswers (first_history config at) steps answers
     → StayTwins (first_history config at) (first_history config at) steps answers
 history_twins config at steps answers are = steps_twins (first_history config at) (first_history config at) steps answers (first_twins config at) are
 
@@ -520,7 +520,7 @@ stands_in None (Some w) h = absurd h
 stands_in (Some q) None h = absurd h
 stands_in (Some q) (Some w) h = h.stands
 
-pub stand_for_whole : (config : Configuration) (at : ℕ) (steps : List HistoryStep) (answers : List Answer) → AreHistoryAnswers (first_history config at) steps answers
+pub stand_for_whole : (config : Configuration) (at : ℕ) (steps : List HistoryStep) (answers : List HouseAnswer) → AreHistoryAnswers (first_history config at) steps answers
     → StandForWhole (after_history_steps (first_history config at) steps answers) (whole_after_steps (first_history config at) steps answers)
 stand_for_whole config at steps answers are =
     let all : AllQueues = after_history_steps (first_history config at) steps answers in

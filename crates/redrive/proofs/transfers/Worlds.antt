@@ -25,9 +25,9 @@ use Rattle.queue_core.specs.Kept.{opened_queue}
 use Rattle.redrive.specs.declared.steps.HouseReply.TheVariants as replies
 use Rattle.redrive.specs.declared.steps.HouseStep.{HouseStep}
 use Rattle.redrive.specs.declared.steps.HouseStep.TheVariants as steps
-use Rattle.redrive.specs.World.{World, queue_of_uid, has_queue, with_queue, next_queue, with_queue_changed, without_queue, closed_queue, taken_alone, is_internal, may_set, step_refusal, first_parcel_in, Delivery, is_accepted, accepted_number, target_uid, opens_queue, world_at_moment}
+use Rattle.redrive.specs.World.{World, queue_of_uid, has_queue, with_queue, next_queue, with_queue_changed, without_queue, closed_queue, taken_alone, is_internal, may_set, step_refusal, first_parcel_in, AddressedCommand, is_accepted, accepted_number, target_uid, opens_queue, world_at_moment}
 use Rattle.redrive.specs.History.{AllQueues, journal_of, was_accepted}
-use Rattle.redrive.specs.WorldRun.{Answer, as_house_reply, WorldChange, Act, perform_act, hand_over_act, confirm_act, act_of}
+use Rattle.redrive.specs.WorldRun.{HouseAnswer, as_house_reply, WorldChange, Act, perform_act, hand_over_act, confirm_act, act_of}
 use Rattle.redrive.specs.WorldRun as run
 use Rattle.redrive.specs.HistorySteps.{HistoryStep, Own, Settle, settled_number}
 use Rattle.redrive.specs.WholeSteps.{with_command, whole_changed, whole_after_step}
@@ -202,7 +202,7 @@ module _ (all : AllQueues) (source at : ℕ) (p : Parcel) (its : IsParcelOf all 
         unaccepted = ap (λ (ls : Lines). has_accepted ls p.origin.uid p.origin.number) (lines_there all p.target q h) ∙ a.first;
       })
 
-  delivered-says : (b : Bool) → has_queue all.world p.target ≡ b → let d : Delivery = cond b (record { uid = p.target; command = commands.Arrive p }) (record { uid = source; command = commands.Orphan p.target }) in
+  delivered-says : (b : Bool) → has_queue all.world p.target ≡ b → let d : AddressedCommand = cond b (record { uid = p.target; command = commands.Arrive p }) (record { uid = source; command = commands.Orphan p.target }) in
       Says all at d.uid d.command
   delivered-says true e = arrival-says
   delivered-says false e = λ q event h added. subst (IsStep (view_of all) source) (sym (orphaned-at q at event p.target added)) e
@@ -348,7 +348,7 @@ time-led all at fresh = record {
 
 module _ (ending : ℕ → Type 0) (all : AllQueues) (at : ℕ) where
   -- what is to be known of a change: what its command adds is a step, and the queue that it closes is known to end
-  abbrev Fits : WorldChange → Answer → Type 0
+  abbrev Fits : WorldChange → HouseAnswer → Type 0
   Fits (run.Performs uid command) answer = Says all at uid command
   Fits (run.Closes uid) answer = (q : QueueHistory) → queue_of_uid all.world uid ≡ Some q → is_out_of_memory answer ≡ false → ending uid
   Fits change answer = ⊤
@@ -368,7 +368,7 @@ module _ (ending : ℕ → Type 0) (all : AllQueues) (at : ℕ) where
   closed-by uid false None here ends fresh = same-led all (without_queue all.world uid) (without-none all.world uid here) fresh
   closed-by uid false (Some q) here ends fresh = closed-led all uid at fresh q here (ends q here refl)
 
-  change-led : (change : WorldChange) (answer : Answer) → IsFresh all → Fits change answer → LeadsTo ending all (whole_changed all at change answer)
+  change-led : (change : WorldChange) (answer : HouseAnswer) → IsFresh all → Fits change answer → LeadsTo ending all (whole_changed all at change answer)
   change-led run.Nothing answer fresh fits = nothing-led all fresh
   change-led (run.Performs uid command) answer fresh fits = command-led all uid at command answer fresh fits
   change-led (run.Opens name settings) answer fresh fits = opened-by name settings (is_out_of_memory answer) fresh
@@ -378,20 +378,20 @@ module _ (ending : ℕ → Type 0) (all : AllQueues) (at : ℕ) where
 -- ---- every step
 
 -- whether a step with this answer deletes the queue of a uid
-abbrev pub IsDeletion : HouseStep → Answer → ℕ → Type 0
+abbrev pub IsDeletion : HouseStep → HouseAnswer → ℕ → Type 0
 IsDeletion (steps.Delete at own) (Ok reply) uid = own ≡ uid
 IsDeletion step answer uid = ⊥
 
-pub deletion-known : (at uid : ℕ) (answer : Answer) (o : Option QueueHistory) (q : QueueHistory) → o ≡ Some q → is_out_of_memory answer ≡ false
+pub deletion-known : (at uid : ℕ) (answer : HouseAnswer) (o : Option QueueHistory) (q : QueueHistory) → o ≡ Some q → is_out_of_memory answer ≡ false
     → Meets answer (as_house_reply replies.Deleted (taken_alone o at)) → IsDeletion (steps.Delete at uid) answer uid
 deletion-known at uid (Ok reply) o q here e meets = refl
 deletion-known at uid (Err fault) o q here e meets =
-    let is : ◌≡◌ {A = Answer} (Err fault) (as_house_reply replies.Deleted (taken_alone o at)) =
-    subst (λ (b : Bool). MatchBool b ⊤ (◌≡◌ {A = Answer} (Err fault) (as_house_reply replies.Deleted (taken_alone o at)))) e meets in
-    let same : ◌≡◌ {A = Answer} (Err fault) (Ok (replies.Deleted (closed_queue q at))) = is ∙ ap (λ (o : Option QueueHistory). as_house_reply replies.Deleted (taken_alone o at)) here in
+    let is : ◌≡◌ {A = HouseAnswer} (Err fault) (as_house_reply replies.Deleted (taken_alone o at)) =
+    subst (λ (b : Bool). MatchBool b ⊤ (◌≡◌ {A = HouseAnswer} (Err fault) (as_house_reply replies.Deleted (taken_alone o at)))) e meets in
+    let same : ◌≡◌ {A = HouseAnswer} (Err fault) (Ok (replies.Deleted (closed_queue q at))) = is ∙ ap (λ (o : Option QueueHistory). as_house_reply replies.Deleted (taken_alone o at)) here in
     absurd cc
 
-module _ (ending : ℕ → Type 0) (all : AllQueues) (answer : Answer) (at uid : ℕ) where
+module _ (ending : ℕ → Type 0) (all : AllQueues) (answer : HouseAnswer) (at uid : ℕ) where
   abbrev FitsAct : Act → Type 0
   FitsAct act = Fits ending all act.at act.change answer
 
@@ -412,11 +412,11 @@ module _ (ending : ℕ → Type 0) (all : AllQueues) (answer : Answer) (at uid :
   confirmed-fits (Some n) says = says n refl
 
 -- a deletion that finds the queue and memory is answered as done
-abbrev pub Ends : AllQueues → HistoryStep → Answer → Type 0
+abbrev pub Ends : AllQueues → HistoryStep → HouseAnswer → Type 0
 Ends all (Own (steps.Delete at uid)) answer = (q : QueueHistory) → queue_of_uid all.world uid ≡ Some q → is_out_of_memory answer ≡ false → IsDeletion (steps.Delete at uid) answer uid
 Ends all step answer = ⊤
 
-step-fits : (all : AllQueues) (step : HouseStep) (answer : Answer) → Ends all (Own step) answer → Fits (IsDeletion step answer) all (act_of all.world step).at (act_of all.world step).change answer
+step-fits : (all : AllQueues) (step : HouseStep) (answer : HouseAnswer) → Ends all (Own step) answer → Fits (IsDeletion step answer) all (act_of all.world step).at (act_of all.world step).change answer
 step-fits all (steps.Create at name wish) answer ends = created-fits (IsDeletion (steps.Create at name wish) answer) all answer at 0 (opens_queue all.world name wish) name (settings_with default_settings wish (target_uid all.world wish))
 step-fits all (steps.Delete at uid) answer ends = ends
 step-fits all (steps.Perform at uid command) answer ends = performed-fits (IsDeletion (steps.Perform at uid command) answer) all answer at uid command (step_refusal all.world uid command) refl
@@ -428,11 +428,11 @@ step-fits all (steps.Advance at) answer ends = tt
 
 -- ---- every step of everything
 
-abbrev pub IsEnding : HistoryStep → Answer → ℕ → Type 0
+abbrev pub IsEnding : HistoryStep → HouseAnswer → ℕ → Type 0
 IsEnding (Own step) answer uid = IsDeletion step answer uid
 IsEnding (Settle at source) answer uid = ⊥
 
-pub history-led : (all : AllQueues) (step : HistoryStep) (answer : Answer) → IsFresh all → Ends all step answer → LeadsTo (IsEnding step answer) all (whole_after_step all step answer)
+pub history-led : (all : AllQueues) (step : HistoryStep) (answer : HouseAnswer) → IsFresh all → Ends all step answer → LeadsTo (IsEnding step answer) all (whole_after_step all step answer)
 history-led all (Own step) answer fresh h = change-led (IsDeletion step answer) all (act_of all.world step).at (act_of all.world step).change answer fresh (step-fits all step answer h)
 history-led all (Settle at source) answer fresh h =
     change-led (IsEnding (Settle at source) answer) all (confirm_act at source (settled_number all source)).at (confirm_act at source (settled_number all source)).change answer fresh

@@ -3,11 +3,11 @@ use Rattle.std.specs.Prelude.{if◌then◌else◌, not}
 use Rattle.std.specs.Str.{bytes_eq}
 use Rattle.statistics_api.specs.Answer.{method_not_allowed}
 use Rattle.statistics_api.specs.Metrics.{served_text}
-use Rattle.statistics_api.specs.Response.{Told, as_json, metrics}
+use Rattle.statistics_api.specs.Response.{TypedText, as_json, metrics}
 use Rattle.statistics_api.proofs.port.metrics_to.Goals as goal
 
 -- what is chosen where a test holds
-chosen : (b : Bool) (told other : Told) → false ≡ not b → (if b then told else other) ≡ told
+chosen : (b : Bool) (told other : TypedText) → false ≡ not b → (if b then told else other) ≡ told
 chosen true told other h = refl
 chosen false told other h = absurd cc
 

@@ -1,7 +1,7 @@
 use Rattle.std.proofs.Common.{◌≡◌, ◌+◌, List, ◌∷◌, drop, sym, ap, ◌∙◌, arith}
 use Rattle.std.proofs.lemmas.List.{drop_more}
 use Rattle.message.specs.Fault.{Meets}
-use Rattle.queue_core.specs.declared.command.Step.{Step}
+use Rattle.queue_core.specs.declared.command.TimedCommand.{TimedCommand}
 use Rattle.queue_core.specs.Queue.{IsExact, IsExactWithRoom}
 use Rattle.queue_core.proofs.RunLemmas.{Continues-step, Continues-end, pays_step, pays_end}
 use Rattle.queue_core.proofs.state.QueueState.run.Goals as goal
@@ -27,10 +27,10 @@ returns-clause-cost c = pays_end c.args.ticks.now c.args.self.now c.args.steps.n
 
 pub loop-step-preserved : goal.loop-step-preserved
 loop-step-preserved c =
-    let step : Step = c.step-item.result in
-    let left : List Step = drop c.loop-step.step-index c.args.steps.now in
-    let next : List Step = drop (c.loop-step.step-index + 1) c.args.steps.now in
-    let here : left ≡ step ∷ next = drop_more c.args.steps.now c.loop-step.step-index step (omega arith) ∙ ap (λ (s : Step). s ∷ next) (sym c.step-item.is) in
+    let step : TimedCommand = c.step-item.result in
+    let left : List TimedCommand = drop c.loop-step.step-index c.args.steps.now in
+    let next : List TimedCommand = drop (c.loop-step.step-index + 1) c.args.steps.now in
+    let here : left ≡ step ∷ next = drop_more c.args.steps.now c.loop-step.step-index step (omega arith) ∙ ap (λ (s : TimedCommand). s ∷ next) (sym c.step-item.is) in
     record {
       counted = (let more = c.push_reserved.ensures.len in let so_far = c.loop-step.invariant.counted in omega arith);
       room = rw c.push_reserved.ensures.capacity c.loop-step.invariant.room;

@@ -3,7 +3,7 @@ use Rattle.message.specs.Content.{ContentText}
 use Rattle.journal.specs.declared.entry.Entry.{Entry}
 use Rattle.queue_core.specs.Messages.{message_count}
 use Rattle.plain_queue.proofs.NumberingLemmas.{count-take}
-use Rattle.plain_queue.proofs.entries.Entries.are_numbered.Goals as goal
+use Rattle.plain_queue.proofs.entries.FirstEntries.are_numbered.Goals as goal
 
 pub returns : goal.returns
 returns c =

@@ -3,7 +3,7 @@ use mathlib.Core.List.{IsPrefix}
 use Rattle.desk.specs.Printed.{TurnReport}
 use Rattle.board.specs.Printed.{Publications}
 use Rattle.board.proofs.Prefixes.{prefix_shorter}
-use Rattle.board.proofs.told.Told.meet.Goals as goal
+use Rattle.board.proofs.told.KnownTurns.meet.Goals as goal
 
 pub returns-then-self-other-clause-own : goal.returns-then-self-other-clause-own
 returns-then-self-other-clause-own c =

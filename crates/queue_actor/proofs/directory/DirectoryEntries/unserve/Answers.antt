@@ -3,7 +3,7 @@ use Rattle.std.specs.Prelude.{remove}
 use Rattle.std.proofs.lemmas.Bool.{eqb-true}
 use Rattle.std.proofs.lemmas.List.Quantifiers.{position-Some}
 use Rattle.redrive.proofs.KeyedLemmas.{map-remove}
-use Rattle.queue_actor.proofs.directory.Entries.unserve.Goals as goal
+use Rattle.queue_actor.proofs.directory.DirectoryEntries.unserve.Goals as goal
 
 -- what is taken out of both lists stood at one place
 pub invariant_of-self : goal.invariant_of-self

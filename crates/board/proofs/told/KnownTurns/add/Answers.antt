@@ -3,7 +3,7 @@ use Rattle.desk.specs.Printed.{TurnReport, IsPublicationRecord}
 use Rattle.board.specs.Printed.{Publications}
 use Rattle.board.specs.Rule.{count_of}
 use Rattle.board.proofs.Adding.{adds_moves}
-use Rattle.board.proofs.told.Told.add.Goals as goal
+use Rattle.board.proofs.told.KnownTurns.add.Goals as goal
 
 pub compare_exchange-found-requires : goal.compare_exchange-found-requires
 compare_exchange-found-requires c =

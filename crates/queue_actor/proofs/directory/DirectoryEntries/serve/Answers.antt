@@ -4,7 +4,7 @@ use Rattle.std.specs.List.{list_any, position}
 use Rattle.std.specs.Str.{bytes_eq}
 use Rattle.std.proofs.lemmas.Bool.{or_parts}
 use Rattle.redrive.proofs.KeyedLemmas.{absent-by, found-there}
-use Rattle.queue_actor.proofs.directory.Entries.serve.Goals as goal
+use Rattle.queue_actor.proofs.directory.DirectoryEntries.serve.Goals as goal
 
 none-there : {X : Type 0} (o : Option X) → is_some o ≡ false → o ≡ None
 none-there None h = refl

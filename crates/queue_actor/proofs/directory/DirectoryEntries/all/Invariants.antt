@@ -1,6 +1,6 @@
 -- The queues so far are those of the first places, and those that are served stay the same ones.
 use Rattle.std.proofs.Common.{◌≡◌, map, take}
-use Rattle.queue_actor.proofs.directory.Entries.all.Given as goal
+use Rattle.queue_actor.proofs.directory.DirectoryEntries.all.Given as goal
 
 abbrev pub invariant-loop-place : goal.invariant-loop-place
 invariant-loop-place g l = record {

@@ -1,7 +1,7 @@
 use Rattle.std.proofs.Common.{◌∙◌}
 use Rattle.std.specs.Str.{bytes_eq}
 use Rattle.redrive.proofs.KeyedLemmas.{placed-by}
-use Rattle.queue_actor.proofs.directory.Entries.place_named.Goals as goal
+use Rattle.queue_actor.proofs.directory.DirectoryEntries.place_named.Goals as goal
 
 pub returns : goal.returns
 returns g c =

@@ -1,6 +1,6 @@
 use Rattle.std.proofs.Common.{nat_eq, ◌∙◌}
 use Rattle.redrive.proofs.KeyedLemmas.{placed-by}
-use Rattle.queue_actor.proofs.directory.Entries.place_of.Goals as goal
+use Rattle.queue_actor.proofs.directory.DirectoryEntries.place_of.Goals as goal
 
 pub returns : goal.returns
 returns g c =
