@@ -4,8 +4,8 @@ use Rattle.std.proofs.lemmas.Bool.{cases_lt}
 use Rattle.std.proofs.lemmas.List.{get_or_append_left, get_or_at, get_or_past}
 use Rattle.age_index.specs.declared.node.Chain.{Chain}
 use Rattle.age_index.specs.declared.node.Node.{Node}
-use Rattle.age_index.specs.Nodes.{unused, number_at, number_in, after_of, before_of, AreFree}
-use Rattle.age_index.specs.Links.{IsChain, IsPlace}
+use Rattle.age_index.specs.private.Nodes.{unused, number_at, number_in, after_of, before_of, AreFree}
+use Rattle.age_index.specs.private.Links.{IsChain, IsPlace}
 use Rattle.age_index.proofs.Linking.{IsOneMore, chain_same, not_none, taken}
 
 pub push_below : {X : Type 0} (xs : List X) (y : X) (k : ℕ) (d : X) → k < length xs → get_or (xs ++ y ∷ []) k d ≡ get_or xs k d

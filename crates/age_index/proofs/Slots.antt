@@ -7,9 +7,10 @@ use Rattle.std.specs.Ordering.{nat_cmp}
 use Rattle.std.proofs.lemmas.Bool.{cases_eq}
 use Rattle.std.proofs.lemmas.Bool.Decides.{nat_tests}
 use Rattle.age_index.specs.declared.node.Node.{Node}
-use Rattle.age_index.specs.Nodes.{number_in, slots_with, slots_from, slots_of}
+use Rattle.age_index.specs.Nodes.{slots_with, slots_from, slots_of}
+use Rattle.age_index.specs.private.Nodes.{number_in}
 use Rattle.age_index.specs.Ages.{IsNumberAt, IsFirst}
-use Rattle.age_index.specs.Links.{IsChain, IsPlace, bound_before}
+use Rattle.age_index.specs.private.Links.{IsChain, IsPlace, bound_before}
 use Rattle.age_index.proofs.Linking.{IsOneMore, before_at, not_none, number_cases, number_more, other_slot, some_is, taken}
 
 -- one entry

@@ -1,6 +1,5 @@
 -- Numbers of messages, each at a slot of its own. The definitions are this project's own.
-use Rattle.std.specs.Prelude.{◌≡◌, ◌↔◌, ℕ, ◌≤◌, Option, Some, None, IsSome, refl}
-use Rattle.std.specs.Coded.{Coded, code_by, coded×, coded_ℕ}
+use Rattle.std.specs.Prelude.{◌≡◌, ◌↔◌, ℕ, ◌≤◌, Option, Some, None, IsSome}
 use Rattle.std.specs.FinMap as finite
 use Rattle.std.specs.Ordering.{nat_cmp}
 
@@ -8,10 +7,6 @@ use Rattle.std.specs.Ordering.{nat_cmp}
 pub record Ages : Type 0 where
   pub slots : finite.FinMap nat_cmp ℕ
   pub spare : ℕ
-
--- stored as the pair of its fields
-abbrev pub ages_code : Coded Ages
-ages_code = code_by (finite.FinMap nat_cmp ℕ × ℕ) (coded× (finite.code coded_ℕ coded_ℕ) coded_ℕ) (λ a. (a.slots, a.spare)) (λ p. record { slots = p.0; spare = p.1 }) (λ _. refl)
 
 -- the one number at the slot, or none where no number is there
 abbrev pub IsNumberAt : finite.FinMap nat_cmp ℕ → ℕ → Option ℕ → Type 0

@@ -1,3 +1,4 @@
 pub mod Ages
 pub mod Links
 pub mod Nodes
+pub mod private

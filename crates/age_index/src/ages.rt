@@ -2,7 +2,7 @@
 
 ghost use Rattle.std.specs.Prelude.{◌≡◌, ◌≢◌, ℕ, ◌+◌, ◌^◌, ◌<◌, ◌≤◌, if◌then◌else◌, slice_index_or, is_some, Some, None, length, vec_len, vec_capacity, OnOk, OnErr};
 ghost use Rattle.std.specs.FinMap as finite;
-ghost use Rattle.age_index.specs.Nodes.{AreFree, number_in, unused};
+ghost use Rattle.age_index.specs.private.Nodes.{AreFree, number_in, unused};
 
 use crate::node::{Chain, Node};
 use std::alloc::{AllocError, Global};
@@ -21,9 +21,11 @@ pub struct AgeIndex {
 impl Model for AgeIndex {
     ghost use Rattle.std.specs.Prelude.{ℕ, ◌≡◌, ◌+◌, ◌<◌, ◌≤◌, length, vec_capacity};
     ghost use Rattle.std.specs.FinMap as finite;
-    ghost use Rattle.age_index.specs.Ages.{Ages, ages_code};
-    ghost use Rattle.age_index.specs.Links.{IsChain};
-    ghost use Rattle.age_index.specs.Nodes.{AreFree, number_at, after_of, before_of, slots_of};
+    ghost use Rattle.age_index.specs.Ages.{Ages};
+    ghost use Rattle.age_index.specs.private.Ages.{ages_code};
+    ghost use Rattle.age_index.specs.private.Links.{IsChain};
+    ghost use Rattle.age_index.specs.Nodes.{slots_of};
+    ghost use Rattle.age_index.specs.private.Nodes.{AreFree, number_at, after_of, before_of};
 
     ghost Value = { Ages };
 

@@ -6,7 +6,7 @@ use mathlib.Core.List.{IsPrefix}
 use prog.Atomic.{either}
 use Rattle.logbook.specs.Pages.{Cell, cell, keeps, no_nib, step, Moves, Goes}
 use Rattle.desk.specs.Printed.{TurnReport, IsPublicationRecord}
-use Rattle.board.specs.Rule.{IsKept, Adds}
+use Rattle.board.specs.private.Rule.{IsKept, Adds}
 use Rattle.board.proofs.Prefixes.{prefix_whole}
 
 abbrev pub shown : List TurnReport → List TurnReport

@@ -6,7 +6,8 @@ use Rattle.logbook.specs.Pages.{Book}
 use Rattle.crossbeam_utils.specs.Register.{Admits, TurnsAt, Forks, Merges}
 use Rattle.atomic_table.proofs.Lists.{at_set, at_snoc}
 use Rattle.board.specs.Printed.{Publications, place_of}
-use Rattle.board.specs.Rule.{IsOfPlace, Sees, place_with, IsAt}
+use Rattle.board.specs.Rule.{place_with}
+use Rattle.board.specs.private.Rule.{IsOfPlace, Sees, IsAt}
 
 -- a book is known by its place
 pub same_book : (a b : Book) → place_of a ≡ place_of b → a ≡ b

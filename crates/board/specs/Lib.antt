@@ -4,3 +4,4 @@ pub mod Numbers
 pub mod Printed
 pub mod Shown
 pub mod Rule
+pub mod private

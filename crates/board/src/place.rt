@@ -9,7 +9,7 @@ pub struct OnePlace;
 
 impl Protocol<KnownTurns, [u64; 0]> for OnePlace {
     ghost use Rattle.std.specs.Prelude.{[]};
-    ghost use Rattle.board.specs.Rule.{IsOfPlace};
+    ghost use Rattle.board.specs.private.Rule.{IsOfPlace};
 
     ghost holds = { IsOfPlace };
 
@@ -20,7 +20,7 @@ impl Protocol<KnownTurns, [u64; 0]> for OnePlace {
 pub(crate) struct See;
 
 impl Outcome<KnownTurns, [u64; 0]> for See {
-    ghost use Rattle.board.specs.Rule.{Sees};
+    ghost use Rattle.board.specs.private.Rule.{Sees};
 
     ghost then = { Sees };
 }

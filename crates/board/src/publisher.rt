@@ -7,7 +7,7 @@ ghost use Rattle.left_right.specs.Sides.{view};
 ghost use Rattle.board.specs.Numbers.{figures_of};
 ghost use Rattle.desk.specs.Printed.{TurnReport, IsPublicationRecord};
 ghost use Rattle.board.specs.Printed.{place_of};
-ghost use Rattle.board.specs.Rule.{IsAt, count_of};
+ghost use Rattle.board.specs.private.Rule.{IsAt, count_of};
 
 use crate::numbers::Numbers;
 use crate::place::{Hear, OnePlace, See, Tell};
@@ -43,7 +43,7 @@ impl<R: Wait + Drop> Model for Publisher<R> {
     ghost use Rattle.std.specs.Prelude.{◌≡◌, drop};
     ghost use Rattle.std.specs.Option.{ForSome};
     ghost use Rattle.board.specs.Printed.{Publications, place_of};
-    ghost use Rattle.board.specs.Rule.{IsAt, count_of};
+    ghost use Rattle.board.specs.private.Rule.{IsAt, count_of};
 
     ghost Value = { Publications };
 

@@ -10,7 +10,7 @@ pub struct Law;
 impl Rule<Turn, u64> for Law {
     ghost use Rattle.std.specs.Prelude.{[]};
     ghost use base.Fml.{ftrue};
-    ghost use Rattle.board.specs.Rule.{IsKept};
+    ghost use Rattle.board.specs.private.Rule.{IsKept};
 
     ghost holds = { λ cells log. IsKept cells log };
 
@@ -38,7 +38,7 @@ impl Gain<Turn, u64> for Nothing {
 pub(crate) struct Add;
 
 impl Play<Turn, u64> for Add {
-    ghost use Rattle.board.specs.Rule.{Adds};
+    ghost use Rattle.board.specs.private.Rule.{Adds};
 
     ghost then = { Adds };
 }

@@ -7,7 +7,7 @@ ghost use mathlib.Core.List.{IsPrefix};
 ghost use Rattle.desk.specs.Printed.{IsPublicationRecord};
 ghost use Rattle.board.specs.Numbers.{figures_of, last_figures};
 ghost use Rattle.board.specs.Shown.{sheet_after};
-ghost use Rattle.board.specs.Rule.{count_of};
+ghost use Rattle.board.specs.private.Rule.{count_of};
 
 use crate::numbers::Numbers;
 use crate::rule::{Add, Law, Nothing};

@@ -9,7 +9,7 @@ use Rattle.std.proofs.lemmas.Bool.{cases_eq, cases_lt}
 use Rattle.std.proofs.lemmas.Bool.Decides.{nat_tests}
 use Rattle.std.proofs.lemmas.List.{get_or_default}
 use Rattle.std.proofs.lemmas.List.Edits.{length-remove, get_or-remove_below, get_or-remove_above}
-use Rattle.deadline_heap.specs.Rows.{key_at}
+use Rattle.deadline_heap.specs.private.Rows.{key_at}
 
 -- no two places have one key
 abbrev pub HasDistinctKeys : List (ℕ × ℕ) → Type 0

@@ -11,9 +11,9 @@ use Rattle.std.proofs.lemmas.List.{get_or-map, get_or_push, length-map, map-set,
 use Rattle.std.proofs.lemmas.List.Sorted.{Contains-permutation, IsPermutation-map, IsPermutation-sym}
 use Rattle.journal.specs.Order.{is_before}
 use Rattle.deadline_heap.specs.Deadlines.{number_first, moments_of, IsFirst}
-use Rattle.deadline_heap.specs.Heap.{IsHeap}
-use Rattle.deadline_heap.specs.Placed.{number_at, HasDistinctNumbers, LacksNumber, HasNumberAt}
-use Rattle.deadline_heap.specs.Rows.{key_at}
+use Rattle.deadline_heap.specs.private.Heap.{IsHeap}
+use Rattle.deadline_heap.specs.private.Placed.{number_at, HasDistinctNumbers, LacksNumber, HasNumberAt}
+use Rattle.deadline_heap.specs.private.Rows.{key_at}
 use Rattle.deadline_heap.proofs.HeapOrder.{exchanged, first_upto}
 use Rattle.deadline_heap.proofs.Keyed.{HasDistinctKeys, absent_none, contained_found, entries_set, find_absent, find_key, find_members, get_entries, get_inserted_other, len_entries, same_found, same_removed}
 use Rattle.deadline_heap.proofs.Placing.{lacks_last}

@@ -5,7 +5,7 @@ use Rattle.std.specs.FinMap as finite
 use Rattle.std.specs.Ordering.{nat_cmp}
 use Rattle.std.proofs.lemmas.Bool.{cases_eq}
 use Rattle.std.proofs.lemmas.List.{get_or_append_left, get_or_push, get_or-set_same, get_or-set_other, length-set}
-use Rattle.deadline_heap.specs.Placed.{number_at, HasDistinctNumbers, LacksNumber, HasNumberAt, IsPlaced}
+use Rattle.deadline_heap.specs.private.Placed.{number_at, HasDistinctNumbers, LacksNumber, HasNumberAt, IsPlaced}
 use Rattle.deadline_heap.proofs.HeapOrder.{IsExchanged}
 use Rattle.deadline_heap.proofs.Keyed.{none_some, some_same, get_inserted, get_inserted_other, get_removed, get_removed_other}
 

@@ -9,7 +9,7 @@ use Rattle.std.proofs.lemmas.Bool.Decides.{nat_tests}
 use Rattle.std.proofs.lemmas.Cmp.{ranked}
 use Rattle.std.proofs.lemmas.List.{get_or_read_under, get_or-set_same, get_or-set_other, length-set}
 use Rattle.std.proofs.lemmas.List.Edits.{length-insert, get_or-insert_below, get_or-insert_at, get_or-insert_above, length-remove, get_or-remove_below, get_or-remove_above}
-use Rattle.deadline_heap.specs.Rows.{key_at, IsRising, IsRowOf, IsGapFor}
+use Rattle.deadline_heap.specs.private.Rows.{key_at, IsRising, IsRowOf, IsGapFor}
 use Rattle.deadline_heap.proofs.Keyed.{HasDistinctKeys, get_entries, find_key, find_absent}
 
 pub rows_distinct : (rows : List (ℕ × ℕ)) → IsRising rows → HasDistinctKeys rows

@@ -1,6 +1,5 @@
 -- Deadlines: a finite map from a message's number to a moment, in milliseconds.
-use Rattle.std.specs.Prelude.{◌≡◌, ℕ, false, List, map, Option, Some, None, refl}
-use Rattle.std.specs.Coded.{Coded, code_by, coded×, coded_ℕ}
+use Rattle.std.specs.Prelude.{◌≡◌, ℕ, false, List, map, Option, Some, None}
 use Rattle.std.specs.FinMap as finite
 use Rattle.std.specs.Ordering.{nat_cmp}
 use Rattle.journal.specs.Order.{is_before}
@@ -9,11 +8,6 @@ use Rattle.journal.specs.Order.{is_before}
 pub record Deadlines : Type 0 where
   pub moments : finite.FinMap nat_cmp ℕ
   pub spare : ℕ
-
--- stored as the pair of its fields
-abbrev pub deadlines_code : Coded Deadlines
-deadlines_code =
-    code_by (finite.FinMap nat_cmp ℕ × ℕ) (coded× (finite.code coded_ℕ coded_ℕ) coded_ℕ) (λ d. (d.moments, d.spare)) (λ p. record { moments = p.0; spare = p.1 }) (λ _. refl)
 
 -- a pair of a moment and a number, the number first
 abbrev pub number_first : ℕ × ℕ → ℕ × ℕ

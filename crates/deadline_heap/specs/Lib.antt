@@ -1,4 +1,3 @@
 pub mod Deadlines
-pub mod Heap
 pub mod Placed
-pub mod Rows
+pub mod private

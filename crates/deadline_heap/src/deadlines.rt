@@ -17,9 +17,10 @@ pub struct DeadlineHeap {
 }
 
 impl Model for DeadlineHeap {
-    ghost use Rattle.deadline_heap.specs.Deadlines.{Deadlines, deadlines_code, moments_of};
-    ghost use Rattle.deadline_heap.specs.Heap.{IsHeap};
-    ghost use Rattle.deadline_heap.specs.Placed.{HasDistinctNumbers};
+    ghost use Rattle.deadline_heap.specs.Deadlines.{Deadlines, moments_of};
+    ghost use Rattle.deadline_heap.specs.private.Deadlines.{deadlines_code};
+    ghost use Rattle.deadline_heap.specs.private.Heap.{IsHeap};
+    ghost use Rattle.deadline_heap.specs.private.Placed.{HasDistinctNumbers};
 
     ghost Value = { Deadlines };
 

@@ -2,7 +2,7 @@
 
 ghost use Rattle.std.specs.Prelude.{◌≡◌, ℕ, ◌+◌, ◌<◌, ◌≤◌, [], ◌∷◌, ◌++◌, length, slice_index_or, slice_set, IfSome, IfNone, OnOk, OnErr};
 ghost use Rattle.std.specs.List.{swap};
-ghost use Rattle.deadline_heap.specs.Placed.{HasDistinctNumbers, LacksNumber, HasNumberAt};
+ghost use Rattle.deadline_heap.specs.private.Placed.{HasDistinctNumbers, LacksNumber, HasNumberAt};
 
 use crate::places::Places;
 use std::alloc::{AllocError, Global};
@@ -19,7 +19,8 @@ pub(crate) struct PlacedPairs {
 
 impl Model for PlacedPairs {
     ghost use Rattle.std.specs.Prelude.{◌+◌, ◌-◌, ◌≤◌, length, vec_capacity};
-    ghost use Rattle.deadline_heap.specs.Placed.{Arrangement, IsPlaced};
+    ghost use Rattle.deadline_heap.specs.Placed.{Arrangement};
+    ghost use Rattle.deadline_heap.specs.private.Placed.{IsPlaced};
 
     ghost Value = { Arrangement };
 

@@ -2,7 +2,7 @@
 
 ghost use Rattle.std.specs.Prelude.{◌≡◌, ◌+◌, ◌<◌, ◌≤◌, false, if◌then◌else◌, is_some, IfOk, IfErr, OnOk, OnErr};
 ghost use Rattle.std.specs.FinMap as finite;
-ghost use Rattle.deadline_heap.specs.Rows.{IsRising, IsRowOf, IsGapFor};
+ghost use Rattle.deadline_heap.specs.private.Rows.{IsRising, IsRowOf, IsGapFor};
 
 use std::alloc::{AllocError, Global};
 use std::collections::VecDeque;
@@ -22,8 +22,8 @@ impl Model for Places {
     ghost use Rattle.std.specs.Prelude.{◌-◌, ◌≤◌, length};
     ghost use Rattle.std.specs.FinMap as finite;
     ghost use Rattle.std.specs.VecDeque.{deque_capacity};
-    ghost use Rattle.deadline_heap.specs.Placed.{PlaceTable, place_table_code};
-    ghost use Rattle.deadline_heap.specs.Rows.{IsRising};
+    ghost use Rattle.deadline_heap.specs.private.Placed.{PlaceTable, place_table_code};
+    ghost use Rattle.deadline_heap.specs.private.Rows.{IsRising};
 
     ghost Value = { PlaceTable };
 

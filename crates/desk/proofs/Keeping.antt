@@ -16,9 +16,10 @@ use Rattle.desk.specs.declared.view.PassStage.TheVariants.{Fresh, Idle, Drawn, T
 use Rattle.desk.specs.declared.made.Made.{Made}
 use Rattle.desk.specs.History.{IsAnswered, after_call, state_of, IsLegalHistory, calls_by, GoesOnFrom}
 use Rattle.desk.specs.Held.{Lying}
-use Rattle.desk.specs.Views.{most_tickets, first_view, ended_view, cut_off, hearing, absorbing}
-use Rattle.desk.specs.Rule.{ticket_of, tickets_of, held_tickets, Follows, IsOwn, FitsStage, Fits, AreApart, IsHome, IsOut, IsInTurn}
-use Rattle.desk.specs.Steps.{Holder, at_stage, counting, has_counted, has_drawn, has_begun, HasSeen, HasTurn, drawn_ticket, has_waited, has_looked, has_entered, made_in, call_of, with_call, has_ended}
+use Rattle.desk.specs.Views.{most_tickets}
+use Rattle.desk.specs.private.Views.{first_view, ended_view, cut_off, hearing, absorbing}
+use Rattle.desk.specs.private.Rule.{ticket_of, tickets_of, held_tickets, Follows, IsOwn, FitsStage, Fits, AreApart, IsHome, IsOut, IsInTurn}
+use Rattle.desk.specs.private.Steps.{Holder, at_stage, counting, has_counted, has_drawn, has_begun, HasSeen, HasTurn, drawn_ticket, has_waited, has_looked, has_entered, made_in, call_of, with_call, has_ended}
 use Rattle.desk.proofs.HistoryLemmas.{state_snoc, legal_snoc, own_call, other_call, goes_on, goes_whole}
 
 abbrev Desk : Type 0

@@ -9,9 +9,10 @@ use Rattle.desk.specs.declared.view.Call.{Call}
 use Rattle.desk.specs.declared.view.View.{View}
 use Rattle.desk.specs.declared.view.PassStage.TheVariants.{Drawn}
 use Rattle.desk.specs.History.{IsAnswered, after_call, state_of, IsLegalHistory, calls_by, call}
-use Rattle.desk.specs.Held.{Lying, IsBehind}
+use Rattle.desk.specs.Held.{Lying}
+use Rattle.desk.specs.private.Held.{IsBehind}
 use Rattle.desk.specs.Views.{IsKnown, knowledge_of, IsLastState}
-use Rattle.desk.specs.Steps.{at_stage, counting, HasSeen, HasPerformed, call_of, behind_call, with_call}
+use Rattle.desk.specs.private.Steps.{at_stage, counting, HasSeen, HasPerformed, call_of, behind_call, with_call}
 use Rattle.desk.proofs.HistoryLemmas.{state_snoc, legal_snoc, own_call}
 
 -- the queue that a pass takes in its last turn

@@ -30,8 +30,9 @@ use Rattle.queue_core.proofs.MarkLemmas.{gauges_of-marks, map_agree}
 use Rattle.queue_core.proofs.MetricLemmas.{window_rows-marks, alarm_state_in-marks}
 use Rattle.desk.specs.declared.view.Call.{Call}
 use Rattle.desk.specs.History.{IsAnswered, IsLegalHistory, call, state_of}
-use Rattle.desk.specs.Held.{told_behind}
-use Rattle.desk.specs.Printed.{TurnReport, marks_of, report_of, itself, is_base, begins_with_base, after_marks, HasBegunAnew, IsTurnBehind, GoOn, IsPublicationRecord, IsNextIn, joined, AreTold, IsPrinted}
+use Rattle.desk.specs.private.Held.{told_behind}
+use Rattle.desk.specs.Printed.{TurnReport, marks_of, report_of, itself, is_base, begins_with_base, after_marks, HasBegunAnew, IsTurnBehind, GoOn, IsPublicationRecord, IsNextIn}
+use Rattle.desk.specs.private.Printed.{joined, AreTold, IsPrinted}
 
 -- a queue stays at its clock, where it is looked at from the beginning of time
 max-zero : (n : ℕ) → max n 0 ≡ n

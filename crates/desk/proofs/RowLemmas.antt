@@ -17,7 +17,7 @@ use Rattle.queue_core.specs.Queue.{QueueHistory, at_moment, rebased, with_event,
 use Rattle.queue_core.proofs.Scans.{StandsAlone}
 use Rattle.queue_core.proofs.LastingLemmas.{lasts_all}
 use Rattle.queue_core.proofs.MetricLemmas.{metric_row-later, window_based}
-use Rattle.desk.specs.KeptRows.{RowsOfMinute, AreRowsOf}
+use Rattle.desk.specs.private.KeptRows.{RowsOfMinute, AreRowsOf}
 
 -- the rows that a function gives of a minute and those after it, and those that another gives
 rows_agree : (f g : ℕ → Row) (first count : ℕ) → ((minute : ℕ) → first ≤ minute → minute < first + count → f minute ≡ g minute) → map f (range_with_len first count) ≡ map g (range_with_len first count)

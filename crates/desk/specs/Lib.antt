@@ -1,7 +1,5 @@
-pub mod KeptRows
 pub mod History
 pub mod Printed
 pub mod Views
-pub mod Rule
-pub mod Steps
 pub mod Held
+pub mod private

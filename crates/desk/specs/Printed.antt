@@ -1,6 +1,6 @@
 -- What is told of turns: the statistics of the queue at the end of each, and the marks of its journal that were not told before.
 -- What makes a list of turns a record is said of marks alone, which have the sizes of contents in their place.
-use Rattle.std.specs.Prelude.{◌≡◌, ◌⊎◌, ℕ, Bool, true, false, if◌then◌else◌, List, [], ◌∷◌, ◌++◌, map, take, drop, length, ◌≤◌}
+use Rattle.std.specs.Prelude.{◌≡◌, ◌⊎◌, ℕ, Bool, true, false, if◌then◌else◌, List, [], ◌∷◌, ◌++◌, map, take, drop}
 use Rattle.message.specs.Fault.{is_out_of_memory}
 use Rattle.message.specs.Content.{ContentText, content_size}
 use Rattle.queue_config.specs.AlarmRules.{Rule}
@@ -106,23 +106,6 @@ IsPublicationRecord turns = (rules : List Rule) × GoOn rules [] turns
 -- a turn that may be printed next, where a press stands for some lists of turns
 abbrev pub IsNextIn : (List TurnReport → Type 0) → TurnReport → Type 0
 IsNextIn stands turn = (turns : List TurnReport) × stands turns × IsPublicationRecord (turns ++ turn ∷ [])
-
--- the marks that turns have told, joined behind others, from the last checkpoint on
-abbrev pub joined : List (Entry ℕ) → List TurnReport → List (Entry ℕ)
-joined before [] = before
-joined before (t ∷ ts) = joined (after_marks before t.marks) ts
-
--- marks are the queue's first so many, or its journal has begun anew behind them, and nothing of it was told yet
-abbrev pub AreTold : List (Entry ℕ) → QueueHistory → ℕ → Type 0
-AreTold marks q told = (marks ≡ marks_of (take told q.lines)) ⊎ ((told ≡ 0) × HasBegunAnew marks q)
-
--- what a press stands for is a record of the queue's first so many marks, or of those behind which its journal has begun anew
-pub record IsPrinted (stands : List TurnReport → Type 0) (q : QueueHistory) (told : ℕ) : Type 0 where
-  pub turns : List TurnReport
-  pub stood : stands turns
-  pub record_of : GoOn q.rules [] turns
-  pub marks : AreTold (joined [] turns) q told
-  pub within : told ≤ length q.lines
 
 -- an answer tells of the queue, as it is told behind some of its marks
 abbrev pub IsToldOf : {Told : Type 0} → (TurnReport → Told → Type 0) → QueueHistory → Told → Type 0

@@ -50,7 +50,7 @@ impl<P: Press> Desk<P> {
     ghost use Rattle.desk.specs.Views.{most_tickets, first_knowledge, knowledge_of, HasCalled, IsKnown, IsSpent, IsBusy, SeesMore, IsNewPass, IsLastState};
     ghost use Rattle.desk.specs.History.{state_of, calls_by, call, GoesOnFrom};
     ghost use Rattle.desk.specs.Printed.{IsToldOf};
-    ghost use Rattle.desk.specs.Steps.{at_stage, counting, HasSeen, HasTurn, HasPerformed, behind_call, with_call};
+    ghost use Rattle.desk.specs.private.Steps.{at_stage, counting, HasSeen, HasTurn, HasPerformed, behind_call, with_call};
 
     /// A desk with a queue on it, and its first pass, which has seen and called nothing. `OutOfMemory`
     /// is the only refusal; the queue and the press are then dropped.

@@ -5,7 +5,7 @@ ghost use Rattle.queue_core.specs.Queue.{leaves_clock, reached, outcome_at, afte
 ghost use Rattle.queue_core.specs.Cost.{most_ticks};
 ghost use Rattle.queue_core.specs.Legal.{IsLegal};
 ghost use Rattle.desk.specs.History.{IsAnswered};
-ghost use Rattle.desk.specs.Held.{told_behind};
+ghost use Rattle.desk.specs.private.Held.{told_behind};
 
 use crate::kept_rows::MinuteRows;
 use crate::made::Made;
@@ -103,8 +103,8 @@ fn told_behind(told: usize, rebases: bool, reply: &Result<Reply, Fault>) -> usiz
 impl<P: Press> Model for Held<P> {
     ghost use Rattle.std.specs.Prelude.{IfSome};
     ghost use Rattle.desk.specs.Held.{Lying};
-    ghost use Rattle.desk.specs.KeptRows.{AreRowsOf};
-    ghost use Rattle.desk.specs.Printed.{IsPrinted};
+    ghost use Rattle.desk.specs.private.KeptRows.{AreRowsOf};
+    ghost use Rattle.desk.specs.private.Printed.{IsPrinted};
 
     ghost Value = { Lying };
 
@@ -114,7 +114,7 @@ impl<P: Press> Model for Held<P> {
 }
 
 impl<P: Press> Held<P> {
-    ghost use Rattle.desk.specs.Held.{untouched, IsBehind};
+    ghost use Rattle.desk.specs.private.Held.{untouched, IsBehind};
     ghost use Rattle.desk.specs.Printed.{IsToldOf};
 
     /// A queue to which no call was made yet.

@@ -4,7 +4,7 @@ ghost use Rattle.std.specs.Prelude.{◌≡◌, IfOk, IfErr, IfSome};
 ghost use Rattle.message.specs.Content.{content_size};
 ghost use Rattle.message.specs.declared.fault.Fault.TheVariants.{OutOfMemory};
 ghost use Rattle.queue_core.specs.Metrics.{window_rows};
-ghost use Rattle.desk.specs.KeptRows.{AreRowsOf};
+ghost use Rattle.desk.specs.private.KeptRows.{AreRowsOf};
 
 use message::Fault;
 use metric_window::Row;
@@ -22,7 +22,7 @@ pub(crate) struct MinuteRows {
 }
 
 impl Model for MinuteRows {
-    ghost use Rattle.desk.specs.KeptRows.{RowsOfMinute};
+    ghost use Rattle.desk.specs.private.KeptRows.{RowsOfMinute};
 
     ghost Value = { RowsOfMinute };
 

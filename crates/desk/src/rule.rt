@@ -1,6 +1,6 @@
 //! The rule of a desk, and what each step tells. These types are for the proofs alone.
 
-ghost use Rattle.desk.specs.Steps.{has_counted, has_drawn, has_waited, has_begun, has_ended, has_looked, has_entered};
+ghost use Rattle.desk.specs.private.Steps.{has_counted, has_drawn, has_waited, has_begun, has_ended, has_looked, has_entered};
 
 use crate::held::Held;
 use crate::printing::Press;
@@ -13,8 +13,8 @@ use std::snapshot::Snapshot;
 pub struct InTurn;
 
 impl<P: Press> TableRule<Option<Held<P>>, View, Snapshot<Held<P>>> for InTurn {
-    ghost use Rattle.desk.specs.Views.{first_view};
-    ghost use Rattle.desk.specs.Rule.{IsInTurn};
+    ghost use Rattle.desk.specs.private.Views.{first_view};
+    ghost use Rattle.desk.specs.private.Rule.{IsInTurn};
 
     ghost holds = { λ key. IsInTurn key.value };
 
@@ -74,7 +74,7 @@ impl<P: Press> Play<Option<Held<P>>, View> for Enter {
 pub struct CutOff;
 
 impl Split<View> for CutOff {
-    ghost use Rattle.desk.specs.Views.{cut_off};
+    ghost use Rattle.desk.specs.private.Views.{cut_off};
 
     ghost left = { λ v. v };
 
@@ -85,7 +85,7 @@ impl Split<View> for CutOff {
 pub struct Hear;
 
 impl Join<View> for Hear {
-    ghost use Rattle.desk.specs.Views.{hearing, ended_view};
+    ghost use Rattle.desk.specs.private.Views.{hearing, ended_view};
 
     ghost both = { hearing };
 
@@ -96,7 +96,7 @@ impl Join<View> for Hear {
 pub struct Absorb;
 
 impl Join<View> for Absorb {
-    ghost use Rattle.desk.specs.Views.{absorbing, ended_view};
+    ghost use Rattle.desk.specs.private.Views.{absorbing, ended_view};
 
     ghost both = { absorbing };
 

@@ -43,7 +43,7 @@ impl Model for Turn {
 
 impl Turn {
     ghost use Rattle.queue_core.specs.Legal.{IsLegal};
-    ghost use Rattle.desk.specs.KeptRows.{AreRowsOf};
+    ghost use Rattle.desk.specs.private.KeptRows.{AreRowsOf};
     ghost use Rattle.desk.specs.Printed.{report_of};
 
     /// What is told of a queue whose first so many marks were told before, and of which rows may be kept.

@@ -1,9 +1,9 @@
 pub mod Fault
 pub mod Name
-pub mod StoredName
 pub mod Characters
 pub mod Order
 pub mod Attribute
 pub mod Content
 pub mod StoredContent
 pub mod Id
+pub mod private

@@ -1,25 +1,8 @@
 -- How a content is kept.
-use Rattle.std.specs.Prelude.{◌≡◌, IsTrue, List, Result, Ok, Err, string_bytes}
-use Rattle.std.specs.Global.{Vec}
+use Rattle.std.specs.Prelude.{string_bytes}
 use Rattle.message.specs.declared.content.Parts.{Parts}
-use Rattle.message.specs.declared.fault.Fault.{Fault}
-use Rattle.message.specs.Attribute.{AttributeText, attributes_fault, by_name}
-use Rattle.message.specs.Content.{ContentText, content_size, is_content, unless_fault}
-
--- the list in a `Vec` that a call answers
-abbrev pub items_of : Result (Vec AttributeText) Fault → Result (List AttributeText) Fault
-items_of (Ok attributes) = Ok attributes.items
-items_of (Err fault) = Err fault
-
--- the attributes ascending by name, or what is first wrong with them
-abbrev pub attributes_of : List AttributeText → Result (List AttributeText) Fault
-attributes_of attributes = unless_fault (attributes_fault attributes) (by_name attributes)
+use Rattle.message.specs.Content.{ContentText}
 
 -- the content that the parts are
 abbrev pub text_of : Parts → ContentText
 text_of p = record { body = string_bytes p.body; attributes = p.attributes.items }
-
--- the rules hold, and the size that is kept is that of the content
-pub record IsStoredContent (p : Parts) : Type 0 where
-  pub allowed : IsTrue (is_content (text_of p))
-  pub size : p.size ≡ content_size (text_of p)

@@ -49,7 +49,8 @@ pub struct Content {
 
 impl Model for Content {
     ghost use Rattle.message.specs.Content.{ContentText};
-    ghost use Rattle.message.specs.StoredContent.{text_of, IsStoredContent};
+    ghost use Rattle.message.specs.StoredContent.{text_of};
+    ghost use Rattle.message.specs.private.StoredContent.{IsStoredContent};
 
     ghost Value = { ContentText };
 

@@ -20,7 +20,7 @@ pub struct QueueName {
 
 impl Model for QueueName {
     ghost use Rattle.std.specs.Prelude.{ℕ, List, ◌++◌, ◌-◌, length, take, replicate};
-    ghost use Rattle.message.specs.StoredName.{IsStoredName, stored_name};
+    ghost use Rattle.message.specs.private.StoredName.{IsStoredName, stored_name};
 
     ghost Value = { List ℕ };
 

@@ -13,7 +13,7 @@ use Rattle.journal.specs.declared.entry.Entry.{Entry}
 use Rattle.metric_window.specs.KeptRows.{row_in}
 use Rattle.metric_window.specs.declared.row.Row.{Row}
 use Rattle.queue_core.specs.Messages.{Birth, Since, effect_of, contents_in, contents, settings_after, settings_from, created_time, opens, modified_by, modified_from, receives_in, first_of_both, first_receive_in, first_receive_time, last_receive_by, last_receive_from, rows_known}
-use Rattle.queue_core.specs.Tally.{births}
+use Rattle.queue_core.specs.private.Tally.{births}
 use Rattle.queue_core.proofs.PushLemmas.{slice_get-append, slice_get-behind}
 use Rattle.plain_queue.proofs.ScanLemmas.{drop_entry}
 

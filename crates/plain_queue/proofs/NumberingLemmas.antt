@@ -14,9 +14,9 @@ use Rattle.journal.specs.declared.entry.Event.{Event}
 use Rattle.journal.specs.declared.entry.Event.TheVariants.{Base}
 use Rattle.queue_core.specs.declared.facts.Message.{Message}
 use Rattle.queue_core.specs.Messages.{Birth, kept_numbered, kept_birth, gone_birth, base_births, contents_in, effect_of, message_in, messages_in, messages_from, messages, message_count}
-use Rattle.queue_core.specs.Tally.{births}
+use Rattle.queue_core.specs.private.Tally.{births}
 use Rattle.queue_core.proofs.PushLemmas.{slice_get-prefix, slice_get-behind, mapped_some, messages-append, count-push, numbered_in}
-use Rattle.plain_queue.specs.Numbering.{births_at, IsAt}
+use Rattle.plain_queue.specs.private.Numbering.{births_at, IsAt}
 use Rattle.plain_queue.proofs.ScanLemmas.{drop_entry}
 
 -- ---- the births of a checkpoint

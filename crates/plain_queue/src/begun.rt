@@ -5,7 +5,7 @@ ghost use Rattle.std.specs.Prelude.{◌≡◌, ◌+◌, ◌*◌, false, None, op
 ghost use Rattle.std.specs.Option.{option_copied, option_map_or};
 ghost use Rattle.queue_core.specs.Messages.{effect_of, kept_numbered, kept_birth, gone_birth, message_in, contents_in};
 ghost use Rattle.queue_core.specs.declared.facts.Status.TheVariants.{Present};
-ghost use Rattle.queue_core.specs.Tally.{births};
+ghost use Rattle.queue_core.specs.private.Tally.{births};
 
 use journal::{Base, Event, KeptMessage, Line, Moment};
 use message::Content;

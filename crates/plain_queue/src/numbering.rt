@@ -3,7 +3,7 @@
 ghost use Rattle.std.specs.Prelude.{◌≡◌, ◌+◌, ◌^◌, ◌<◌, ◌≤◌, length, slice_get, Some, IfSome, IfNone};
 ghost use Rattle.std.specs.Iterator.{YieldsFirst, item_count};
 ghost use Rattle.queue_core.specs.Messages.{messages};
-ghost use Rattle.plain_queue.specs.Numbering.{IsAt};
+ghost use Rattle.plain_queue.specs.private.Numbering.{IsAt};
 
 use crate::begun::message_of;
 use crate::entries::{FirstEntries, line_at};
@@ -55,7 +55,7 @@ impl<'a, 'j> Model for Messages<'a, 'j> {
     ghost use Rattle.std.specs.Prelude.{List, drop};
     ghost use Rattle.queue_core.specs.declared.facts.Message.{Message};
     ghost use Rattle.queue_core.specs.Messages.{messages};
-    ghost use Rattle.plain_queue.specs.Numbering.{IsAt};
+    ghost use Rattle.plain_queue.specs.private.Numbering.{IsAt};
 
     ghost Value = { List Message };
 

@@ -11,7 +11,7 @@ use Rattle.std.proofs.lemmas.Bool.{cases_lt}
 use mathlib.Core.List.{IsPrefix}
 use Rattle.queue_actor.specs.declared.readers.Shown.{Shown}
 use Rattle.board.specs.Shown.{Acquaintance}
-use Rattle.queue_actor.specs.Reading.{IsLater, HasRecord}
+use Rattle.queue_actor.specs.private.Reading.{IsLater, HasRecord}
 
 prefix_trans : {A : Type 0} (xs ys zs : List A) → IsPrefix xs ys → IsPrefix ys zs → IsPrefix xs zs
 prefix_trans xs ys zs p q = (p.0 ++ q.0, sym (append_assoc xs p.0 q.0) ∙ ap (λ l. l ++ q.0) p.1 ∙ q.1)

@@ -5,4 +5,4 @@ pub mod Calling
 pub mod Serving
 pub mod Waiting
 pub mod Reading
-pub mod Ticking
+pub mod private

@@ -1,7 +1,7 @@
 //! The clock that tells the queues the time.
 
 ghost use Rattle.std.specs.Prelude.{ℕ, ◌≡◌, IfSome};
-ghost use Rattle.queue_actor.specs.Ticking.{is_leap};
+ghost use Rattle.queue_actor.specs.private.Ticking.{is_leap};
 
 use crate::directory::Directory;
 use crate::mail::Mail;

@@ -6,7 +6,8 @@ ghost use Rattle.std.specs.Option.{option_map};
 ghost use Rattle.std.specs.Str.{bytes_eq};
 ghost use Rattle.message.specs.declared.fault.Fault.TheVariants.{OutOfMemory};
 ghost use Rattle.board.specs.Queue as queues;
-ghost use Rattle.queue_actor.specs.Reading.{IsReadOf, IsSheetUnder, IsLater, HasRecord, sheet_of};
+ghost use Rattle.queue_actor.specs.Reading.{IsReadOf, IsSheetUnder};
+ghost use Rattle.queue_actor.specs.private.Reading.{IsLater, HasRecord, sheet_of};
 
 use board::{Reader, Sheet};
 use message::{Fault, QueueName};

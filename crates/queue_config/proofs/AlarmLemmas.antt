@@ -13,7 +13,8 @@ use Rattle.std.proofs.lemmas.List.Sums.{sum_by-cons}
 use Rattle.std.proofs.lemmas.Slice.Eq.{bytes_eq-Decides}
 use Rattle.queue_config.specs.AlarmRules.{Rule, most_alarms}
 use Rattle.queue_config.specs.AlarmText.{alarms_of, have_too_many_alarms, is_same_alarm, have_equal_alarms, configured_alarm, configured_alarms}
-use Rattle.queue_config.specs.Config.{AreAlarms, configured_uid, rules_of}
+use Rattle.queue_config.specs.Config.{configured_uid, rules_of}
+use Rattle.queue_config.specs.private.Config.{AreAlarms}
 use Rattle.queue_config.specs.ConfigKeys.{with_each}
 use Rattle.queue_config.specs.declared.config.ConfiguredAlarm.{ConfiguredAlarm}
 use Rattle.queue_config.specs.declared.config_fault.ConfigFault.{ConfigFault}

@@ -13,7 +13,8 @@ use Rattle.std.proofs.lemmas.Slice.Eq.{starts_is}
 use Rattle.std.proofs.Math.Seq.{get_or-append_seam}
 use Rattle.message.specs.Name.{is_queue_name, queue_name_of}
 use Rattle.message.specs.declared.fault.Fault.{Fault}
-use Rattle.queue_config.specs.Policy.{◌>>=◌, arn_start, after_start, after_colon, colon, name_in_arn, HasNoColon, IsArn}
+use Rattle.queue_config.specs.Policy.{◌>>=◌, arn_start, after_start, after_colon, colon, name_in_arn}
+use Rattle.queue_config.specs.private.Policy.{HasNoColon, IsArn}
 
 -- what `strip_prefix` says at this text
 pub stripped : (text : List ℕ) (r : Option (Bor (List ℕ))) → MatchOption r (FindsTextPrefix arn_start text None) (λ x. StripsPrefix (FindsTextPrefix arn_start) text x.now)

@@ -10,7 +10,8 @@ use Rattle.std.proofs.lemmas.Bool.Decides.{nat_tests}
 use Rattle.std.proofs.lemmas.List.{length-map, map_push, append-nil, append_assoc}
 use Rattle.std.proofs.lemmas.List.Elements.{All-nil, All-push}
 use Rattle.std.proofs.lemmas.List.Recursion.{same_from_clauses}
-use Rattle.queue_config.specs.Config.{AreConfigured, IsConfiguration, HasTarget, configured_uid, names_of, most_queues}
+use Rattle.queue_config.specs.Config.{AreConfigured, HasTarget, configured_uid, names_of, most_queues}
+use Rattle.queue_config.specs.private.Config.{IsConfiguration}
 use Rattle.queue_config.specs.ConfigKeys.{◌>>=◌, with_each}
 use Rattle.queue_config.specs.ConfigText.{has_name, have_equal_names, target_among, configured_queue, configured_queues}
 use Rattle.queue_config.specs.Settings.{default_settings, requested_target, policy_with, settings_with}

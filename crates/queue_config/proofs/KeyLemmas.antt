@@ -6,7 +6,8 @@ use Rattle.std.specs.Str.{bytes_eq}
 use Rattle.toml.specs.Data.{Data}
 use Rattle.queue_config.specs.SettingRows.{setting_row}
 use Rattle.queue_config.specs.ConfigKeys.{with_key}
-use Rattle.queue_config.specs.ConfigText.{setting_key, with_setting_key}
+use Rattle.queue_config.specs.ConfigText.{setting_key}
+use Rattle.queue_config.specs.private.ConfigText.{with_setting_key}
 use Rattle.queue_config.specs.declared.config_fault.ConfigFault.{ConfigFault}
 use Rattle.queue_config.specs.declared.config_text.QueueTable.{QueueTable}
 use Rattle.queue_config.specs.declared.setting.Setting.{Setting}

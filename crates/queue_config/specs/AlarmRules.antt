@@ -1,6 +1,6 @@
 -- The rules of alarms: metrics, operators, and what a rule has. The metrics but for the last two are those of Amazon SQS in CloudWatch, and the
 -- operators those of CloudWatch's alarms (ComparisonOperator); RefusedCalls, DeadLettersArrived and all ranges are this project's own.
-use Rattle.std.specs.Prelude.{ℕ, ◌≤◌, List, [], ◌∷◌, codes, Option}
+use Rattle.std.specs.Prelude.{ℕ, List, [], ◌∷◌, codes, Option}
 use Rattle.std.specs.List.{find}
 use Rattle.std.specs.Str.{bytes_eq}
 use Rattle.queue_config.specs.declared.metric.Metric.{Metric}
@@ -65,16 +65,6 @@ most_minutes = 180
 -- the largest number of a configuration's text: 2^63 - 1
 abbrev pub most_threshold : ℕ
 most_threshold = 9223372036854775807
-
-abbrev pub IsMinutes : ℕ → Type 0
-IsMinutes n = (1 ≤ n) × (n ≤ most_minutes)
-
--- each number is in its range, and a rule asks for no more minutes than it looks at
-pub record IsRule (rule : Rule) : Type 0 where
-  pub threshold : rule.threshold ≤ most_threshold
-  pub minutes : IsMinutes rule.minutes
-  pub least_breaches : 1 ≤ rule.breaches
-  pub most_breaches : rule.breaches ≤ rule.minutes
 
 -- how many alarms a queue may have: this project's own
 abbrev pub most_alarms : ℕ

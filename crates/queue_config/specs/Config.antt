@@ -3,7 +3,7 @@ use Rattle.std.specs.Prelude.{◌≡◌, ℕ, ◌+◌, ◌≤◌, ◌==◌, fals
 use Rattle.std.specs.List.{All, IsDistinct, filter, position}
 use Rattle.std.specs.Option.{ForSome}
 use Rattle.std.specs.Str.{bytes_eq}
-use Rattle.queue_config.specs.AlarmRules.{Rule, most_alarms}
+use Rattle.queue_config.specs.AlarmRules.{Rule}
 use Rattle.queue_config.specs.Limits.{QueueLimits, default_limits}
 use Rattle.queue_config.specs.declared.config.ConfiguredAlarm.{ConfiguredAlarm}
 use Rattle.queue_config.specs.declared.config.ConfiguredQueue.{ConfiguredQueue}
@@ -44,14 +44,3 @@ pub record AreConfigured (queues : List ConfiguredQueue) : Type 0 where
 -- the rules of the alarms of a queue, in the order of the text
 abbrev pub rules_of : List ConfiguredAlarm → ℕ → List Rule
 rules_of alarms uid = map (λ alarm. alarm.rule) (filter (λ alarm. alarm.queue == uid) alarms)
-
--- each alarm is of a queue, of which there are so many; no queue has two alarms of one name, or too many
-pub record AreAlarms (count : ℕ) (alarms : List ConfiguredAlarm) : Type 0 where
-  pub queues : All (λ alarm. (1 ≤ alarm.queue) × (alarm.queue ≤ count)) alarms
-  pub names : (uid : ℕ) → IsDistinct bytes_eq (map (λ rule. rule.name) (rules_of alarms uid))
-  pub few : (uid : ℕ) → length (rules_of alarms uid) ≤ most_alarms
-
--- the queues, and the alarms of these queues
-pub record IsConfiguration (configured : List ConfiguredQueue) (rules : List ConfiguredAlarm) : Type 0 where
-  pub queues : AreConfigured configured
-  pub alarms : AreAlarms (length configured) rules

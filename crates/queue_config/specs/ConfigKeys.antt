@@ -1,6 +1,5 @@
 -- The tables of a configuration: their values, and their keys one by one. Which keys there are, and the faults, are this project's own.
 use Rattle.std.specs.Prelude.{ℕ, ℤ, pos, negsuc, nat_le, ◌&&◌, if◌then◌else◌, List, [], ◌∷◌, ◌++◌, Option, Some, None, Result, Ok, Err, ok_or}
-use Rattle.std.specs.Global.{Vec}
 use Rattle.std.specs.Str.{bytes_eq}
 use Rattle.message.specs.Name.{is_queue_name}
 use Rattle.toml.specs.Data.{Data, Items, no_items, item, Members, no_members, member, as_integer, as_str, as_array}
@@ -96,7 +95,3 @@ with_each made_of found (x ∷ rest) = do
   with_each made_of (found ++ made ∷ []) rest
 
 -- ---- for private clauses
-
-abbrev pub items_of : {T : Type 0} → Result (Vec T) ConfigFault → Result (List T) ConfigFault
-items_of (Ok found) = Ok found.items
-items_of (Err fault) = Err fault

@@ -141,8 +141,3 @@ abbrev pub configuration_of_bytes : List ℕ → Result Configuration ConfigFaul
 configuration_of_bytes bytes = if is_utf8 bytes then configuration_of bytes else Err Syntax
 
 -- ---- for private clauses
-
--- the value of a setting's key, where the key has one
-abbrev pub with_setting_key : Option Setting → QueueTable → Data → Result QueueTable ConfigFault
-with_setting_key None queue d = Err UnknownKey
-with_setting_key (Some setting) queue d = (setting_key setting).take queue d

@@ -9,3 +9,4 @@ pub mod Config
 pub mod ConfigKeys
 pub mod AlarmText
 pub mod ConfigText
+pub mod private

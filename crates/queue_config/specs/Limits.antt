@@ -1,5 +1,5 @@
 -- The limits of a queue, one row each. The 120,000 messages are the Amazon SQS quota for standard queues; the rest is this project's own.
-use Rattle.std.specs.Prelude.{ℕ, ◌≤◌, List, codes}
+use Rattle.std.specs.Prelude.{ℕ, List, codes}
 
 -- the key in a configuration, the range, and what the limit is where nothing is said
 pub record LimitRow : Type 0 where
@@ -19,12 +19,6 @@ in_flight_row = record { key = codes "in_flight"; least = 1; most = 120000; defa
 pub record QueueLimits : Type 0 where
   pub max_lines : ℕ
   pub in_flight : ℕ
-
-pub record AreLimits (max_lines in_flight : ℕ) : Type 0 where
-  pub least_lines : max_lines_row.least ≤ max_lines
-  pub most_lines : max_lines ≤ max_lines_row.most
-  pub least_in_flight : in_flight_row.least ≤ in_flight
-  pub most_in_flight : in_flight ≤ in_flight_row.most
 
 abbrev pub default_limits : QueueLimits
 default_limits = record { max_lines = max_lines_row.default; in_flight = in_flight_row.default }

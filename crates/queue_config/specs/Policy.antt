@@ -1,9 +1,9 @@
 -- When a message goes to the dead-letter queue, and the policy that an attribute's text asks for (Amazon SQS API Reference, RedrivePolicy;
 -- which forms of a text are taken is this project's own choice).
-use Rattle.std.specs.Prelude.{◌≡◌, ◌≢◌, ℕ, ◌≤◌, IsTrue, ◌∷◌, ◌++◌, nat_le, nat_eq, ◌&&◌, ◌==◌, if◌then◌else◌, List, codes, length, drop, Option, Some, None, option_map, option_and_then, Result, Ok, ok_or}
-use Rattle.std.specs.List.{All, starts_with, after_first}
+use Rattle.std.specs.Prelude.{ℕ, ◌≤◌, nat_le, nat_eq, ◌&&◌, ◌==◌, if◌then◌else◌, List, codes, length, drop, Option, Some, None, option_map, option_and_then, Result, Ok, ok_or}
+use Rattle.std.specs.List.{starts_with, after_first}
 use Rattle.std.specs.Result.{result_ok}
-use Rattle.message.specs.Name.{is_queue_name, queue_name_of}
+use Rattle.message.specs.Name.{queue_name_of}
 use Rattle.message.specs.declared.fault.Fault.{Fault}
 use Rattle.message.specs.declared.fault.Fault.TheVariants.{InvalidAttributeValue}
 use Rattle.serde_json.specs.Data.{Data}
@@ -44,16 +44,6 @@ abbrev pub name_in_arn : List ℕ → Option (List ℕ)
 name_in_arn text = do
   rest ← after_start text
   result_ok (queue_name_of (after_colon (after_colon rest)))
-
-abbrev pub HasNoColon : List ℕ → Type 0
-HasNoColon text = All (λ c. c ≢ colon) text
-
--- the same as a relation: the text is spelled so
-pub record IsArn (text region account name : List ℕ) : Type 0 where
-  pub spelling : text ≡ arn_start ++ (region ++ colon ∷ (account ++ colon ∷ name))
-  pub in_region : HasNoColon region
-  pub in_account : HasNoColon account
-  pub is_name : IsTrue (is_queue_name name)
 
 -- ---- after how many receives
 

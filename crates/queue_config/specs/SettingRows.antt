@@ -28,10 +28,6 @@ all_settings = DelaySeconds ∷ VisibilityTimeout ∷ MessageRetentionPeriod ∷
 abbrev pub setting_named : List ℕ → Option Setting
 setting_named name = find (λ setting. bytes_eq name (setting_row setting).name) all_settings
 
--- the setting of a key
-abbrev pub setting_with_key : List ℕ → Option Setting
-setting_with_key key = find (λ setting. bytes_eq key (setting_row setting).key) all_settings
-
 -- the number is in the setting's range
 pub record IsInRange (setting : Setting) (n : ℕ) : Type 0 where
   pub least : (setting_row setting).least ≤ n

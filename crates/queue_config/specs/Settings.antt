@@ -95,11 +95,6 @@ without_target s uid = record s { redrive_policy = policy_without s.redrive_poli
 abbrev pub RequestedAttributes : Type 0
 RequestedAttributes = PerSetting (Option ℕ) (Option (Option RequestedPolicy))
 
--- each number is in the range of its setting, and that of receives too where a policy is asked for
-pub record AreRequested (requested : RequestedAttributes) : Type 0 where
-  pub numbers : EachSetting (λ setting number. ForSome number (λ n. IsInRange setting n)) requested
-  pub policy : ForSome requested.redrive_policy (λ asked. ForSome asked (λ policy. IsReceiveLimit policy.max_receive_count))
-
 abbrev pub no_requested_attributes : RequestedAttributes
 no_requested_attributes = per_setting (λ setting. None) None
 

@@ -26,7 +26,8 @@ pub struct AlarmRule {
 }
 
 impl Model for AlarmRule {
-    ghost use Rattle.queue_config.specs.AlarmRules.{Rule, IsRule};
+    ghost use Rattle.queue_config.specs.AlarmRules.{Rule};
+    ghost use Rattle.queue_config.specs.private.AlarmRules.{IsRule};
 
     ghost Value = { Rule };
 

@@ -6,7 +6,8 @@ ghost use Rattle.toml.specs.View.{view, items_view, table_view};
 ghost use Rattle.queue_config.specs.AlarmRules.{most_minutes, most_threshold, metric_named, operator_named};
 ghost use Rattle.queue_config.specs.AlarmText.{alarm_numbers, alarm_keys, no_alarm_keys, alarm_in};
 ghost use Rattle.queue_config.specs.ConfigFault.{IsReadAs};
-ghost use Rattle.queue_config.specs.ConfigKeys.{number_between, word_in, with_key, with_keys, with_tables, tables_in, items_of};
+ghost use Rattle.queue_config.specs.ConfigKeys.{number_between, word_in, with_key, with_keys, with_tables, tables_in};
+ghost use Rattle.queue_config.specs.private.ConfigKeys.{items_of};
 
 use crate::alarm_rule::AlarmRule;
 use crate::config_fault::ConfigFault;
@@ -30,7 +31,7 @@ pub(crate) struct Minutes {
 
 impl Model for Minutes {
     ghost use Rattle.std.specs.Prelude.{ℕ};
-    ghost use Rattle.queue_config.specs.AlarmRules.{IsMinutes};
+    ghost use Rattle.queue_config.specs.private.AlarmRules.{IsMinutes};
 
     ghost Value = { ℕ };
 

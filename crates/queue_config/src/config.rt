@@ -40,7 +40,8 @@ pub struct Config {
 }
 
 impl Model for Config {
-    ghost use Rattle.queue_config.specs.Config.{Configuration, IsConfiguration};
+    ghost use Rattle.queue_config.specs.Config.{Configuration};
+    ghost use Rattle.queue_config.specs.private.Config.{IsConfiguration};
 
     ghost Value = { Configuration };
 

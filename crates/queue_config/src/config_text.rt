@@ -11,8 +11,10 @@ ghost use Rattle.queue_config.specs.ConfigFault.{IsReadAs};
 ghost use Rattle.queue_config.specs.Limits.{default_limits};
 ghost use Rattle.queue_config.specs.Policy.{IsReceiveLimit};
 ghost use Rattle.queue_config.specs.SettingRows.{setting_row, IsInRange};
-ghost use Rattle.queue_config.specs.ConfigKeys.{number_between, name_in, with_key, with_keys, with_tables, tables_in, items_of};
-ghost use Rattle.queue_config.specs.ConfigText.{limit_keys, limits_in, queue_keys, with_setting_key, no_keys, policy_of_keys, queue_in, is_top_key, have_top_keys, configuration_of_table, configuration_of, configuration_of_bytes};
+ghost use Rattle.queue_config.specs.ConfigKeys.{number_between, name_in, with_key, with_keys, with_tables, tables_in};
+ghost use Rattle.queue_config.specs.private.ConfigKeys.{items_of};
+ghost use Rattle.queue_config.specs.ConfigText.{limit_keys, limits_in, queue_keys, no_keys, policy_of_keys, queue_in, is_top_key, have_top_keys, configuration_of_table, configuration_of, configuration_of_bytes};
+ghost use Rattle.queue_config.specs.private.ConfigText.{with_setting_key};
 
 use crate::alarm_text::alarms_in;
 use crate::config::Config;

@@ -41,7 +41,8 @@ pub struct Limits {
 }
 
 impl Model for Limits {
-    ghost use Rattle.queue_config.specs.Limits.{QueueLimits, AreLimits};
+    ghost use Rattle.queue_config.specs.Limits.{QueueLimits};
+    ghost use Rattle.queue_config.specs.private.Limits.{AreLimits};
 
     ghost Value = { QueueLimits };
 

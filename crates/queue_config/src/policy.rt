@@ -5,7 +5,8 @@ ghost use Rattle.std.specs.Prelude.{◌≡◌, ◌<◌, ℕ, List, length, Some,
 ghost use Rattle.std.specs.Option.{ForSome};
 ghost use Rattle.message.specs.Fault.{Meets};
 ghost use Rattle.serde_json.specs.View.{view};
-ghost use Rattle.queue_config.specs.Policy.{IsReceiveLimit, after_start, after_colon, name_in_arn, IsArn, receive_limit_in, policy_in, requested_policy};
+ghost use Rattle.queue_config.specs.Policy.{IsReceiveLimit, after_start, after_colon, name_in_arn, receive_limit_in, policy_in, requested_policy};
+ghost use Rattle.queue_config.specs.private.Policy.{IsArn};
 
 use crate::decimal::decimal_number;
 use message::{Fault, QueueName};

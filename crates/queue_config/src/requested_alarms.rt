@@ -5,7 +5,7 @@ ghost use Rattle.std.specs.Prelude.{◌≡◌, [], map, Ok};
 ghost use Rattle.std.specs.List.{list_any};
 ghost use Rattle.queue_config.specs.AlarmText.{alarms_of, have_too_many_alarms, is_same_alarm, have_equal_alarms, configured_alarm, configured_alarms};
 ghost use Rattle.queue_config.specs.ConfigFault.{IsReadAs};
-ghost use Rattle.queue_config.specs.ConfigKeys.{items_of};
+ghost use Rattle.queue_config.specs.private.ConfigKeys.{items_of};
 
 use crate::alarm_rule::{ALARM_LIMIT, AlarmRule};
 use crate::config::ConfiguredAlarm;

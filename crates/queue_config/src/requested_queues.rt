@@ -6,7 +6,7 @@ ghost use Rattle.std.specs.List.{position};
 ghost use Rattle.std.specs.Str.{bytes_eq};
 ghost use Rattle.queue_config.specs.Config.{configured_uid};
 ghost use Rattle.queue_config.specs.ConfigFault.{IsReadAs};
-ghost use Rattle.queue_config.specs.ConfigKeys.{items_of};
+ghost use Rattle.queue_config.specs.private.ConfigKeys.{items_of};
 ghost use Rattle.queue_config.specs.ConfigText.{has_name, have_equal_names, target_among, configured_queue, configured_queues, together};
 
 use crate::config::{Config, ConfiguredQueue, QUEUE_LIMIT};

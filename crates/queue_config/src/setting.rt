@@ -3,7 +3,8 @@
 ghost use Rattle.std.specs.Prelude.{◌≡◌};
 ghost use Rattle.std.specs.List.{find};
 ghost use Rattle.std.specs.Str.{bytes_eq};
-ghost use Rattle.queue_config.specs.SettingRows.{setting_row, setting_named, setting_with_key};
+ghost use Rattle.queue_config.specs.SettingRows.{setting_row, setting_named};
+ghost use Rattle.queue_config.specs.private.SettingRows.{setting_with_key};
 
 use std::marker::Model;
 

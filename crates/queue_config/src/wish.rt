@@ -28,7 +28,8 @@ pub struct Wish {
 }
 
 impl Model for Wish {
-    ghost use Rattle.queue_config.specs.Settings.{RequestedAttributes, AreRequested};
+    ghost use Rattle.queue_config.specs.Settings.{RequestedAttributes};
+    ghost use Rattle.queue_config.specs.private.Settings.{AreRequested};
 
     ghost Value = { RequestedAttributes };
 

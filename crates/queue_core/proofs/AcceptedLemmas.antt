@@ -15,7 +15,8 @@ use Rattle.queue_core.specs.declared.command.Command.TheVariants as commands
 use Rattle.queue_core.specs.declared.accepted.Accepted.{Accepted}
 use Rattle.journal.specs.declared.base.TransferKey.{TransferKey}
 use Rattle.queue_core.specs.Messages.{effect_of, key_of, accepts, has_accepted}
-use Rattle.queue_core.specs.Accepted.{holds, accepted_keys, AreAccepted}
+use Rattle.queue_core.specs.Accepted.{accepted_keys}
+use Rattle.queue_core.specs.private.Accepted.{holds, AreAccepted}
 use Rattle.queue_core.specs.Queue.{QueueHistory}
 use Rattle.queue_core.specs.Legal.{IsCausedIn}
 use Rattle.queue_core.proofs.InPlaceLemmas.{added_in}

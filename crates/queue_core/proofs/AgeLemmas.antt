@@ -10,7 +10,7 @@ use Rattle.std.proofs.lemmas.Bool.Decides.{nat_tests}
 use Rattle.std.proofs.lemmas.List.{get_or_default, get_or-set_same, get_or-set_other, length-set}
 use Rattle.age_index.specs.Ages.{IsNumberAt, slots_without}
 use Rattle.queue_core.specs.declared.ages.Ages.{Ages}
-use Rattle.queue_core.specs.Ages.{place_if, AreAges, IsLonger, CanList, IsListed}
+use Rattle.queue_core.specs.private.Ages.{place_if, AreAges, IsLonger, CanList, IsListed}
 
 -- ---- how many numbers a map has
 

@@ -8,11 +8,11 @@ use Rattle.queue_core.specs.declared.index.MessageIndex.{MessageIndex}
 use Rattle.queue_core.specs.declared.indices.Indices.{Indices}
 use Rattle.queue_core.specs.declared.ages.Ages.{Ages}
 use Rattle.indexmap.specs.IndexMap.{index_map_len}
-use Rattle.queue_core.specs.Ages.{place_if, IsLonger}
-use Rattle.queue_core.specs.Changes.{IsReserved}
+use Rattle.queue_core.specs.private.Ages.{place_if, IsLonger}
+use Rattle.queue_core.specs.private.Changes.{IsReserved}
 use Rattle.queue_core.specs.Messages.{contains_number}
-use Rattle.queue_core.specs.Slots.{has_age, is_failing, is_left, count_slots, one_if}
-use Rattle.queue_core.specs.Records.{slots_in, born_in, IsIndexed}
+use Rattle.queue_core.specs.private.Slots.{has_age, is_failing, is_left, count_slots, one_if}
+use Rattle.queue_core.specs.private.Records.{slots_in, born_in, IsIndexed}
 use Rattle.queue_core.proofs.SlotLemmas.{counted}
 use Rattle.queue_core.proofs.SlotCountLemmas.{count_agree, count_members, count_parts, count_upto}
 use Rattle.queue_core.proofs.BoundLemmas.{len-counted}

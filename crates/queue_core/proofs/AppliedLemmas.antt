@@ -11,16 +11,16 @@ use Rattle.queue_config.specs.Settings.{QueueSettings}
 use Rattle.journal.specs.declared.entry.Event.{Event}
 use Rattle.journal.specs.declared.entry.Event.TheVariants.{Received, Changed, Deleted, DeletedAgain, Purged, Set, Settled, Orphaned, Closed}
 use Rattle.queue_core.specs.declared.effect.Change.TheVariants.{Nothing}
-use Rattle.queue_core.specs.Effects.{changed_by}
-use Rattle.queue_core.specs.Tally.{births}
+use Rattle.queue_core.specs.private.Effects.{changed_by}
+use Rattle.queue_core.specs.private.Tally.{births}
 use Rattle.queue_core.specs.Messages.{Birth, Effect, effect_of, contains_number, offers_number, loses, closes, closes_period}
 use Rattle.queue_core.specs.declared.slot.Stay.{Stay}
 use Rattle.queue_core.specs.declared.slot.Stay.TheVariants.{Hidden, Shown, Left}
 use Rattle.queue_core.specs.declared.record.Record.{Record}
 use Rattle.queue_core.specs.declared.index.MessageIndex.{MessageIndex}
-use Rattle.queue_core.specs.Slots.{is_here, is_left, is_left_stay}
-use Rattle.queue_core.specs.Records.{records_in, slots_in, born_in, with_stay, hidden_until, received_at, back_at, is_left_record, offered_after, rescheduled_after, here_after, left_after, record_after, record_after_stay, born_record, record_of_birth, record_begun, records_after, Records, HasIndices, IsIndexed}
-use Rattle.queue_core.specs.Applying.{CanApply, counted_if, HaveReceived, HaveCounted, HasChanged, among, where_here, where_left, where_left_stay, ended_by, returned_from}
+use Rattle.queue_core.specs.private.Slots.{is_here, is_left, is_left_stay}
+use Rattle.queue_core.specs.private.Records.{records_in, slots_in, born_in, with_stay, hidden_until, received_at, back_at, is_left_record, offered_after, rescheduled_after, here_after, left_after, record_after, record_after_stay, born_record, record_of_birth, record_begun, records_after, Records, HasIndices, IsIndexed}
+use Rattle.queue_core.specs.private.Applying.{CanApply, counted_if, HaveReceived, HaveCounted, HasChanged, among, where_here, where_left, where_left_stay, ended_by, returned_from}
 use Rattle.queue_core.proofs.NumberLemmas.{AreOnce, or-false, contains-append, contains-filter, filter_same, filter_alike, filter_none, once-append}
 use Rattle.queue_core.proofs.PushLemmas.{mapped_some}
 use Rattle.queue_core.proofs.ChangeLemmas.{and_then-some, and_then-same, left_stay-none, changed-then, changed-same, outside}

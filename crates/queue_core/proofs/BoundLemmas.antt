@@ -37,15 +37,15 @@ use Rattle.queue_core.specs.declared.index.MessageIndex.{MessageIndex}
 use Rattle.queue_core.specs.Messages.{messages, message_count, receive_count, awaits_transfer}
 use Rattle.queue_core.specs.States.{is_live, state_of, same_state, is_in_state, is_numbered, message_numbered}
 use Rattle.queue_core.specs.Queue.{QueueHistory, at_moment, waiting_count, with_event}
-use Rattle.queue_core.specs.Slots.{one_if, is_shown_stay, is_left_stay, is_here, is_left, due_in, sent_in, shows, count_slots, AreIndexed}
-use Rattle.queue_core.specs.Records.{records_in, slots_in, born_in, HasIndices}
-use Rattle.queue_core.specs.Indexed.{IsIndexOf}
+use Rattle.queue_core.specs.private.Slots.{one_if, is_shown_stay, is_left_stay, is_here, is_left, due_in, sent_in, shows, count_slots, AreIndexed}
+use Rattle.queue_core.specs.private.Records.{records_in, slots_in, born_in, HasIndices}
+use Rattle.queue_core.specs.private.Indexed.{IsIndexOf}
 use Rattle.queue_core.proofs.Scans.{births_few}
 use Rattle.queue_core.proofs.FactLemmas.{IsAbout, IsSound}
 use Rattle.queue_core.proofs.StandingCountLemmas.{numbers_same}
 use Rattle.queue_core.proofs.SummaryLemmas.{records-kept}
 use Rattle.queue_core.specs.Cost.{binary_digits, touched_count, most_ticks}
-use Rattle.queue_core.specs.Spending.{weight, AreBelow, event_adds, state_weight, queue_weight, queue_kept, HasCome, HasAdded}
+use Rattle.queue_core.specs.private.Spending.{weight, AreBelow, event_adds, state_weight, queue_weight, queue_kept, HasCome, HasAdded}
 use Rattle.queue_core.proofs.AgeLemmas.{len_below}
 use Rattle.queue_core.proofs.PairLemmas.{AllPairs-map, count_by-places}
 use Rattle.queue_core.proofs.SlotCountLemmas.{count_more}

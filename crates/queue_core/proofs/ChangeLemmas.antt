@@ -8,9 +8,9 @@ use Rattle.queue_core.specs.declared.slot.Stay.{Stay}
 use Rattle.queue_core.specs.declared.slot.Stay.TheVariants.{Hidden, Shown, Left}
 use Rattle.queue_core.specs.declared.record.Record.{Record}
 use Rattle.queue_core.specs.declared.index.MessageIndex.{MessageIndex}
-use Rattle.queue_core.specs.Slots.{is_here, is_left, is_left_stay}
-use Rattle.queue_core.specs.Records.{records_in, slots_in, born_in, HasIndices, IsIndexed}
-use Rattle.queue_core.specs.Applying.{counted_if, HaveCounted, HasChanged, among, where_here, where_left, where_left_stay}
+use Rattle.queue_core.specs.private.Slots.{is_here, is_left, is_left_stay}
+use Rattle.queue_core.specs.private.Records.{records_in, slots_in, born_in, HasIndices, IsIndexed}
+use Rattle.queue_core.specs.private.Applying.{counted_if, HaveCounted, HasChanged, among, where_here, where_left, where_left_stay}
 use Rattle.queue_core.proofs.NumberLemmas.{AreOnce, or-true, or-false, contains-push, unseen}
 
 -- ---- one record

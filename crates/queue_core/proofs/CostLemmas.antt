@@ -6,10 +6,10 @@ use Rattle.message.specs.Content.{ContentText}
 use Rattle.journal.specs.declared.entry.Event.{Event}
 use Rattle.queue_core.specs.declared.index.MessageIndex.{MessageIndex}
 use Rattle.queue_core.specs.Queue.{QueueHistory, at_moment, with_event, waiting_count}
-use Rattle.queue_core.specs.Tally.{births}
-use Rattle.queue_core.specs.Indexed.{IsIndexOf}
+use Rattle.queue_core.specs.private.Tally.{births}
+use Rattle.queue_core.specs.private.Indexed.{IsIndexOf}
 use Rattle.queue_core.specs.Standing.{StandsFor}
-use Rattle.queue_core.specs.Spending.{weight, queue_weight, event_adds, left_count, Costs, HasCome, HasAdded}
+use Rattle.queue_core.specs.private.Spending.{weight, queue_weight, event_adds, left_count, Costs, HasCome, HasAdded}
 use Rattle.queue_core.proofs.BoundLemmas.{weight-is, kept-is, kept-upto}
 use Rattle.queue_core.proofs.StandingCountLemmas.{weight_same, kept_same}
 use Rattle.queue_core.proofs.QuestionLemmas.{left_for_counted}

@@ -7,9 +7,9 @@ use Rattle.journal.specs.Order.{is_before}
 use Rattle.deadline_heap.specs.Deadlines.{IsFirst}
 use Rattle.queue_core.specs.declared.record.Record.{Record}
 use Rattle.queue_core.specs.declared.index.MessageIndex.{MessageIndex}
-use Rattle.queue_core.specs.Slots.{is_hidden_stay, is_left_stay, due_in, sent_in}
-use Rattle.queue_core.specs.Records.{records_in, HasIndices}
-use Rattle.queue_core.specs.Settling.{is_due, was_sent_by}
+use Rattle.queue_core.specs.private.Slots.{is_hidden_stay, is_left_stay, due_in, sent_in}
+use Rattle.queue_core.specs.private.Records.{records_in, HasIndices}
+use Rattle.queue_core.specs.private.Settling.{is_due, was_sent_by}
 
 no_less : (a p : ℕ × ℕ) → is_before a p ≡ false → p.0 ≤ a.0
 no_less a p h = let parts = or_parts (nat_lt a.0 p.0) (nat_eq a.0 p.0 && nat_lt a.1 p.1) h in ltb-false a.0 p.0 parts.0

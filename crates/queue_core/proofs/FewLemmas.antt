@@ -11,8 +11,8 @@ use Rattle.queue_core.specs.Messages.{message_count}
 use Rattle.queue_core.specs.States.{kept_count}
 use Rattle.queue_core.specs.Queue.{QueueHistory}
 use Rattle.queue_core.proofs.CauseLemmas.{IsAbout}
-use Rattle.queue_core.specs.Slots.{one_if}
-use Rattle.queue_core.specs.Tally.{births}
+use Rattle.queue_core.specs.private.Slots.{one_if}
+use Rattle.queue_core.specs.private.Tally.{births}
 use Rattle.queue_core.specs.Summary.{KnownMessage, summary_of}
 use Rattle.queue_core.proofs.Scans.{births_few}
 use Rattle.queue_core.proofs.FactLemmas.{Line, IsSound}

@@ -29,13 +29,13 @@ use Rattle.queue_core.specs.Messages.{Birth, effect_of, contains_number, message
 use Rattle.queue_core.specs.States.{has_age, is_in_state, count_in_state, is_numbered}
 use Rattle.queue_core.specs.Queue.{QueueHistory, with_event}
 use Rattle.queue_core.specs.Legal.{IsCausedIn}
-use Rattle.queue_core.specs.Ages.{place_if}
-use Rattle.queue_core.specs.Heaps.{next_time, sent_time, visible_pairs}
-use Rattle.queue_core.specs.Slots.{is_here, is_shown, is_left, is_left_stay, has_age as slot_has_age, AreIndexed}
-use Rattle.queue_core.specs.Records.{records_in, slots_in, born_in, with_stay, hidden_until, received_at, back_at, has_run_out, stay_at, is_left_record, settled_record, offered_after, rescheduled_after, here_after, record_after, record_after_stay, born_record, record_of_birth, record_begun, records_after, records_settled, HasIndices, IsIndexed, HasSame, IsSettled}
-use Rattle.queue_core.specs.Recorded.{AreRecorded}
-use Rattle.queue_core.specs.Applying.{CanApply, counted_if}
-use Rattle.queue_core.specs.Indexed.{known_record, IsIndexOf}
+use Rattle.queue_core.specs.private.Ages.{place_if}
+use Rattle.queue_core.specs.private.Heaps.{next_time, sent_time, visible_pairs}
+use Rattle.queue_core.specs.private.Slots.{is_here, is_shown, is_left, is_left_stay, has_age as slot_has_age, AreIndexed}
+use Rattle.queue_core.specs.private.Records.{records_in, slots_in, born_in, with_stay, hidden_until, received_at, back_at, has_run_out, stay_at, is_left_record, settled_record, offered_after, rescheduled_after, here_after, record_after, record_after_stay, born_record, record_of_birth, record_begun, records_after, records_settled, HasIndices, IsIndexed, HasSame, IsSettled}
+use Rattle.queue_core.specs.private.Recorded.{AreRecorded}
+use Rattle.queue_core.specs.private.Applying.{CanApply, counted_if}
+use Rattle.queue_core.specs.private.Indexed.{known_record, IsIndexOf}
 use Rattle.metric_window.specs.Flows.{greatest}
 use Rattle.queue_core.proofs.Scans.{StandsAlone}
 use Rattle.queue_core.proofs.AloneLemmas.{departures-alone}

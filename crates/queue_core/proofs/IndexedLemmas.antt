@@ -27,10 +27,10 @@ use Rattle.queue_core.specs.declared.slot.Stay.TheVariants.{Hidden, Shown, Left}
 use Rattle.queue_core.specs.declared.slot.Slot.{Slot}
 use Rattle.queue_core.specs.declared.record.Record.{Record}
 use Rattle.queue_core.specs.declared.indices.Indices.{Indices}
-use Rattle.queue_core.specs.Heaps.{next_time, sent_time}
-use Rattle.queue_core.specs.Slots.{due_in, sent_in, is_hidden_stay, is_shown_stay, is_left_stay, is_left_stay_for, is_left_for, is_here, is_shown, is_left, is_delayed, is_in_flight, has_age as slot_has_age, shows, count_slots, AreIndexed}
-use Rattle.queue_core.specs.Records.{Records, stay_at, with_stay, has_run_out, settled_record, IsSettled}
-use Rattle.queue_core.specs.Recorded.{runs_out_by, IsStanding, IsRecordOf, notes_end, TellsExpiry, AreRecorded}
+use Rattle.queue_core.specs.private.Heaps.{next_time, sent_time}
+use Rattle.queue_core.specs.private.Slots.{due_in, sent_in, is_hidden_stay, is_shown_stay, is_left_stay, is_left_stay_for, is_left_for, is_here, is_shown, is_left, is_delayed, is_in_flight, has_age as slot_has_age, shows, count_slots, AreIndexed}
+use Rattle.queue_core.specs.private.Records.{Records, stay_at, with_stay, has_run_out, settled_record, IsSettled}
+use Rattle.queue_core.specs.private.Recorded.{runs_out_by, IsStanding, IsRecordOf, notes_end, TellsExpiry, AreRecorded}
 use Rattle.queue_core.proofs.FactLemmas.{Line, numbered-number}
 use Rattle.queue_core.proofs.PairLemmas.{AreAscending, ascending_same, AllPairs-map, count_by-places}
 

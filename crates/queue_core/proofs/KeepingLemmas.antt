@@ -11,11 +11,11 @@ use Rattle.journal.specs.declared.base.KeptRow.{KeptRow}
 use Rattle.journal.specs.declared.base.TransferKey.{TransferKey}
 use Rattle.queue_core.specs.declared.record.Record.{Record}
 use Rattle.queue_core.specs.declared.index.MessageIndex.{MessageIndex}
-use Rattle.queue_core.specs.Records.{records_in}
+use Rattle.queue_core.specs.private.Records.{records_in}
 use Rattle.queue_core.specs.Summary.{KnownMessage, Summary}
-use Rattle.queue_core.specs.Indexed.{known_record, Keeps}
+use Rattle.queue_core.specs.private.Indexed.{known_record, Keeps}
 use Rattle.queue_core.specs.Rebase.{kept_of, live_at, kept_at, kept_live, kept_waiting, kept_flows, kept_row, base_in}
-use Rattle.queue_core.specs.Keeping.{kept_record, present_in, kept_in, messages_kept}
+use Rattle.queue_core.specs.private.Keeping.{kept_record, present_in, kept_in, messages_kept}
 
 module _ (x : MessageIndex) (s : Summary) (clock : ℕ) (keeps : Keeps x s clock) where
   abbrev retention : ℕ

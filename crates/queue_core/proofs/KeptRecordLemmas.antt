@@ -12,10 +12,10 @@ use Rattle.indexmap.specs.IndexMap.{index_map_len, spare}
 use Rattle.queue_core.specs.declared.slot.Slot.{Slot}
 use Rattle.queue_core.specs.declared.record.Record.{Record}
 use Rattle.queue_core.specs.declared.index.MessageIndex.{MessageIndex}
-use Rattle.queue_core.specs.Ages.{HasPlaces}
-use Rattle.queue_core.specs.Slots.{is_left, count_slots, CanReplace, IsReplaced, AreIndexed, HasRoomForOne}
-use Rattle.queue_core.specs.Changes.{IsReserved, HasRoom}
-use Rattle.queue_core.specs.Records.{records_in, slots_in, born_in, with_parts, HasIndices, IsReady}
+use Rattle.queue_core.specs.private.Ages.{HasPlaces}
+use Rattle.queue_core.specs.private.Slots.{is_left, count_slots, CanReplace, IsReplaced, AreIndexed, HasRoomForOne}
+use Rattle.queue_core.specs.private.Changes.{IsReserved, HasRoom}
+use Rattle.queue_core.specs.private.Records.{records_in, slots_in, born_in, with_parts, HasIndices, IsReady}
 use Rattle.queue_core.proofs.SlotsIndexedLemmas.{can_replace, indexed_replaced, indexed_more, indexed_same, indexed_reserved, room_more, room_for_one}
 
 abbrev slot_in : Option Record → Option Slot

@@ -24,7 +24,7 @@ use Rattle.queue_core.specs.Messages.{settings_of, created_time, modified_time, 
 use Rattle.queue_core.specs.States.{gauges_of}
 use Rattle.queue_core.specs.Queue.{QueueHistory, Outcome, at_moment, is_at_limit, is_full, first_refusal, with_room, wants_open, unless_some, rebases, done, send_outcome, receive_outcome, change_outcome, delete_outcome, close_outcome, arrive_outcome, is_pending, settle_outcome, orphan_outcome, waiting_count, in_flight_count, offered_candidates, offers_of, received_event, change_refusal, is_valid_handle, holds_live, outcome_in, with_event, with_optional_event, wants_room_alone, look_of}
 use Rattle.queue_core.specs.Legal.{IsOrdered, IsAllowedIn, IsCausedIn, AreCaused, BeginsAndFollows, IsWhole, GoesOn, IsLegal}
-use Rattle.queue_core.specs.Kept.{IsKept}
+use Rattle.queue_core.specs.private.Kept.{IsKept}
 use Rattle.journal.specs.Weight.{event_weight, weight_of}
 use Rattle.std.proofs.lemmas.List.Sums.{sum_by-cons, sum_by-append}
 use Rattle.queue_core.proofs.PushLemmas.{closed-push}

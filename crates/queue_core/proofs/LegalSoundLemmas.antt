@@ -23,7 +23,7 @@ use Rattle.queue_core.specs.Summary.{Summary, summary_of}
 use Rattle.queue_core.specs.Rebase.{base_in, base_of}
 use Rattle.queue_core.specs.Queue.{QueueHistory, Outcome, at_moment, with_event, is_at_limit, is_full, first_refusal, unless_refused, with_room, send_outcome, receive_outcome, change_outcome, delete_outcome, arrive_outcome, settle_outcome, orphan_outcome, done, uncounted_refusal, adding, wants_open, unless_some, rebases, rebased, outcome_in}
 use Rattle.queue_core.specs.Legal.{IsOrdered, IsAllowedIn, IsCausedIn, AreCaused, BeginsAndFollows, IsWhole, IsCheckpoint, GoesOn, IsLegal}
-use Rattle.queue_core.specs.Kept.{IsKept}
+use Rattle.queue_core.specs.private.Kept.{IsKept}
 use Rattle.queue_core.specs.Standing.{StandsFor}
 use Rattle.queue_core.proofs.InPlaceLemmas.{added_in, unlimited, unwanted, placed}
 use Rattle.queue_core.proofs.CauseLemmas.{about-caused}

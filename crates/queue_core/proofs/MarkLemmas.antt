@@ -21,7 +21,7 @@ use Rattle.queue_core.specs.declared.facts.Status.{Status}
 use Rattle.queue_core.specs.declared.facts.Status.TheVariants.{Present, Removed, Waiting, Transferred}
 use Rattle.queue_core.specs.Messages.{Birth, Receives, Since, never_received, kept_numbered, kept_birth, gone_birth, base_receives, kept_transfer, effect_of, message_in, messages_in, messages_from, messages, settings_after, settings_from, RetentionPeriod, closes_period, periods_from, runs_out_in, opens, created_time, offers_number, receives_in, receive_count, status_after, returns, due_after, course_after, course_from, course_of, rows_known}
 use Rattle.queue_core.specs.States.{gauges_of, receive_order}
-use Rattle.queue_core.specs.Tally.{births}
+use Rattle.queue_core.specs.private.Tally.{births}
 use Rattle.journal.specs.Mark.{mark_event, mark_of}
 use Rattle.queue_core.proofs.AlikeLemmas.{IsAlike, gauges-alike, order-alike}
 

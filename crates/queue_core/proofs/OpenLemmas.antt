@@ -18,7 +18,7 @@ use Rattle.queue_core.specs.declared.facts.Transfer.{Transfer}
 use Rattle.queue_core.specs.Messages.{message_count, settings_of, is_closed, is_expired, receive_count, course_of, is_present, is_removed_status, pending_transfers}
 use Rattle.queue_core.specs.Metrics.{metric_row}
 use Rattle.queue_core.specs.States.{message_numbered}
-use Rattle.queue_core.specs.Recorded.{runs_out_by}
+use Rattle.queue_core.specs.private.Recorded.{runs_out_by}
 use Rattle.queue_core.specs.Summary.{KnownMessage, Summary, known_message, known_where, summary_of}
 use Rattle.queue_core.proofs.FactLemmas.{Line, expired-split, numbered-number, numbered-place, numbered-below}
 use Rattle.queue_core.proofs.PushLemmas.{count-upto, content_numbered}

@@ -25,7 +25,7 @@ use Rattle.queue_core.specs.States.{is_live, is_in_state, is_numbered}
 use Rattle.queue_core.specs.Queue.{QueueHistory, Outcome, at_moment, refusal, is_full, unless_refused, first_refusal, refused_or, done, in_flight_count, is_valid_handle, holds_in_flight, passes_twelve_hours, is_pending, rebased_where, outcome_in, reached, outcome_at, with_event, with_optional_event, after_answer}
 use Rattle.queue_core.specs.Lasting.{StandsAs}
 use Rattle.queue_core.specs.Refusals.{is_own_refusal, LastsAs}
-use Rattle.queue_core.specs.Recorded.{ran_out_before, runs_out_by}
+use Rattle.queue_core.specs.private.Recorded.{ran_out_before, runs_out_by}
 use Rattle.queue_core.proofs.PushLemmas.{or_false, settings_from-push, ran_out-push, expired-split}
 use Rattle.queue_core.proofs.AlikeLemmas.{Agree, IsAlike, agree-live, agree-state, gauges-alike, order-alike}
 use Rattle.queue_core.proofs.RefusalLemmas.{all-placed, StandsAs-refused}

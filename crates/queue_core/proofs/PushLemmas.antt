@@ -23,10 +23,10 @@ use Rattle.queue_core.specs.declared.facts.Status.{Status}
 use Rattle.queue_core.specs.declared.facts.Status.TheVariants.{Present, Removed, Waiting, Transferred}
 use Rattle.queue_core.specs.declared.facts.Transfer.{Transfer}
 use Rattle.queue_core.specs.Messages.{Birth, Past, Receives, Since, never_received, kept_birth, gone_birth, kept_numbered, effect_of, no_past, message_in, messages_in, messages_from, messages, message_count, contents_in, contents, content_of, settings_after, settings_from, settings_of, RetentionPeriod, closes_period, periods_from, runs_out_in, is_expired, offers_number, receives_before, receives_in, receive_count, first_of_both, first_receive_in, first_receive_time, last_receive_by, last_receive_from, last_receive_time, is_removed_status, is_removed, status_after, course_after, course_from, course_of, ends_transfer, accepts, has_accepted, closes, is_closed}
-use Rattle.queue_core.specs.Tally.{births}
+use Rattle.queue_core.specs.private.Tally.{births}
 use Rattle.queue_core.specs.States.{message_numbered}
 use Rattle.queue_core.proofs.Scans.{StandsAlone, by_closing, length-messages_in, births_few}
-use Rattle.queue_core.specs.Recorded.{closed_periods_from, ran_out_before, runs_out_by}
+use Rattle.queue_core.specs.private.Recorded.{closed_periods_from, ran_out_before, runs_out_by}
 
 abbrev pub Line : Type 0
 Line = Entry ContentText

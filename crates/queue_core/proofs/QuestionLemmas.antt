@@ -25,10 +25,10 @@ use Rattle.queue_core.specs.declared.slot.Stay.TheVariants.{Hidden, Shown, Left}
 use Rattle.queue_core.specs.declared.slot.Slot.{Slot}
 use Rattle.queue_core.specs.declared.record.Record.{Record}
 use Rattle.queue_core.specs.declared.index.MessageIndex.{MessageIndex}
-use Rattle.queue_core.specs.Slots.{is_left_stay, is_left_stay_for, is_here, has_age as slot_has_age, is_left, is_left_for, is_in_flight, AreIndexed}
-use Rattle.queue_core.specs.Records.{records_in, slots_in, born_in}
-use Rattle.queue_core.specs.Recorded.{IsStanding, IsRecordOf}
-use Rattle.queue_core.specs.Indexed.{IsIndexOf}
+use Rattle.queue_core.specs.private.Slots.{is_left_stay, is_left_stay_for, is_here, has_age as slot_has_age, is_left, is_left_for, is_in_flight, AreIndexed}
+use Rattle.queue_core.specs.private.Records.{records_in, slots_in, born_in}
+use Rattle.queue_core.specs.private.Recorded.{IsStanding, IsRecordOf}
+use Rattle.queue_core.specs.private.Indexed.{IsIndexOf}
 use Rattle.queue_core.proofs.SummaryLemmas.{records-kept}
 use Rattle.queue_core.proofs.FactLemmas.{Line, numbered-number, IsSound}
 use Rattle.queue_core.proofs.LegalSoundLemmas.{sound_legal}

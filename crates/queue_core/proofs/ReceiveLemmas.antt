@@ -16,10 +16,10 @@ use Rattle.message.specs.Content.{ContentText}
 use Rattle.queue_core.specs.Messages.{message_count, receive_count, settings_of, content_of}
 use Rattle.queue_core.specs.States.{receive_order}
 use Rattle.queue_core.specs.Queue.{QueueHistory, is_exhausted, scanned, offered_candidates, offer_of, offers_of, numbers_of}
-use Rattle.queue_core.specs.Slots.{AreIndexed}
-use Rattle.queue_core.specs.Records.{records_in, slots_in, born_in}
-use Rattle.queue_core.specs.Recorded.{IsRecordOf}
-use Rattle.queue_core.specs.Indexed.{IsIndexOf}
+use Rattle.queue_core.specs.private.Slots.{AreIndexed}
+use Rattle.queue_core.specs.private.Records.{records_in, slots_in, born_in}
+use Rattle.queue_core.specs.private.Recorded.{IsRecordOf}
+use Rattle.queue_core.specs.private.Indexed.{IsIndexOf}
 use Rattle.queue_core.proofs.SummaryLemmas.{records-kept}
 use Rattle.queue_core.proofs.FactLemmas.{Line, IsSound}
 use Rattle.queue_core.proofs.IndexedLemmas.{pair_of, IsOffered, IsTurn, offered, order_is, turn_at}

@@ -25,9 +25,9 @@ use Rattle.queue_core.proofs.CauseLemmas.{IsAbout}
 use Rattle.queue_core.specs.declared.slot.Stay.{Stay}
 use Rattle.queue_core.specs.declared.slot.Stay.TheVariants.{Hidden, Shown, Left}
 use Rattle.queue_core.specs.declared.record.Record.{Record}
-use Rattle.queue_core.specs.Slots.{is_left_stay}
-use Rattle.queue_core.specs.Records.{with_stay, has_run_out, tried, stay_at, is_left_record, settled_record, record_after, Records, IsSettled, born_record, record_of_birth, record_begun, records_after, records_settled}
-use Rattle.queue_core.specs.Recorded.{ran_out_before, runs_out_by, IsStanding, IsRecordOf, notes_end, TellsExpiry, AreRecorded}
+use Rattle.queue_core.specs.private.Slots.{is_left_stay}
+use Rattle.queue_core.specs.private.Records.{with_stay, has_run_out, tried, stay_at, is_left_record, settled_record, record_after, Records, IsSettled, born_record, record_of_birth, record_begun, records_after, records_settled}
+use Rattle.queue_core.specs.private.Recorded.{ran_out_before, runs_out_by, IsStanding, IsRecordOf, notes_end, TellsExpiry, AreRecorded}
 use Rattle.queue_core.proofs.FactLemmas.{Line, settings_from-push, course-push, ran_out-push, expired-split, receives-push, first-push, last-push, content-push, numbered-push, numbered-number, numbered-place, numbered-past, IsNewborn, newborn, IsSound}
 use Rattle.std.proofs.lemmas.Bool.Decides.{nat_tests}
 use Rattle.queue_core.proofs.Scans.{StandsAlone}

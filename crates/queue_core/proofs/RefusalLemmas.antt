@@ -26,7 +26,7 @@ use Rattle.queue_core.specs.Messages.{Since, effect_of, messages, settings_of, i
 use Rattle.queue_core.specs.States.{is_live, is_in_state, is_numbered}
 use Rattle.queue_core.specs.Queue.{QueueHistory, rebased_where, rebases, reached, outcome_of, outcome_at, with_event, with_optional_event, after_outcome, after_answer, is_valid_handle}
 use Rattle.queue_core.specs.Lasting.{StandsAs, left_by_refusal, refusal_event}
-use Rattle.queue_core.specs.Recorded.{ran_out_before, runs_out_by}
+use Rattle.queue_core.specs.private.Recorded.{ran_out_before, runs_out_by}
 use Rattle.queue_core.proofs.PushLemmas.{count-upto, capped-same, first-alone, first-push, last-push, or_false, settings_from-push, closed-push, accepted-push, course-push, ran_out-push, expired-split, receives-push, messages-push, numbered-place}
 use Rattle.queue_core.proofs.PendingLemmas.{filter_all, pending_transfers-push}
 use Rattle.queue_core.proofs.TallyLemmas.{modified_from-push}

@@ -15,11 +15,11 @@ use Rattle.queue_core.specs.declared.command.Command.TheVariants as commands
 use Rattle.queue_core.specs.Messages.{is_closed, settings_of}
 use Rattle.queue_core.specs.Queue.{QueueHistory, Outcome, adds_entry, hands_over, takes_memory, has_room, wants_place_alone, wants_room_alone, IsExact, IsExactWithRoom, at_moment, is_at_limit, is_full, first_refusal, unless_refused, unless_some, wants_open, uncounted_refusal, send_outcome, receive_outcome, change_outcome, delete_outcome, arrive_outcome, settle_outcome, orphan_outcome, done, rebased, rebased_where, rebases, outcome_in, outcome_of, with_optional_event, after_outcome, as_reply}
 use Rattle.queue_core.specs.Legal.{IsLegal}
-use Rattle.queue_core.specs.Replaced.{CanComeBack, put_back_in}
+use Rattle.queue_core.specs.private.Replaced.{CanComeBack, put_back_in}
 use Rattle.queue_core.specs.Standing.{StandsFor}
 use Rattle.queue_core.specs.States.{kept_count}
 use Rattle.queue_core.specs.Cost.{binary_digits, most_ticks}
-use Rattle.queue_core.specs.Spending.{HasCome}
+use Rattle.queue_core.specs.private.Spending.{HasCome}
 use Rattle.queue_core.proofs.FactLemmas.{IsSound}
 use Rattle.queue_core.proofs.InPlaceLemmas.{plain, in_place}
 use Rattle.queue_core.proofs.LegalSoundLemmas.{unrefused, stands_rebased, sound_legal, sound_rebased, weight_rebased}

@@ -7,7 +7,7 @@ use Rattle.journal.specs.declared.entry.Entry.{Entry}
 use Rattle.journal.specs.declared.entry.Event.{Event}
 use Rattle.journal.specs.declared.entry.Event.TheVariants.{Sent, Arrived, Base}
 use Rattle.queue_core.specs.Messages.{Birth, Since, effect_of, messages_in, messages_from, RetentionPeriod}
-use Rattle.queue_core.specs.Tally.{births}
+use Rattle.queue_core.specs.private.Tally.{births}
 
 pub by_closing : (b : Bool) (p : RetentionPeriod → Bool) (first : RetentionPeriod) (others : List RetentionPeriod)
     → list_any p (cond b (first ∷ others) others) ≡ (b && p first) || list_any p others

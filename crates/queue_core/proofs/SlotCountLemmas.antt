@@ -7,7 +7,7 @@ use Rattle.std.proofs.lemmas.List.Elements.{All-head, All-tail}
 use Rattle.std.proofs.lemmas.List.Sums.{sum_by-cons, get_or-le-sum_by, count_by-le-length}
 use Rattle.std.proofs.lemmas.List.FromFn.{length-range_with_len, get_or-range_with_len}
 use Rattle.queue_core.specs.Messages.{contains_number}
-use Rattle.queue_core.specs.Slots.{one_if}
+use Rattle.queue_core.specs.private.Slots.{one_if}
 use Rattle.queue_core.proofs.CauseLemmas.{AllPairs-head, AllPairs-tail}
 
 -- the numbers from a start on

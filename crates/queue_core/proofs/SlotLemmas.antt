@@ -4,8 +4,8 @@ use mir.Val.{bool_byte}
 use Rattle.queue_core.specs.declared.slot.Stay.{Stay}
 use Rattle.queue_core.specs.declared.slot.Stay.TheVariants.{Hidden, Shown, Left}
 use Rattle.queue_core.specs.declared.slot.Slot.{Slot}
-use Rattle.queue_core.specs.Slots.{is_hidden_stay, is_shown_stay, is_left_stay, is_hidden, is_shown, is_left, is_here, is_delayed, is_in_flight, has_age, is_failing, due_in, sent_in, shows, one_if}
-use Rattle.queue_core.specs.Changes.{shown_in, is_at}
+use Rattle.queue_core.specs.private.Slots.{is_hidden_stay, is_shown_stay, is_left_stay, is_hidden, is_shown, is_left, is_here, is_delayed, is_in_flight, has_age, is_failing, due_in, sent_in, shows, one_if}
+use Rattle.queue_core.specs.private.Changes.{shown_in, is_at}
 
 -- a slot is hidden, shown or left, and a hidden one delayed or in flight
 pub record IsCounted (o : Option Slot) : Type 0 where

@@ -8,9 +8,9 @@ use Rattle.std.proofs.lemmas.Bool.{cases_lt}
 use Rattle.visible_index.specs.Pairs.{has_pair}
 use Rattle.queue_core.specs.declared.slot.Slot.{Slot}
 use Rattle.queue_core.specs.declared.indices.Indices.{Indices}
-use Rattle.queue_core.specs.Slots.{is_hidden, is_shown, is_left, is_here, is_delayed, is_in_flight, has_age, is_failing, due_in, sent_in, shows, one_if, CanReplace, IsReplaced, count_slots, AreIndexed, HasRoomForOne}
-use Rattle.queue_core.specs.Changes.{IsReserved, HasRoom}
-use Rattle.queue_core.specs.Ages.{AreAges}
+use Rattle.queue_core.specs.private.Slots.{is_hidden, is_shown, is_left, is_here, is_delayed, is_in_flight, has_age, is_failing, due_in, sent_in, shows, one_if, CanReplace, IsReplaced, count_slots, AreIndexed, HasRoomForOne}
+use Rattle.queue_core.specs.private.Changes.{IsReserved, HasRoom}
+use Rattle.queue_core.specs.private.Ages.{AreAges}
 use Rattle.queue_core.proofs.AgeLemmas.{can_list, listed, ages_longer, ages_more}
 use Rattle.queue_core.proofs.SlotCountLemmas.{count_changed, count_more, count_has, count_upto, count_parts}
 use Rattle.queue_core.proofs.SlotLemmas.{counted}

@@ -12,12 +12,12 @@ use Rattle.queue_core.specs.declared.slot.Slot.{Slot}
 use Rattle.queue_core.specs.declared.record.Record.{Record}
 use Rattle.queue_core.specs.declared.indices.Indices.{Indices}
 use Rattle.queue_core.specs.declared.index.MessageIndex.{MessageIndex}
-use Rattle.queue_core.specs.Slots.{is_hidden_stay, is_left_stay, is_hidden, is_shown, is_here, is_delayed, is_in_flight, due_in, sent_in, is_left_for, one_if}
-use Rattle.queue_core.specs.Changes.{shown_in, is_at}
+use Rattle.queue_core.specs.private.Slots.{is_hidden_stay, is_left_stay, is_hidden, is_shown, is_here, is_delayed, is_in_flight, due_in, sent_in, is_left_for, one_if}
+use Rattle.queue_core.specs.private.Changes.{shown_in, is_at}
 use Rattle.queue_core.specs.Messages.{contains_number}
-use Rattle.queue_core.specs.Records.{slots_in, HasIndices}
-use Rattle.queue_core.specs.Applying.{HasChanged, among}
-use Rattle.queue_core.specs.Spending.{weight, spent, AreBelow, moved, added, KeepsSent, CostsBetween}
+use Rattle.queue_core.specs.private.Records.{slots_in, HasIndices}
+use Rattle.queue_core.specs.private.Applying.{HasChanged, among}
+use Rattle.queue_core.specs.private.Spending.{weight, spent, AreBelow, moved, added, KeepsSent, CostsBetween}
 use Rattle.queue_core.proofs.SlotLemmas.{counted}
 use Rattle.queue_core.proofs.NumberLemmas.{AreOnce, unseen}
 use Rattle.queue_core.proofs.ChangeLemmas.{outside}

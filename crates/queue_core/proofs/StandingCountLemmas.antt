@@ -16,7 +16,7 @@ use Rattle.queue_core.specs.Queue.{QueueHistory, waiting_count}
 use Rattle.queue_core.specs.Summary.{KnownMessage, Summary, known_message, summary_of}
 use Rattle.queue_core.specs.Standing.{StandsFor}
 use Rattle.queue_core.specs.Cost.{same_standing, alike, state_numbered, waits_numbered, due_numbered, same_due, same_count, is_touched, touched_count}
-use Rattle.queue_core.specs.Spending.{state_weight, queue_weight, queue_kept}
+use Rattle.queue_core.specs.private.Spending.{state_weight, queue_weight, queue_kept}
 use Rattle.queue_core.proofs.FactLemmas.{Line, numbered-number, IsSound}
 use Rattle.queue_core.proofs.TallyLemmas.{received-count}
 use Rattle.queue_core.proofs.PairLemmas.{count_by-places}

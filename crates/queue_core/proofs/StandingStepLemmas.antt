@@ -24,14 +24,14 @@ use Rattle.queue_core.specs.declared.record.Record.{Record}
 use Rattle.queue_core.specs.Messages.{message_count, content_of, settings_of, settings_after, effect_of, gives_settings, created_time, is_expired, offers_number, receive_count, course_of, is_present_status, is_present, is_removed_status, closes, departures, ends_transfer, pending_transfers}
 use Rattle.queue_core.specs.States.{is_live, failing_receives, gauges_of, message_numbered}
 use Rattle.queue_core.specs.Metrics.{minute_end, minute_gauges, metric_row, current_flows, window_rows, alarm_state_in}
-use Rattle.queue_core.specs.Watched.{told_alarm}
+use Rattle.queue_core.specs.private.Watched.{told_alarm}
 use Rattle.queue_core.specs.Queue.{QueueHistory, at_moment, with_event}
 use Rattle.queue_core.proofs.CauseLemmas.{IsAbout}
-use Rattle.queue_core.specs.Tally.{births}
-use Rattle.queue_core.specs.Records.{Records, settled_record, record_after, record_begun, records_after, records_settled, IsSettled}
-use Rattle.queue_core.specs.Recorded.{runs_out_by, AreRecorded}
+use Rattle.queue_core.specs.private.Tally.{births}
+use Rattle.queue_core.specs.private.Records.{Records, settled_record, record_after, record_begun, records_after, records_settled, IsSettled}
+use Rattle.queue_core.specs.private.Recorded.{runs_out_by, AreRecorded}
 use Rattle.queue_core.specs.Summary.{KnownMessage, Summary, known_message, known_at, summary_of}
-use Rattle.queue_core.specs.Indexed.{waits_in, has_ended, known_record, IsCounted}
+use Rattle.queue_core.specs.private.Indexed.{waits_in, has_ended, known_record, IsCounted}
 use Rattle.queue_core.specs.Standing.{StandsFor}
 use Rattle.queue_core.proofs.FactLemmas.{Line, settings_from-push, expired-split, receives-push, numbered-number, numbered-place, pending-push}
 use Rattle.queue_core.proofs.PushLemmas.{closed-push, count-push, content_numbered}

@@ -14,11 +14,11 @@ use Rattle.queue_core.specs.declared.slot.Stay.{Stay}
 use Rattle.queue_core.specs.declared.slot.Stay.TheVariants.{Hidden, Shown, Left}
 use Rattle.queue_core.specs.declared.record.Record.{Record}
 use Rattle.queue_core.specs.declared.index.MessageIndex.{MessageIndex}
-use Rattle.queue_core.specs.Slots.{is_left_stay}
-use Rattle.queue_core.specs.Records.{Records, records_in, with_stay, stay_at, has_run_out, is_left_record, settled_record, IsIndexed, IsSettled}
-use Rattle.queue_core.specs.Recorded.{runs_out_by, IsStanding, IsRecordOf, notes_end, TellsExpiry, AreRecorded}
+use Rattle.queue_core.specs.private.Slots.{is_left_stay}
+use Rattle.queue_core.specs.private.Records.{Records, records_in, with_stay, stay_at, has_run_out, is_left_record, settled_record, IsIndexed, IsSettled}
+use Rattle.queue_core.specs.private.Recorded.{runs_out_by, IsStanding, IsRecordOf, notes_end, TellsExpiry, AreRecorded}
 use Rattle.queue_core.specs.Summary.{KnownMessage, known_message, known_where, known_at, summary_of}
-use Rattle.queue_core.specs.Indexed.{waits_in, has_ended, known_record, IsCounted, Keeps}
+use Rattle.queue_core.specs.private.Indexed.{waits_in, has_ended, known_record, IsCounted, Keeps}
 use Rattle.queue_core.proofs.FactLemmas.{Line, numbered-number, numbered-past}
 use Rattle.queue_core.proofs.RecordLemmas.{then_some}
 use Rattle.queue_core.proofs.ToldLemmas.{there_unless}

@@ -4,7 +4,7 @@ use Rattle.std.proofs.lemmas.List.FromFn.{length-map-range_with_len}
 use Rattle.queue_core.specs.declared.tally.Tally.{Tally}
 use Rattle.std.specs.Option.{option_map_or}
 use Rattle.queue_core.specs.Messages.{Since, message_count, settings_after, gives_settings, modified_by, modified_from, receive_count, closes}
-use Rattle.queue_core.specs.Tally.{births, Tallies}
+use Rattle.queue_core.specs.private.Tally.{births, Tallies}
 use Rattle.queue_core.specs.Summary.{summary_of}
 use Rattle.queue_core.proofs.Scans.{StandsAlone}
 use Rattle.queue_core.proofs.SoundLemmas.{Begins, created_time-push}

@@ -16,9 +16,9 @@ use Rattle.queue_core.specs.Messages.{effect_of, contains_number, offers_number,
 use Rattle.queue_core.specs.declared.slot.Stay.{Stay}
 use Rattle.queue_core.specs.declared.slot.Stay.TheVariants.{Hidden, Shown, Left}
 use Rattle.queue_core.specs.declared.record.Record.{Record}
-use Rattle.queue_core.specs.Slots.{is_left_stay}
-use Rattle.queue_core.specs.Records.{with_stay, with_parts, hidden_until, tried, received_at, back_at, has_run_out, offered_after, rescheduled_after, here_after, left_after, record_after_stay, record_after}
-use Rattle.queue_core.specs.Recorded.{runs_out_by, notes_end, IsStanding}
+use Rattle.queue_core.specs.private.Slots.{is_left_stay}
+use Rattle.queue_core.specs.private.Records.{with_stay, with_parts, hidden_until, tried, received_at, back_at, has_run_out, offered_after, rescheduled_after, here_after, left_after, record_after_stay, record_after}
+use Rattle.queue_core.specs.private.Recorded.{runs_out_by, notes_end, IsStanding}
 use Rattle.queue_core.proofs.PushLemmas.{or_false}
 
 -- what a journal tells of a message that it has

@@ -20,10 +20,10 @@ use Rattle.queue_core.specs.declared.facts.Status.TheVariants.{Present, Removed,
 use Rattle.queue_core.specs.Messages.{messages, message_count, contains_number, receive_count, course_of, status_after, is_present_status, is_expired, awaits_status, awaits_transfer, is_waiting_status, waits_for}
 use Rattle.queue_core.specs.States.{waiting_state, state_of, is_in_state, is_numbered, message_numbered}
 use Rattle.queue_core.specs.Queue.{QueueHistory, at_moment, waiting_count, with_event}
-use Rattle.queue_core.specs.Slots.{one_if}
+use Rattle.queue_core.specs.private.Slots.{one_if}
 use Rattle.queue_core.specs.Standing.{StandsFor}
 use Rattle.queue_core.specs.Cost.{same_standing, alike, state_numbered, waits_numbered, due_numbered, same_due, same_count, is_touched, touched_count}
-use Rattle.queue_core.specs.Spending.{event_adds, state_weight, queue_weight}
+use Rattle.queue_core.specs.private.Spending.{event_adds, state_weight, queue_weight}
 use Rattle.queue_core.proofs.SlotCountLemmas.{count_members}
 use Rattle.queue_core.proofs.FactLemmas.{Line, IsAbout, course-push, receives-push, numbered-place, numbered-below}
 use Rattle.queue_core.proofs.PushLemmas.{slice_get-prefix, messages-push, begun_by, count-push}

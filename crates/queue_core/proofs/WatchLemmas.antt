@@ -35,8 +35,8 @@ use Rattle.queue_core.specs.States.{gauges_of}
 use Rattle.queue_core.specs.Metrics.{minute_end, entries_until, metric_row, row_of, complete_minutes, alarm_state_in}
 use Rattle.queue_core.specs.Queue.{QueueHistory}
 use Rattle.queue_core.specs.Legal.{IsOrdered}
-use Rattle.queue_core.specs.Indexed.{IsIndexOf}
-use Rattle.queue_core.specs.Watched.{rows_from, first_shown, rows_before, told_alarm, IsWatchAt, IsPassing}
+use Rattle.queue_core.specs.private.Indexed.{IsIndexOf}
+use Rattle.queue_core.specs.private.Watched.{rows_from, first_shown, rows_before, told_alarm, IsWatchAt, IsPassing}
 use Rattle.queue_core.proofs.MarkLemmas.{map_agree}
 use Rattle.queue_core.proofs.MetricLemmas.{row-parts, metric_row-later}
 use Rattle.queue_core.proofs.LegalLemmas.{not_after}

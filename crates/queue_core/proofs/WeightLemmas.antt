@@ -14,7 +14,7 @@ use Rattle.journal.specs.Journal.{based}
 use Rattle.journal.specs.Weight.{event_weight, weight_of}
 use Rattle.queue_core.specs.Messages.{contains_number, is_closed}
 use Rattle.queue_core.specs.States.{kept_count}
-use Rattle.queue_core.specs.Slots.{one_if}
+use Rattle.queue_core.specs.private.Slots.{one_if}
 use Rattle.queue_core.specs.Summary.{KnownMessage, Summary, summary_of}
 use Rattle.queue_core.specs.Rebase.{kept_with, kept_of, live_at, kept_at, kept_live, kept_waiting, base_of}
 use Rattle.queue_core.proofs.FactLemmas.{Line, IsSound}

@@ -5,7 +5,7 @@ ghost use Rattle.std.specs.List.{All};
 ghost use Rattle.indexmap.specs.IndexSet.{spare};
 ghost use Rattle.message.specs.declared.fault.Fault.TheVariants.{OutOfMemory};
 ghost use Rattle.queue_core.specs.Messages.{effect_of, key_of};
-ghost use Rattle.queue_core.specs.Accepted.{holds};
+ghost use Rattle.queue_core.specs.private.Accepted.{holds};
 
 use crate::effect::effect_of;
 use indexmap::IndexSet;

@@ -2,7 +2,7 @@
 
 ghost use Rattle.std.specs.Prelude.{◌≡◌, ℕ, ◌+◌, ◌<◌, ◌≤◌, ◌^◌, ◌≢◌, true, false, length, slice_index, slice_set, if◌then◌else◌, OnOk};
 ghost use Rattle.std.specs.FinMap as finite;
-ghost use Rattle.queue_core.specs.Ages.{place_if, AreAges, IsLonger, HasPlaces, CanList, IsListed};
+ghost use Rattle.queue_core.specs.private.Ages.{place_if, AreAges, IsLonger, HasPlaces, CanList, IsListed};
 
 use age_index::AgeIndex;
 use std::alloc::{AllocError, Global};

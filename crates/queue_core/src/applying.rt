@@ -8,11 +8,11 @@ ghost use Rattle.indexmap.specs.IndexMap.{get};
 ghost use Rattle.metric_window.specs.Flows.{greatest};
 ghost use Rattle.queue_core.specs.Messages.{effect_of, contains_number};
 ghost use Rattle.queue_core.specs.declared.slot.Stay.TheVariants.{Hidden, Left};
-ghost use Rattle.queue_core.specs.Slots.{is_here, is_left, is_left_for, one_if};
-ghost use Rattle.queue_core.specs.Records.{records_in, slots_in, born_in, record_of_birth, records_after, hidden_until, received_at, with_stay, HasIndices, IsIndexed, IsReady};
-ghost use Rattle.queue_core.specs.Tally.{births};
-ghost use Rattle.queue_core.specs.Spending.{added, event_adds, left_count, Costs};
-ghost use Rattle.queue_core.specs.Applying.{CanApply, HaveReceived, HaveCounted, HasChanged, among, where_here, where_left, ended_by, returned_from};
+ghost use Rattle.queue_core.specs.private.Slots.{is_here, is_left, is_left_for, one_if};
+ghost use Rattle.queue_core.specs.private.Records.{records_in, slots_in, born_in, record_of_birth, records_after, hidden_until, received_at, with_stay, HasIndices, IsIndexed, IsReady};
+ghost use Rattle.queue_core.specs.private.Tally.{births};
+ghost use Rattle.queue_core.specs.private.Spending.{added, event_adds, left_count, Costs};
+ghost use Rattle.queue_core.specs.private.Applying.{CanApply, HaveReceived, HaveCounted, HasChanged, among, where_here, where_left, ended_by, returned_from};
 
 use crate::effect::{Change, effect_of};
 use crate::index::MessageIndex;

@@ -3,10 +3,10 @@
 ghost use Rattle.std.specs.Prelude.{◌≡◌, ℕ, ◌-◌, ◌/◌, true, Some};
 ghost use Rattle.queue_core.specs.States.{gauges_of, oldest_age};
 ghost use Rattle.queue_core.specs.Queue.{QueueHistory};
-ghost use Rattle.queue_core.specs.Slots.{has_age};
+ghost use Rattle.queue_core.specs.private.Slots.{has_age};
 ghost use Rattle.queue_core.specs.declared.record.Record.{Record};
-ghost use Rattle.queue_core.specs.Records.{records_in, slots_in, HasIndices};
-ghost use Rattle.queue_core.specs.Indexed.{IsIndexOf};
+ghost use Rattle.queue_core.specs.private.Records.{records_in, slots_in, HasIndices};
+ghost use Rattle.queue_core.specs.private.Indexed.{IsIndexOf};
 
 use crate::index::MessageIndex;
 use journal::Moment;

@@ -2,7 +2,7 @@
 
 ghost use Rattle.std.specs.Prelude.{◌≡◌, None, option_to_list};
 ghost use Rattle.queue_core.specs.Messages.{effect_of, opens};
-ghost use Rattle.queue_core.specs.Effects.{changed_by, accepted_with};
+ghost use Rattle.queue_core.specs.private.Effects.{changed_by, accepted_with};
 
 use journal::{Base, Event, Origin};
 use message::Content;

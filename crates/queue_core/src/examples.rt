@@ -20,7 +20,7 @@ ghost use Rattle.queue_core.specs.States.{oldest_age, receive_order};
 ghost use Rattle.queue_core.specs.Queue.{at_moment, numbers_of, outcome_at, first_parcel_of, done, adding, answering, refusal, uncounted_refusal};
 ghost use Rattle.queue_core.specs.Queue.{QueueHistory};
 ghost use Rattle.queue_core.specs.Legal.{IsAllowedIn};
-ghost use Rattle.queue_core.specs.Examples as example;
+ghost use Rattle.queue_core.specs.examples.Journals as example;
 
 /// A message is delayed until it is due and in flight until its timeout ends. From that very
 /// millisecond on it is visible.

@@ -6,12 +6,12 @@ ghost use Rattle.message.specs.declared.fault.Fault.TheVariants.{OutOfMemory};
 ghost use Rattle.queue_core.specs.declared.slot.Stay.TheVariants.{Shown};
 ghost use Rattle.std.specs.VecDeque.{deque_capacity};
 ghost use Rattle.queue_core.specs.Messages.{effect_of};
-ghost use Rattle.queue_core.specs.Tally.{births};
-ghost use Rattle.queue_core.specs.Ages.{IsFirstHere};
-ghost use Rattle.queue_core.specs.Slots.{one_if, is_hidden, has_age, is_left_for, IsReplaced};
-ghost use Rattle.queue_core.specs.Records.{records_in, slots_in, born_in, with_stay, with_parts, records_settled, HasIndices, IsIndexed, IsReady, HasSame};
-ghost use Rattle.queue_core.specs.Settling.{is_due, shown_at, was_sent_by, kept_since};
-ghost use Rattle.queue_core.specs.Spending.{added, Costs};
+ghost use Rattle.queue_core.specs.private.Tally.{births};
+ghost use Rattle.queue_core.specs.private.Ages.{IsFirstHere};
+ghost use Rattle.queue_core.specs.private.Slots.{one_if, is_hidden, has_age, is_left_for, IsReplaced};
+ghost use Rattle.queue_core.specs.private.Records.{records_in, slots_in, born_in, with_stay, with_parts, records_settled, HasIndices, IsIndexed, IsReady, HasSame};
+ghost use Rattle.queue_core.specs.private.Settling.{is_due, shown_at, was_sent_by, kept_since};
+ghost use Rattle.queue_core.specs.private.Spending.{added, Costs};
 
 use crate::effect::{Change, effect_of};
 use crate::indices::{Indices, is_left_for};

@@ -4,9 +4,9 @@ ghost use Rattle.std.specs.Prelude.{◌≡◌, ℕ, ◌+◌, ◌*◌, ◌<◌, �
 ghost use Rattle.std.specs.FinMap as finite;
 ghost use Rattle.journal.specs.Order.{is_before};
 ghost use Rattle.visible_index.specs.Pairs.{has_pair};
-ghost use Rattle.queue_core.specs.Slots.{due_in, sent_in, is_here, is_left, is_left_for, is_delayed, is_in_flight, has_age, is_failing, one_if, CanReplace, IsReplaced, AreIndexed};
-ghost use Rattle.queue_core.specs.Changes.{shown_in, is_at, IsReserved, HasRoom};
-ghost use Rattle.queue_core.specs.Spending.{spent, AreBelow, moved, added, KeepsSent};
+ghost use Rattle.queue_core.specs.private.Slots.{due_in, sent_in, is_here, is_left, is_left_for, is_delayed, is_in_flight, has_age, is_failing, one_if, CanReplace, IsReplaced, AreIndexed};
+ghost use Rattle.queue_core.specs.private.Changes.{shown_in, is_at, IsReserved, HasRoom};
+ghost use Rattle.queue_core.specs.private.Spending.{spent, AreBelow, moved, added, KeepsSent};
 
 use crate::ages::Ages;
 use crate::slot::{FAILING_RECEIVES, Slot, Stay};

@@ -3,9 +3,9 @@
 ghost use Rattle.std.specs.Prelude.{◌≡◌, ◌++◌, option_to_list, OnOk, IfOk, IfErr};
 ghost use Rattle.std.specs.List.{filter_map, range_with_len};
 ghost use Rattle.message.specs.declared.fault.Fault.TheVariants.{OutOfMemory};
-ghost use Rattle.queue_core.specs.Records.{born_in};
-ghost use Rattle.queue_core.specs.Indexed.{waits_in, has_ended};
-ghost use Rattle.queue_core.specs.Keeping.{kept_record, present_in, kept_in, messages_kept};
+ghost use Rattle.queue_core.specs.private.Records.{born_in};
+ghost use Rattle.queue_core.specs.private.Indexed.{waits_in, has_ended};
+ghost use Rattle.queue_core.specs.private.Keeping.{kept_record, present_in, kept_in, messages_kept};
 
 use crate::applying::after_seconds;
 use crate::index::MessageIndex;

@@ -7,10 +7,10 @@ ghost use Rattle.queue_core.specs.Messages.{settings_of};
 ghost use Rattle.queue_core.specs.Metrics.{minute_end};
 ghost use Rattle.queue_core.specs.Queue.{QueueHistory};
 ghost use Rattle.queue_core.specs.Legal.{IsLegal};
-ghost use Rattle.queue_core.specs.Records.{HasIndices};
-ghost use Rattle.queue_core.specs.Indexed.{IsIndexOf};
-ghost use Rattle.queue_core.specs.Watched.{IsWatchAt, IsPassing};
-ghost use Rattle.queue_core.specs.Spending.{Costs};
+ghost use Rattle.queue_core.specs.private.Records.{HasIndices};
+ghost use Rattle.queue_core.specs.private.Indexed.{IsIndexOf};
+ghost use Rattle.queue_core.specs.private.Watched.{IsWatchAt, IsPassing};
+ghost use Rattle.queue_core.specs.private.Spending.{Costs};
 
 use crate::index::MessageIndex;
 use crate::watch::Watch;

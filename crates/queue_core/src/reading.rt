@@ -3,8 +3,8 @@
 
 ghost use Rattle.std.specs.Prelude.{◌≡◌, None};
 ghost use Rattle.queue_core.specs.Messages.{effect_of, settings_after, gives_settings, closes};
-ghost use Rattle.queue_core.specs.Slots.{one_if};
-ghost use Rattle.queue_core.specs.Tally.{births};
+ghost use Rattle.queue_core.specs.private.Slots.{one_if};
+ghost use Rattle.queue_core.specs.private.Tally.{births};
 
 use crate::effect::{Change, effect_of};
 use journal::Event;

@@ -5,7 +5,7 @@ ghost use Rattle.std.specs.List.{filter_map};
 ghost use Rattle.message.specs.declared.fault.Fault.TheVariants.{OutOfMemory};
 ghost use Rattle.queue_core.specs.declared.slot.Stay.TheVariants.{Hidden};
 ghost use Rattle.queue_core.specs.Messages.{effect_of};
-ghost use Rattle.queue_core.specs.Records.{record_of_birth};
+ghost use Rattle.queue_core.specs.private.Records.{record_of_birth};
 
 use crate::effect::effect_of;
 use crate::slot::{Slot, Stay};

@@ -1,7 +1,7 @@
 //! Where a message stands in the indices.
 
 ghost use Rattle.std.specs.Prelude.{◌≡◌};
-ghost use Rattle.queue_core.specs.Records.{tried};
+ghost use Rattle.queue_core.specs.private.Records.{tried};
 
 /// Where a message stands that a queue has, or that waits for a dead-letter queue.
 #[derive(Clone, Copy, Debug, PartialEq, Eq)]

@@ -74,13 +74,13 @@ pub struct QueueState {
 
 impl Model for QueueState {
     ghost use Rattle.queue_core.specs.Queue.{QueueHistory};
-    ghost use Rattle.queue_core.specs.Kept.{IsKept};
-    ghost use Rattle.queue_core.specs.Tally.{Tallies};
-    ghost use Rattle.queue_core.specs.Indexed.{Keeps};
+    ghost use Rattle.queue_core.specs.private.Kept.{IsKept};
+    ghost use Rattle.queue_core.specs.private.Tally.{Tallies};
+    ghost use Rattle.queue_core.specs.private.Indexed.{Keeps};
     ghost use Rattle.queue_core.specs.Summary.{summary_of};
-    ghost use Rattle.queue_core.specs.Accepted.{AreAccepted};
+    ghost use Rattle.queue_core.specs.private.Accepted.{AreAccepted};
     ghost use Rattle.metric_window.specs.Flows.{minute_of};
-    ghost use Rattle.queue_core.specs.Watched.{IsWatchOf};
+    ghost use Rattle.queue_core.specs.private.Watched.{IsWatchOf};
 
     ghost Value = { QueueHistory };
 
@@ -116,14 +116,14 @@ impl QueueState {
     ghost use Rattle.queue_core.specs.States.{is_live, is_in_state, is_numbered, message_numbered, receive_order, oldest_age, gauges_of};
     ghost use Rattle.queue_core.specs.declared.facts.Candidate.{Candidate};
     ghost use Rattle.queue_core.specs.declared.facts.Message.{Message};
-    ghost use Rattle.queue_core.specs.Recorded.{IsRecordOf};
+    ghost use Rattle.queue_core.specs.private.Recorded.{IsRecordOf};
     ghost use Rattle.queue_core.specs.Queue.{QueueHistory, has_room, wants_place_alone, at_moment, is_at_limit, first_refusal, in_flight_count, offer_limit, offered_candidates, leaving_candidates, numbers_of, policy_target, offer_of, offers_of, is_valid_handle, is_latest_handle, holds_in_flight, holds_live, passes_twelve_hours, change_refusal, look_of, outcome_in, outcome_at, IsExact, IsExactWithRoom, with_event, after_outcome, after_answer, as_reply};
     ghost use Rattle.queue_core.specs.Ranges.{IsDelay, IsTimeout, IsMaximum};
     ghost use Rattle.queue_core.specs.Legal.{IsLegal, IsCausedIn};
     ghost use Rattle.queue_core.specs.Kept.{opened_queue};
     ghost use Rattle.queue_core.specs.Run.{AreAnswers, AreExact, AreExactWithRoom, after_all};
     ghost use Rattle.queue_core.specs.Cost.{most_ticks, most_ticks_of_all};
-    ghost use Rattle.queue_core.specs.Spending.{HasCome};
+    ghost use Rattle.queue_core.specs.private.Spending.{HasCome};
 
     /// Opens a queue, with the rules of its alarms. `OutOfMemory` is the only refusal.
     pub fn open(

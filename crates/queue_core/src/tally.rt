@@ -2,7 +2,7 @@
 
 ghost use Rattle.std.specs.Prelude.{◌≡◌, ◌+◌, ◌<◌, ◌^◌, ◌||◌, false, None, if◌then◌else◌};
 ghost use Rattle.queue_core.specs.Messages.{effect_of, settings_after, gives_settings, closes};
-ghost use Rattle.queue_core.specs.Tally.{births};
+ghost use Rattle.queue_core.specs.private.Tally.{births};
 
 use crate::reading::{begins, closes, gives_settings, settings_after};
 use journal::{Event, Moment};

@@ -21,8 +21,9 @@ use Rattle.redrive.specs.declared.steps.HouseReply.{HouseReply}
 use Rattle.redrive.specs.declared.steps.HouseReply.TheVariants.{Created, Deleted, Performed, HandedOver, Confirmed}
 use Rattle.redrive.specs.declared.steps.HouseStep.TheVariants as steps
 use Rattle.redrive.specs.World.{World, with_queue, new_queue, queue_named, queue_of_uid, has_queue, target_uid, opens_queue, created_answer, create_answer, world_after_create, step_refusal, queue_answer, step_answer, takes_memory_in, takes_memory_at, world_after_command, world_after_step, taken_alone, take_answer, world_after_delete, first_parcel_in, delivery_of, moved_of, as_moved, delivered_answer, arrive_answer, hand_over_takes_memory, world_after_hand_over, is_accepted, accepted_number, confirm_takes_memory, world_after_confirm, IsRegistry}
-use Rattle.redrive.specs.Halves as halves
-use Rattle.redrive.specs.Cost.{command_ticks, step_ticks, deletion_ticks, hand_over_ticks, confirm_ticks, ticks_of_change, IsDone}
+use Rattle.redrive.specs.private.Halves as halves
+use Rattle.redrive.specs.Cost.{command_ticks, step_ticks, deletion_ticks, hand_over_ticks, confirm_ticks, ticks_of_change}
+use Rattle.redrive.specs.private.Cost.{IsDone}
 use Rattle.redrive.specs.WorldRun.{HouseAnswer, as_house_reply, Nothing, Opens, performs, perform_act, hand_over_act, confirm_act, act_of, found_for, answer_of_act, world_changed}
 use Rattle.redrive.proofs.KeyedLemmas.{find-unique, find-unused}
 

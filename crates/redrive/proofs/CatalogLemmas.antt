@@ -9,7 +9,8 @@ use Rattle.std.proofs.lemmas.List.Filters.{length-filter_both}
 use Rattle.std.proofs.lemmas.List.Elements.{All-nil, All-filter, All-push, All-map, All-weaker}
 use Rattle.std.proofs.lemmas.List.Quantifiers.{position-Some}
 use Rattle.redrive.specs.Keys.{KeyLists}
-use Rattle.redrive.specs.Catalog.{NameDirectory, is_directory_full, empty_directory, name_of, uid_of_name, has_uid, without_uid, retargeted, with_target, IsDirectory, IsKeptDirectory}
+use Rattle.redrive.specs.Catalog.{NameDirectory, is_directory_full, empty_directory, name_of, uid_of_name, has_uid, without_uid, retargeted, with_target, IsDirectory}
+use Rattle.redrive.specs.private.Catalog.{IsKeptDirectory}
 use Rattle.redrive.specs.declared.catalog.Registered.{Registered}
 use Rattle.redrive.proofs.KeyedLemmas.{absent-by, map-remove, places_left, IsDistinct-push, IsDistinct-filter, map-key, find-unused, filter-absent, find-position, find-no_position, map-absent, map-present, remove-present}
 

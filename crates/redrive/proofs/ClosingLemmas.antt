@@ -12,7 +12,7 @@ use Rattle.queue_core.specs.Messages.{closes, is_closed}
 use Rattle.queue_core.specs.Queue.{QueueHistory, at_moment, leaves_clock, reached, outcome_at, rebased_where, with_optional_event, after_answer}
 use Rattle.queue_core.proofs.CauseLemmas.{IsSoOfAdded, added}
 use Rattle.queue_core.proofs.PushLemmas.{closed-push}
-use Rattle.redrive.specs.ByPlace.{closes_queue}
+use Rattle.redrive.specs.private.ByPlace.{closes_queue}
 
 unclosed-each : (q : QueueHistory) (command : Command) → closes_queue command ≡ false → IsSoOfAdded q (λ e. closes e ≡ false) command
 unclosed-each q (commands.Change handle timeout) h = λ unrefused. refl

@@ -17,7 +17,7 @@ use Rattle.queue_core.specs.Cost.{most_ticks}
 use Rattle.redrive.specs.Cost.{change_ticks}
 use Rattle.redrive.specs.World.{World, queue_of_uid, queue_answer, takes_memory_in, with_queue_changed, world_after_command, closed_queue, take_answer, without_queue, world_after_delete, IsRegistry}
 use Rattle.redrive.specs.Keys.{KeyLists}
-use Rattle.redrive.specs.ByPlace.{with_place_changed, without_place, closes_queue, IsKept}
+use Rattle.redrive.specs.private.ByPlace.{with_place_changed, without_place, closes_queue, IsKept}
 use Rattle.redrive.proofs.KeyedLemmas.{find-position, find-no_position, map-present, map-remove, remove-present}
 use Rattle.redrive.proofs.RegistryLemmas.{some_queue, IsRegistry-without, IsKept-after_step, IsKept-moved}
 

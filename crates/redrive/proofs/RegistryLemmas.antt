@@ -24,7 +24,7 @@ use Rattle.queue_core.specs.Queue.{QueueHistory, at_moment, leaves_clock, reache
 use Rattle.queue_core.specs.Whole.{without_limit, is_journal_full, whole_after}
 use Rattle.redrive.specs.World.{World, has_no_place, empty_world, queue_named, queue_of_uid, found_uid, with_queue, next_queue, without_queue, queue_answer, with_queue_changed, world_at_moment, IsRegistry}
 use Rattle.redrive.specs.Keys.{KeyLists}
-use Rattle.redrive.specs.ByPlace.{closes_queue, IsKept}
+use Rattle.redrive.specs.private.ByPlace.{closes_queue, IsKept}
 use Rattle.redrive.proofs.KeyedLemmas.{find-map, find-passes, places_left, IsDistinct-push, IsDistinct-filter, map-key, find-unused, filter-absent, find-position, find-no_position, map-absent}
 use Rattle.redrive.proofs.ClosingLemmas.{unclosed-after_answer}
 

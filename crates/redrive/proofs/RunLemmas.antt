@@ -6,7 +6,8 @@ use Rattle.redrive.specs.declared.steps.HouseStep.{HouseStep}
 use Rattle.redrive.specs.declared.steps.QueueMetrics.{QueueMetrics}
 use Rattle.redrive.specs.World.{World, queue_of_uid, IsRegistry}
 use Rattle.redrive.specs.History.{AllQueues, IsWholeHistory}
-use Rattle.redrive.specs.Cost.{ticks_of_step, ticks_of_steps, IsDone}
+use Rattle.redrive.specs.Cost.{ticks_of_step, ticks_of_steps}
+use Rattle.redrive.specs.private.Cost.{IsDone}
 use Rattle.redrive.specs.WorldRun.{HouseAnswer, act_of, IsAnswerOf, world_after, all_after, AreHouseAnswers, world_after_all, history_after, queue_after, IsAsIfAlone, AreTold, metrics_of}
 use Rattle.redrive.proofs.StepLemmas.{queue_after-world}
 use Rattle.redrive.proofs.AloneLemmas.{answered_alone}

@@ -1,11 +1,10 @@
 -- The name directory: which queue has which name and uid, and which dead-letter target. Uids and targets are this project's own.
-use Rattle.std.specs.Prelude.{◌≡◌, ℕ, ◌+◌, ◌^◌, ◌<◌, ◌≤◌, ◌==◌, nat_eq, nat_le, Bool, not, ◌||◌, if◌then◌else◌, List, [], ◌∷◌, ◌++◌, length, map, filter, is_some, Option, Result, Ok, Err}
+use Rattle.std.specs.Prelude.{ℕ, ◌+◌, ◌^◌, ◌<◌, ◌≤◌, ◌==◌, nat_eq, nat_le, Bool, not, ◌||◌, if◌then◌else◌, List, [], ◌∷◌, ◌++◌, length, map, filter, is_some, Option, Result, Ok, Err}
 use Rattle.std.specs.List.{find, IsDistinct, All}
 use Rattle.std.specs.Option.{option_map}
 use Rattle.std.specs.Str.{bytes_eq}
 use Rattle.message.specs.declared.fault.Fault.{Fault}
 use Rattle.message.specs.declared.fault.Fault.TheVariants.{QueueDoesNotExist, OverLimit}
-use Rattle.redrive.specs.Keys.{KeyLists}
 use Rattle.redrive.specs.Listing.{in_order, names_beginning}
 use Rattle.redrive.specs.declared.catalog.Registered.{Registered}
 
@@ -81,9 +80,3 @@ pub record IsDirectory (d : NameDirectory) : Type 0 where
   pub first : All (λ q. 1 ≤ q.uid) d.queues
   pub begun : 1 ≤ d.next_uid
   pub last : d.next_uid ≤ 2 ^ 62
-
--- a directory, and the uids and names of its queues as they are kept beside them
-pub record IsKeptDirectory (d : NameDirectory) (k : KeyLists) : Type 0 where
-  pub directory : IsDirectory d
-  pub uids : k.uids ≡ map (λ q. q.uid) d.queues
-  pub names : k.names ≡ map name_of d.queues

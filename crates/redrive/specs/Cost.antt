@@ -1,8 +1,8 @@
 -- How many operations a call of the registry may cost: as the queues that it comes to, each by what it makes of it (this project's own).
-use Rattle.std.specs.Prelude.{◌≡◌, ℕ, ◌+◌, ◌≤◌, false, if◌then◌else◌, List, [], ◌∷◌, sum_by, Result}
+use Rattle.std.specs.Prelude.{ℕ, ◌+◌, ◌≤◌, if◌then◌else◌, List, [], ◌∷◌, sum_by, Result}
 use Rattle.std.specs.Option.{option_map_or}
 use Rattle.message.specs.declared.fault.Fault.{Fault}
-use Rattle.message.specs.Fault.{Meets, is_out_of_memory}
+use Rattle.message.specs.Fault.{is_out_of_memory}
 use Rattle.queue_core.specs.declared.command.Command.{Command}
 use Rattle.queue_core.specs.declared.command.Command.TheVariants.{Settle}
 use Rattle.queue_core.specs.Queue.{QueueHistory, at_moment, after_answer}
@@ -10,7 +10,7 @@ use Rattle.queue_core.specs.Cost.{most_ticks}
 use Rattle.redrive.specs.declared.moved.Moved.{Moved}
 use Rattle.redrive.specs.declared.steps.HouseStep.{HouseStep}
 use Rattle.redrive.specs.World.{World, queue_of_uid, step_refusal, closed_queue, first_parcel_in, delivery_of, accepted_number, needs_confirmation, IsMoved}
-use Rattle.redrive.specs.WorldRun.{HouseAnswer, WorldChange, Nothing, Performs, Opens, Closes, Passes, Act, act_of, found_for, answer_of_act, world_changed, world_after}
+use Rattle.redrive.specs.WorldRun.{HouseAnswer, WorldChange, Nothing, Performs, Opens, Closes, Passes, act_of, world_after}
 
 -- a change of the queue of a uid; nothing where it is not there
 abbrev pub change_ticks : World → ℕ → (QueueHistory → QueueHistory) → ℕ
@@ -65,10 +65,3 @@ abbrev pub ticks_of_steps : World → List HouseStep → List HouseAnswer → �
 ticks_of_steps w [] answers = 0
 ticks_of_steps w (step ∷ steps) [] = 0
 ticks_of_steps w (step ∷ steps) (answer ∷ answers) = ticks_of_step w step answer + ticks_of_steps (world_after w step answer) steps answers
-
--- What an act leaves that is answered so, and what it cost, from so many operations to so many: for a private clause
-pub record IsDone (old : World) (act : Act) (answer : HouseAnswer) (new : World) (before after : ℕ) : Type 0 where
-  pub meets : Meets answer (answer_of_act old act)
-  pub exact : act.takes_memory (found_for old act) ≡ false → answer ≡ answer_of_act old act
-  pub left : new ≡ world_changed old act.at act.change answer
-  pub cost : after ≤ before + ticks_of_change old act.at act.change answer

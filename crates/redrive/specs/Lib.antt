@@ -3,14 +3,13 @@ pub mod Listing
 pub mod Listed
 pub mod Catalog
 pub mod World
-pub mod ByPlace
-pub mod Halves
 pub mod History
 pub mod WorldRun
 pub mod HistorySteps
 pub mod WholeSteps
 pub mod Cost
 pub mod Places
-pub mod TransferExamples
 pub mod Waiting
 pub mod Refused
+pub mod examples
+pub mod private

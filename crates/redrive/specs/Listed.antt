@@ -1,4 +1,4 @@
--- The names in the list that a call answers: for private clauses.
+-- The names in the list that a call answers.
 use Rattle.std.specs.Prelude.{ℕ, List, Result, Ok, Err}
 use Rattle.std.specs.Global.{Vec}
 use Rattle.message.specs.declared.fault.Fault.{Fault}

@@ -35,7 +35,8 @@ pub struct Catalog {
 }
 
 impl Model for Catalog {
-    ghost use Rattle.redrive.specs.Catalog.{NameDirectory, IsKeptDirectory};
+    ghost use Rattle.redrive.specs.Catalog.{NameDirectory};
+    ghost use Rattle.redrive.specs.private.Catalog.{IsKeptDirectory};
 
     ghost Value = { NameDirectory };
 

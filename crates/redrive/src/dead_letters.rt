@@ -47,8 +47,8 @@ fn needs_confirmation(moved: Moved) -> bool
 
 impl House {
     ghost use Rattle.redrive.specs.World.{queue_of_uid, has_queue, queue_answer, first_parcel_in, arrive_answer, hand_over_takes_memory, takes_memory_in, world_after_command, world_after_hand_over, accepted_number, confirm_answer, confirm_takes_memory, world_after_confirm, hand_over_answer, IsHandedOver, move_answer, IsMoved};
-    ghost use Rattle.redrive.specs.ByPlace.{closes_queue};
-    ghost use Rattle.redrive.specs.Halves.{confirmed};
+    ghost use Rattle.redrive.specs.private.ByPlace.{closes_queue};
+    ghost use Rattle.redrive.specs.private.Halves.{confirmed};
     ghost use Rattle.redrive.specs.Cost.{command_ticks, hand_over_ticks, confirm_ticks, CostsMove};
 
     /// The first parcel of the queue of a uid.

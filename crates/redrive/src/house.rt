@@ -33,7 +33,7 @@ pub struct House {
 
 impl Model for House {
     ghost use Rattle.redrive.specs.World.{World};
-    ghost use Rattle.redrive.specs.ByPlace.{IsKept};
+    ghost use Rattle.redrive.specs.private.ByPlace.{IsKept};
 
     ghost Value = { World };
 
@@ -120,7 +120,7 @@ fn metrics_of(minute: u64, alarm: usize, queue: &QueueState) -> QueueMetrics
 
 impl House {
     ghost use Rattle.redrive.specs.World.{empty_world, new_world, next_queue, queue_named, queue_of_uid, has_queue, found_uid, target_uid, may_name_target, may_have_target, may_set, has_no_place, opens_queue, create_answer, with_queue, world_after_create, step_refusal, queue_answer, step_answer, takes_memory_in, takes_memory_at, with_queue_changed, world_after_command, world_after_step, sources_in_world, sources_answer, take_answer, delete_answer, world_after_delete, names_in_world, world_at_moment, IsRegistry};
-    ghost use Rattle.redrive.specs.ByPlace.{closes_queue};
+    ghost use Rattle.redrive.specs.private.ByPlace.{closes_queue};
     ghost use Rattle.redrive.specs.History.{journal_of, closed_journal};
     ghost use Rattle.redrive.specs.Cost.{change_ticks, command_ticks, step_ticks, deletion_ticks, moment_ticks};
 

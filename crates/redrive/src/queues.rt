@@ -50,7 +50,7 @@ fn close(queue: &mut QueueState, alloc: Global, at: Moment, ticks: &mut Ticks) -
 
 impl Queues {
     ghost use Rattle.redrive.specs.World.{empty_world, next_queue, has_no_place, with_queue, world_at_moment};
-    ghost use Rattle.redrive.specs.ByPlace.{with_place_changed, without_place, closes_queue};
+    ghost use Rattle.redrive.specs.private.ByPlace.{with_place_changed, without_place, closes_queue};
 
     /// No queues. Uids begin at 1.
     pub(crate) fn new(alloc: Global, limits: Limits) -> Queues

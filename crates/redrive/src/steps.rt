@@ -91,7 +91,8 @@ pub struct HouseRun {
 impl House {
     ghost use Rattle.redrive.specs.History.{AllQueues, IsWholeHistory};
     ghost use Rattle.redrive.specs.World.{queue_of_uid, IsRegistry};
-    ghost use Rattle.redrive.specs.Cost.{IsDone, ticks_of_steps};
+    ghost use Rattle.redrive.specs.Cost.{ticks_of_steps};
+    ghost use Rattle.redrive.specs.private.Cost.{IsDone};
     ghost use Rattle.redrive.specs.WorldRun.{act_of, AreHouseAnswers, world_after_all, history_after, IsAsIfAlone, AreRecomputed};
 
     /// Does one step.

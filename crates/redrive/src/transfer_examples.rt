@@ -4,8 +4,8 @@
 ghost use Rattle.std.specs.Prelude.{◌≡◌, List, [], ◌∷◌};
 ghost use Rattle.redrive.specs.History.{AllQueues};
 ghost use Rattle.redrive.specs.HistorySteps.{HistoryStep, AreHistoryAnswers};
-ghost use Rattle.redrive.specs.TransferExamples.{answers_to};
-ghost use Rattle.redrive.specs.TransferExamples as example;
+ghost use Rattle.redrive.specs.examples.DeadLetters.{answers_to};
+ghost use Rattle.redrive.specs.examples.DeadLetters as example;
 
 /// The runs are such as the laws speak of: whatever the steps are, each of these answers is the one
 /// that is wanted.

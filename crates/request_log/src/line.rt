@@ -4,7 +4,7 @@ ghost use Rattle.std.specs.Prelude.{◌≡◌, IfErr, Ok, Some, None, option_map
 ghost use Rattle.message.specs.Fault.{Meets};
 ghost use Rattle.message.specs.declared.fault.Fault.TheVariants.{OutOfMemory};
 ghost use Rattle.aws_json.specs.Steps.{result_map};
-ghost use Rattle.request_log.specs.Line.{queue_text, refusal_text, line_text};
+ghost use Rattle.request_log.specs.private.Line.{queue_text, refusal_text, line_text};
 
 use crate::actions::{name_at, place_of};
 use crate::object::object_in;

@@ -18,9 +18,9 @@ use Rattle.redrive.specs.declared.steps.HouseReply.TheVariants.{Advanced}
 use Rattle.redrive.specs.declared.steps.HouseStep.{HouseStep}
 use Rattle.redrive.specs.declared.steps.HouseStep.TheVariants as steps
 use Rattle.redrive.specs.World.{World, with_queue, next_queue, new_world, new_queue, queue_named, queue_of_uid, found_uid, target_uid, has_queue, has_no_place, opens_queue, create_answer, world_after_create, is_internal, may_set, step_refusal, step_answer, world_after_command, world_after_step, taken_alone, take_answer, delete_answer, world_after_delete, without_queue, with_queue_changed, first_parcel_in, delivery_of, arrive_answer, accepted_number, confirm_answer, needs_confirmation, world_at_moment, move_answer, IsRegistry}
-use Rattle.redrive.specs.Halves as halves
-use Rattle.redrive.specs.ByPlace.{closes_queue}
-use Rattle.redrive.specs.Cost.{IsDone}
+use Rattle.redrive.specs.private.Halves as halves
+use Rattle.redrive.specs.private.ByPlace.{closes_queue}
+use Rattle.redrive.specs.private.Cost.{IsDone}
 use Rattle.redrive.specs.History.{AllQueues}
 use Rattle.redrive.specs.HistorySteps.{Own}
 use Rattle.redrive.specs.Places.{IsSpared, NoRelayDeleted}

@@ -7,7 +7,8 @@ use Rattle.std.proofs.lemmas.Bool.{cases_lt}
 use Rattle.sqs_replay.specs.Failures.{AppendsPart}
 use Rattle.sqs_replay.specs.Cutting.{longest_line, whole_from, last_piece, line_of, lines_among, whole_lines}
 use Rattle.sqs_replay.specs.Answers.{texts, state_after, replay_text, replay_state}
-use Rattle.sqs_replay.specs.Progress.{HasRead, AnswersAll, AnswersPart}
+use Rattle.sqs_replay.specs.Progress.{AnswersAll, AnswersPart}
+use Rattle.sqs_replay.specs.private.Progress.{HasRead}
 use Rattle.sqs_replay.proofs.Cuts.{whole_lines-append, whole_lines-feed, last_piece-feed, whole_lines-other, last_piece-other, lines_of-split, kept_push, kept_full, length-line_of, lines_among-line}
 
 -- what holds at every result holds at an error

@@ -5,7 +5,8 @@ use Rattle.std.proofs.KnownBytes.{Appends-nil, Appends-trans, Consumes-nil}
 use Rattle.sqs_replay.specs.Failures.{AppendsPart, AppendsAndPart}
 use Rattle.sqs_replay.specs.Cutting.{longest_line, whole_from, last_piece, line_of, lines_among, whole_lines, lines_of}
 use Rattle.sqs_replay.specs.Answers.{texts, state_after, replay_text}
-use Rattle.sqs_replay.specs.Progress.{HasRead, AnswersPart, StopsBefore, StopsAmong, Stops}
+use Rattle.sqs_replay.specs.Progress.{AnswersPart, StopsBefore, StopsAmong, Stops}
+use Rattle.sqs_replay.specs.private.Progress.{HasRead}
 use Rattle.sqs_replay.proofs.Cuts.{whole_lines-append, whole_lines-feed, lines_of-split, lines_among-line}
 use Rattle.sqs_replay.proofs.Runs.{kept_moves, texts-append, AppendsPart-whole, AppendsPart-longer}
 

@@ -12,4 +12,4 @@ pub mod Steps
 pub mod Replay
 pub mod LongLines
 pub mod Program
-pub mod Toy
+pub mod private

@@ -1,19 +1,11 @@
 -- How far a replay has come, and where it stops.
-use Rattle.std.specs.Prelude.{◌≡◌, ℕ, ◌+◌, ◌^◌, ◌≤◌, ◌⊎◌, ⊤, List, [], ◌∷◌, ◌++◌, take, Option, Result, Err}
+use Rattle.std.specs.Prelude.{◌≡◌, ℕ, ◌+◌, ◌^◌, ◌≤◌, ◌⊎◌, ⊤, List, [], ◌∷◌, ◌++◌, Option, Result, Err}
 use Rattle.std.specs.Io.KnownBytes.{Appends, Consumes, IsAtEnd}
 use Rattle.sqs_replay.specs.declared.fault.ReplayFault.{ReplayFault}
 use Rattle.sqs_replay.specs.declared.fault.ReplayFault.TheVariants.{Read, Write, OutOfMemory}
 use Rattle.sqs_replay.specs.Failures.{counted, AppendsPart, AppendsAndPart}
-use Rattle.sqs_replay.specs.Cutting.{longest_line, whole_lines, last_piece, lines_of}
+use Rattle.sqs_replay.specs.Cutting.{whole_lines, lines_of}
 use Rattle.sqs_replay.specs.Answers.{texts, state_after, replay_text, replay_state}
-
--- After these bytes were read, from this state and these bytes taken on: the state, what is kept of the line that has
--- begun, and the bytes taken.
-pub record HasRead {S : Type 0} (text : S → List ℕ → List ℕ) (after : S → List ℕ → S) (start : S) (before : Option (List ℕ)) (read : List ℕ) (state : S)
-    (kept : List ℕ) (taken : Option (List ℕ)) : Type 0 where
-  pub state_is : state ≡ state_after after start (whole_lines read)
-  pub kept_is : kept ≡ take (longest_line + 2) (last_piece read)
-  pub appended : Appends before taken (texts text after start (whole_lines read))
 
 -- All of the input was read, and answered: `left` is of the inlet, `taken` of the outlet, before the run and after it.
 pub record AnswersAll {S : Type 0} (text : S → List ℕ → List ℕ) (after : S → List ℕ → S) (start end : S)

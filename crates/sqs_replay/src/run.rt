@@ -6,7 +6,8 @@ ghost use Rattle.sqs_replay.specs.Fault.{is_read_fault};
 ghost use Rattle.sqs_replay.specs.Failures.{AppendsPart};
 ghost use Rattle.sqs_replay.specs.Cutting.{lines_among, whole_lines};
 ghost use Rattle.sqs_replay.specs.Answers.{texts, state_after, replay_text, replay_state};
-ghost use Rattle.sqs_replay.specs.Progress.{HasRead, AnswersAll, AnswersPart, AnswersWhole, StopsBefore, StopsAmong, Stops, OnReadFault, ReadingHasCause, InletHasCause, OutletHasCause, MemoryHasCause};
+ghost use Rattle.sqs_replay.specs.Progress.{AnswersAll, AnswersPart, AnswersWhole, StopsBefore, StopsAmong, Stops, OnReadFault, ReadingHasCause, InletHasCause, OutletHasCause, MemoryHasCause};
+ghost use Rattle.sqs_replay.specs.private.Progress.{HasRead};
 
 use crate::lines::without_return;
 use crate::{Inlet, LINE_LIMIT, Lines, Outlet, ReplayFault};

@@ -15,11 +15,7 @@ use Rattle.sqs_server.specs.declared.head.Denial.TheVariants.{FromPage, MethodNo
 abbrev pub body_limit : ℕ
 body_limit = 8_388_608
 
--- the most bytes that large bodies may have together whose requests one thread answers: those of four of the largest
-abbrev pub bodies_limit : ℕ
-bodies_limit = 33_554_432
-
--- as how many bytes a body counts there: a small one as none, and one whose size is not announced as the most
+-- as how many bytes a body counts among the large ones of a thread: a small one as none, and one whose size is not announced as the most
 abbrev pub counted : Option ℕ → ℕ
 counted announced = option_map_or (λ size. if nat_le size 65_536 then 0 else size) announced body_limit
 

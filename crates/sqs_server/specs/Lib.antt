@@ -6,3 +6,4 @@ pub mod Turns
 pub mod Stages
 pub mod Responses
 pub mod Viewed
+pub mod private

@@ -1,4 +1,4 @@
--- What becomes of a stage of a request that is looked at.
+-- What holds of a request that waits.
 use Rattle.std.specs.Prelude.{⊤}
 use Rattle.sqs_server.specs.declared.stage.Polled.{Polled}
 use Rattle.sqs_server.specs.declared.stage.Polled.TheVariants.{Goes, Waits}

@@ -1,7 +1,8 @@
 //! How much the large bodies may hold together that are on their way.
 
 ghost use Rattle.std.specs.Prelude.{◌≡◌, ◌≢◌, ◌≤◌, ◌+◌, nat_le, IfSome, IfNone};
-ghost use Rattle.sqs_server.specs.Head.{bodies_limit, counted};
+ghost use Rattle.sqs_server.specs.Head.{counted};
+ghost use Rattle.sqs_server.specs.private.Head.{bodies_limit};
 
 use crate::head::BODY_LIMIT;
 use std::sync::Arc;

@@ -15,7 +15,7 @@ use Rattle.matchit.specs.Seek.{segment, has_slash, first}
 use Rattle.matchit.specs.Params.{walk, wild_from, wild_stop, part_of, AllText, named, next_at}
 use Rattle.statistics_api.specs.declared.routes.Route.{Route}
 use Rattle.statistics_api.specs.declared.routes.Route.TheVariants.{Queues, Queue, Rows, Alarms}
-use Rattle.statistics_api.specs.Router.{route_row, router_rows}
+use Rattle.statistics_api.specs.private.Router.{route_row, router_rows}
 use Rattle.statistics_api.specs.Routes.{slash, after, until_slash, from_slash, queue_route, queue_target, target_of}
 use Rattle.statistics_api.proofs.RouteLemmas.{single, after-some, until-has, joined, segment-slash, key, route_found}
 

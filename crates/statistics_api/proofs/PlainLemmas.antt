@@ -8,7 +8,7 @@ use Rattle.std.proofs.lemmas.Slice.Eq.{bytes_eq-Decides}
 use Rattle.statistics_api.specs.declared.routes.Route.{Route}
 use Rattle.statistics_api.specs.declared.routes.Route.TheVariants.{Queues, Queue}
 use Rattle.statistics_api.specs.Routes.{slash, after, until_slash, from_slash, queue_route, queue_target, target_of}
-use Rattle.statistics_api.specs.Cut.{is_slash, IsCut}
+use Rattle.statistics_api.specs.private.Cut.{is_slash, IsCut}
 use Rattle.statistics_api.proofs.RouteLemmas.{after-some}
 
 after-append_same : (w text : List ℕ) → after w (w ++ text) ≡ Some text

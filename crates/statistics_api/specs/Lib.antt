@@ -1,11 +1,9 @@
 pub mod Answer
 pub mod Asked
-pub mod Cut
 pub mod Metrics
-pub mod Puts
 pub mod Response
-pub mod Router
 pub mod Routes
 pub mod Steps
 pub mod Text
 pub mod Texts
+pub mod private

@@ -3,7 +3,7 @@
 ghost use Rattle.std.specs.Prelude.{◌≡◌, ◌≢◌, ◌⊎◌, false, Ok, IfOk, option_map, string_bytes};
 ghost use Rattle.message.specs.Fault.{Meets};
 ghost use Rattle.statistics_api.specs.Steps.{result_map};
-ghost use Rattle.statistics_api.specs.Router.{router_rows};
+ghost use Rattle.statistics_api.specs.private.Router.{router_rows};
 ghost use Rattle.statistics_api.specs.Text.{is_written, shown};
 ghost use Rattle.statistics_api.specs.Answer.{answer_of, told, text_of, not_found, method_not_allowed, out_of_memory, sheet_named};
 

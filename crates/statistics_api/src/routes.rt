@@ -1,9 +1,9 @@
 //! The paths.
 
 ghost use Rattle.std.specs.Prelude.{◌≡◌, ℕ, List, ◌∷◌, Some, IfOk, option_map, codes};
-ghost use Rattle.statistics_api.specs.Router.{router_rows};
+ghost use Rattle.statistics_api.specs.private.Router.{router_rows};
 ghost use Rattle.statistics_api.specs.Routes.{slash, after, until_slash, from_slash, queue_route, queue_target, target_of};
-ghost use Rattle.statistics_api.specs.Cut.{IsCut};
+ghost use Rattle.statistics_api.specs.private.Cut.{IsCut};
 
 use matchit::{InsertError, Router};
 use std::alloc::Global;

@@ -30,9 +30,9 @@ fn keep_parcel(parcel: &Parcel)
 impl QueueState {
     ghost use Rattle.queue_core.specs.Messages.{has_accepted};
     ghost use Rattle.queue_core.specs.Cost.{most_ticks};
-    ghost use Rattle.queue_core.specs.Spending.{HasCome};
+    ghost use Rattle.queue_core.specs.private.Spending.{HasCome};
     ghost use Rattle.queue_core.specs.declared.facts.Message.{Message};
-    ghost use Rattle.queue_core.specs.Recorded.{IsRecordOf};
+    ghost use Rattle.queue_core.specs.private.Recorded.{IsRecordOf};
     ghost use Rattle.queue_core.specs.Legal.{IsLegal};
     ghost use Rattle.queue_core.specs.Queue.{QueueHistory, is_at_limit, first_refusal, outcome_in, outcome_of, outcome_at, reply_without_memory, IsExact, IsExactWithRoom, after_outcome, after_answer, as_reply, is_pending, waiting_count, origin_of, first_transfer, first_parcel_of};
 

@@ -20,7 +20,7 @@ impl QueueState {
     ghost use Rattle.queue_core.specs.Rebase.{base_of};
     ghost use Rattle.queue_core.specs.Queue.{is_at_limit, is_full, rebased, rebased_where, first_refusal, outcome_of};
     ghost use Rattle.queue_core.specs.Legal.{IsLegal};
-    ghost use Rattle.queue_core.specs.Replaced.{CanComeBack, put_back_in};
+    ghost use Rattle.queue_core.specs.private.Replaced.{CanComeBack, put_back_in};
 
     /// Whether the journal weighs as much as it may.
     pub(super) fn is_at_limit(&self) -> bool

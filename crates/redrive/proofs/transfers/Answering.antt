@@ -2,7 +2,7 @@
 use Rattle.std.proofs.Common.{List, [], ◌∷◌, refl}
 use Rattle.redrive.specs.History.{AllQueues}
 use Rattle.redrive.specs.HistorySteps.{HistoryStep, Own, Settle, answer_in_history, IsHistoryAnswer, after_history_step, AreHistoryAnswers}
-use Rattle.redrive.specs.TransferExamples.{answers_to}
+use Rattle.redrive.specs.examples.DeadLetters.{answers_to}
 use Rattle.redrive.proofs.AnswerLemmas.{meets-itself}
 
 wanted : (all : AllQueues) (step : HistoryStep) → IsHistoryAnswer all step (answer_in_history all step)

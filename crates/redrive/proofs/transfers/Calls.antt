@@ -7,7 +7,7 @@ use Rattle.redrive.specs.declared.moved.Moved.{Moved}
 use Rattle.redrive.specs.declared.steps.HouseStep.{HouseStep}
 use Rattle.redrive.specs.declared.steps.HouseStep.TheVariants.{HandOver, Confirm}
 use Rattle.redrive.specs.World.{World, has_queue, arrive_answer, needs_confirmation, IsHandedOver, IsConfirmed, IsMoved}
-use Rattle.redrive.specs.Cost.{IsDone}
+use Rattle.redrive.specs.private.Cost.{IsDone}
 use Rattle.redrive.specs.WorldRun.{HouseAnswer, act_of, world_after, IsAnswerOf, AreStepsTo, steps_of_move}
 use Rattle.redrive.proofs.AnswerLemmas.{accepted-there, confirmed-done, handed-done}
 

@@ -13,7 +13,7 @@ use Rattle.queue_core.specs.declared.facts.Message.{Message}
 use Rattle.queue_core.specs.declared.facts.Course.{Course}
 use Rattle.queue_core.specs.declared.facts.Status.{Status}
 use Rattle.queue_core.specs.declared.facts.Status.TheVariants.{Present}
-use Rattle.queue_core.specs.Tally.{births}
+use Rattle.queue_core.specs.private.Tally.{births}
 use Rattle.queue_core.specs.Messages.{Birth, effect_of, message_in, messages_in, messages_from, messages, message_count, status_after, course_of, accepts, has_accepted}
 use Rattle.queue_core.specs.States.{message_numbered}
 use Rattle.queue_core.proofs.PushLemmas.{or_false, slice_get-prefix, slice_get-behind, numbered_in, IsNew, numbered-cases, numbered-kept, new_birth, new_number, new_course, new_begun, accepted-push}

@@ -2,7 +2,7 @@
 
 ghost use Rattle.std.specs.Prelude.{ℕ};
 ghost use Rattle.std.proofs.Common.{ap};
-ghost use Rattle.sqs_replay.specs.Toy.{toy_text, toy_count, toy_text-beyond, toy_count-beyond};
+ghost use Rattle.sqs_replay.specs.private.Toy.{toy_text, toy_count, toy_text-beyond, toy_count-beyond};
 
 use super::same;
 use crate::{Device, Inlet, LINE_LIMIT, Lines, Outlet, ReplayFault, replay, run_lines};

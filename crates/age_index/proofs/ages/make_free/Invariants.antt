@@ -1,5 +1,5 @@
 use Rattle.std.proofs.Common.{◌≡◌, ℕ, ◌+◌, slice_index_or, vec_len, vec_capacity}
-use Rattle.age_index.specs.Nodes.{AreFree, unused}
+use Rattle.age_index.specs.private.Nodes.{AreFree, unused}
 use Rattle.age_index.proofs.ages.make_free.Given as goal
 
 abbrev pub invariant-loop-made : goal.invariant-loop-made

@@ -4,7 +4,7 @@ use Rattle.std.specs.Option.{option_copied}
 use Rattle.message.specs.Content.{ContentText}
 use Rattle.journal.specs.declared.entry.Event.{Event}
 use Rattle.queue_core.specs.Messages.{contents_in}
-use Rattle.queue_core.specs.Tally.{births}
+use Rattle.queue_core.specs.private.Tally.{births}
 use Rattle.plain_queue.proofs.NumberingLemmas.{base_many, base_content}
 use Rattle.plain_queue.proofs.begun.content_behind.Goals as goal
 

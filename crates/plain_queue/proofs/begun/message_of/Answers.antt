@@ -6,7 +6,7 @@ use Rattle.journal.specs.declared.base.KeptMessage.{KeptMessage}
 use Rattle.journal.specs.declared.entry.Event.{Event}
 use Rattle.queue_core.specs.declared.facts.Message.{Message}
 use Rattle.queue_core.specs.Messages.{kept_birth, gone_birth, message_in, effect_of}
-use Rattle.queue_core.specs.Tally.{births}
+use Rattle.queue_core.specs.private.Tally.{births}
 use Rattle.plain_queue.proofs.NumberingLemmas.{base_many, base_message}
 use Rattle.plain_queue.proofs.begun.message_of.Goals as goal
 

@@ -2,7 +2,7 @@ use Rattle.std.proofs.Common.{◌≡◌, ◌≤◌, ◌<◌, ◌+◌, ◌-◌, �
 use Rattle.std.specs.Prelude.{slice_get, unwrap_or}
 use Rattle.message.specs.Content.{ContentText}
 use Rattle.queue_core.specs.Messages.{contents}
-use Rattle.queue_core.specs.Tally.{births}
+use Rattle.queue_core.specs.private.Tally.{births}
 use Rattle.plain_queue.proofs.EntryLemmas.{content-here, content-later}
 use Rattle.plain_queue.proofs.reading.content_of.Goals as goal
 

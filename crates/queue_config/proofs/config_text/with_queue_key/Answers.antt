@@ -2,7 +2,7 @@ use Rattle.std.proofs.Common.{◌≡◌, false, sym, ap, ◌∙◌}
 use Rattle.std.specs.Prelude.{codes}
 use Rattle.std.specs.Str.{bytes_eq}
 use Rattle.toml.specs.View.{view}
-use Rattle.queue_config.specs.ConfigText.{with_setting_key}
+use Rattle.queue_config.specs.private.ConfigText.{with_setting_key}
 use Rattle.queue_config.specs.SettingRows.{all_settings}
 use Rattle.queue_config.proofs.KeyLemmas.{with_key-settings}
 use Rattle.queue_config.proofs.config_text.with_queue_key.Goals as goal

@@ -1,7 +1,8 @@
 use Rattle.std.proofs.Common.{◌≡◌, ◌≤◌, ℕ, Ok, map, length, rules, subst, sym, ap, ◌∙◌, false}
 use Rattle.std.proofs.lemmas.List.{length-map}
 use Rattle.queue_config.specs.AlarmText.{have_too_many_alarms, have_equal_alarms, configured_alarms}
-use Rattle.queue_config.specs.Config.{AreAlarms, most_queues}
+use Rattle.queue_config.specs.Config.{most_queues}
+use Rattle.queue_config.specs.private.Config.{AreAlarms}
 use Rattle.queue_config.specs.ConfigText.{have_equal_names, configured_queues}
 use Rattle.queue_config.specs.declared.config.ConfiguredQueue.{ConfiguredQueue}
 use Rattle.queue_config.specs.declared.requested_queues.RequestedQueue.{RequestedQueue}

@@ -3,7 +3,7 @@ use Rattle.metric_window.specs.KeptRows.{opened_at}
 use Rattle.metric_window.specs.Window.{longest_window}
 use Rattle.metric_window.specs.Flows.{minute_of}
 use Rattle.queue_core.specs.declared.watch.Watch.{Watch}
-use Rattle.queue_core.specs.Watched.{first_shown, rows_before, IsPassing}
+use Rattle.queue_core.specs.private.Watched.{first_shown, rows_before, IsPassing}
 use Rattle.queue_core.proofs.IndexLemmas.{IsSettling, later-index}
 use Rattle.queue_core.proofs.LegalSoundLemmas.{sound_legal}
 use Rattle.queue_core.proofs.WatchLemmas.{passing-from, passing-behind, watch-passed, watch-jumped}

@@ -1,7 +1,7 @@
 use Rattle.std.proofs.Common.{ℕ, ◌-◌, refl, ap, ◌∙◌, subst, arith}
 use Rattle.queue_core.specs.States.{gauges_of}
 use Rattle.queue_core.specs.Metrics.{minute_end}
-use Rattle.queue_core.specs.Indexed.{IsIndexOf}
+use Rattle.queue_core.specs.private.Indexed.{IsIndexOf}
 use Rattle.queue_core.proofs.IndexLemmas.{later-index}
 use Rattle.queue_core.proofs.LegalSoundLemmas.{sound_legal}
 use Rattle.queue_core.proofs.WatchLemmas.{minute-ended}

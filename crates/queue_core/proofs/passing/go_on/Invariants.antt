@@ -3,9 +3,9 @@ use Rattle.metric_window.specs.declared.row.Row.{Row}
 use Rattle.queue_core.specs.Messages.{settings_of}
 use Rattle.queue_core.specs.Queue.{QueueHistory}
 use Rattle.queue_core.specs.Legal.{IsLegal}
-use Rattle.queue_core.specs.Records.{HasIndices}
-use Rattle.queue_core.specs.Watched.{IsPassing}
-use Rattle.queue_core.specs.Spending.{Costs}
+use Rattle.queue_core.specs.private.Records.{HasIndices}
+use Rattle.queue_core.specs.private.Watched.{IsPassing}
+use Rattle.queue_core.specs.private.Spending.{Costs}
 use Rattle.queue_core.proofs.passing.go_on.Given as goal
 
 abbrev pub invariant-loop : goal.invariant-loop

@@ -1,6 +1,6 @@
 use Rattle.std.proofs.Common.{◌≡◌, ◌≤◌, ℕ, List, length}
 use Rattle.std.specs.Io.KnownBytes.{Consumes}
-use Rattle.sqs_replay.specs.Progress.{HasRead}
+use Rattle.sqs_replay.specs.private.Progress.{HasRead}
 use Rattle.sqs_replay.proofs.Counts.{CountsTurns}
 use Rattle.sqs_replay.proofs.run.read_lines.Given as goal
 

@@ -1,6 +1,7 @@
 use Rattle.std.proofs.Common.{ℕ, ◌+◌, List, [], ◌∷◌, ◌++◌, take, drop, get_or, subst, ◌∙◌}
 use Rattle.sqs_replay.specs.Cutting.{whole_lines}
-use Rattle.sqs_replay.specs.Progress.{HasRead, StopsAmong}
+use Rattle.sqs_replay.specs.Progress.{StopsAmong}
+use Rattle.sqs_replay.specs.private.Progress.{HasRead}
 use Rattle.sqs_replay.proofs.Cuts.{read_rest, read_more}
 use Rattle.sqs_replay.proofs.Runs.{on_err}
 use Rattle.sqs_replay.proofs.Stops.{stops-further}

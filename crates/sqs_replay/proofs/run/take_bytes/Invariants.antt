@@ -1,5 +1,5 @@
 use Rattle.std.proofs.Common.{◌≡◌, ℕ, List, ◌++◌, take, Option}
-use Rattle.sqs_replay.specs.Progress.{HasRead}
+use Rattle.sqs_replay.specs.private.Progress.{HasRead}
 use Rattle.sqs_replay.proofs.run.take_bytes.Given as goal
 
 abbrev pub invariant-loop-byte : goal.invariant-loop-byte

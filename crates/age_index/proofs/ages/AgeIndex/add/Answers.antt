@@ -2,7 +2,8 @@ use Rattle.std.proofs.Common.{◌≡◌, ℕ, ◌+◌, List, [], ◌∷◌, ◌+
 use Rattle.std.specs.FinMap.{FinMap, get}
 use Rattle.std.specs.FinMap as finite
 use Rattle.std.specs.Ordering.{nat_cmp}
-use Rattle.age_index.specs.Nodes.{AreFree, number_at, slots_of}
+use Rattle.age_index.specs.Nodes.{slots_of}
+use Rattle.age_index.specs.private.Nodes.{AreFree, number_at}
 use Rattle.age_index.proofs.Free.{free_popped, last_unnumbered, last_within, length_pushed}
 use Rattle.age_index.proofs.Linking.{IsOneMore, not_none}
 use Rattle.age_index.proofs.Slots.{len_more, no_slot, number_of_slot, slots_more}

@@ -2,7 +2,8 @@ use Rattle.std.proofs.Common.{◌≡◌, ℕ, None, ap, subst}
 use Rattle.std.specs.FinMap.{FinMap}
 use Rattle.std.specs.Ordering.{nat_cmp}
 use Rattle.age_index.specs.Ages.{IsFirst}
-use Rattle.age_index.specs.Nodes.{after_of, before_of, slots_of}
+use Rattle.age_index.specs.Nodes.{slots_of}
+use Rattle.age_index.specs.private.Nodes.{after_of, before_of}
 use Rattle.age_index.proofs.Slots.{first_at, first_none}
 use Rattle.age_index.proofs.ages.AgeIndex.first.Goals as goal
 

@@ -3,7 +3,8 @@ use Rattle.std.specs.Ordering.{nat_cmp}
 use Rattle.std.specs.FinMap.{FinMap, len, len-empty}
 use Rattle.std.specs.FinMap as finite
 use Rattle.age_index.specs.declared.node.Node.{Node}
-use Rattle.age_index.specs.Nodes.{number_in, slots_of}
+use Rattle.age_index.specs.Nodes.{slots_of}
+use Rattle.age_index.specs.private.Nodes.{number_in}
 use Rattle.age_index.proofs.Free.{free_none}
 use Rattle.age_index.proofs.Linking.{chain_none}
 use Rattle.age_index.proofs.Slots.{slots_none}

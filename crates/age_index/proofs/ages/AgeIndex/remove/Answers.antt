@@ -3,7 +3,8 @@ use Rattle.std.specs.FinMap.{FinMap}
 use Rattle.std.specs.FinMap as finite
 use Rattle.std.specs.Ordering.{nat_cmp}
 use Rattle.age_index.specs.Ages.{IsNumberAt}
-use Rattle.age_index.specs.Nodes.{AreFree, number_at, slots_of}
+use Rattle.age_index.specs.Nodes.{slots_of}
+use Rattle.age_index.specs.private.Nodes.{AreFree, number_at}
 use Rattle.age_index.proofs.Free.{free_pushed, length_pushed, used_within}
 use Rattle.age_index.proofs.Linking.{IsOneMore}
 use Rattle.age_index.proofs.Slots.{len_more, number_here, slots_less}

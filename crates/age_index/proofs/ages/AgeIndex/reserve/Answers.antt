@@ -3,7 +3,8 @@ use Rattle.std.specs.FinMap.{FinMap, len}
 use Rattle.std.specs.Ordering.{nat_cmp}
 use Rattle.age_index.specs.declared.node.Chain.{Chain}
 use Rattle.age_index.specs.declared.node.Node.{Node}
-use Rattle.age_index.specs.Nodes.{AreFree, slots_of, unused}
+use Rattle.age_index.specs.Nodes.{slots_of}
+use Rattle.age_index.specs.private.Nodes.{AreFree, unused}
 use Rattle.age_index.proofs.Free.{chain_made}
 use Rattle.age_index.proofs.Slots.{slots_same}
 use Rattle.age_index.proofs.ages.AgeIndex.reserve.Goals as goal

@@ -2,7 +2,7 @@ use Rattle.std.proofs.Common.{[], ◌∷◌, ◌++◌, drop, ap, sym, subst, ◌
 use Rattle.logbook.specs.Pages.{Book}
 use Rattle.desk.specs.Printed.{TurnReport}
 use Rattle.board.specs.Printed.{Publications, place_of}
-use Rattle.board.specs.Rule.{IsAt, count_of}
+use Rattle.board.specs.private.Rule.{IsAt, count_of}
 use Rattle.board.proofs.publisher.Publisher.publish.Goals as goal
 
 pub invariant_of-self : goal.invariant_of-self

@@ -1,6 +1,6 @@
 use Rattle.std.proofs.Common.{◌≡◌, ℕ, drop, sym, ap, ◌∙◌}
 use Rattle.board.specs.Printed.{Publications, place_of}
-use Rattle.board.specs.Rule.{IsAt}
+use Rattle.board.specs.private.Rule.{IsAt}
 use Rattle.board.proofs.Placing.{admits, forks, merges, still_at}
 use Rattle.board.proofs.publisher.Publisher.reader.Goals as goal
 

@@ -1,7 +1,7 @@
 use Rattle.std.proofs.Common.{◌≡◌, List, [], ◌∷◌, ◌++◌, sym, ◌∙◌, ap, subst}
 use Rattle.desk.specs.Printed.{TurnReport, IsPublicationRecord}
 use Rattle.board.specs.Printed.{Publications}
-use Rattle.board.specs.Rule.{count_of}
+use Rattle.board.specs.private.Rule.{count_of}
 use Rattle.board.proofs.Adding.{adds_moves}
 use Rattle.board.proofs.told.KnownTurns.add.Goals as goal
 

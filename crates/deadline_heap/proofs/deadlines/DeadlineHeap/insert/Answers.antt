@@ -3,7 +3,7 @@ use Rattle.std.specs.FinMap.{FinMap, get, len}
 use Rattle.std.specs.FinMap as finite
 use Rattle.std.specs.Ordering.{nat_cmp}
 use Rattle.deadline_heap.specs.Deadlines.{moments_of}
-use Rattle.deadline_heap.specs.Heap.{IsHeapButRising}
+use Rattle.deadline_heap.specs.private.Heap.{IsHeapButRising}
 use Rattle.deadline_heap.proofs.HeapOrder.{rising_pushed}
 use Rattle.deadline_heap.proofs.Moments.{lacks_moments, len_moments, moments_permuted, moments_pushed}
 use Rattle.deadline_heap.proofs.deadlines.DeadlineHeap.insert.Goals as goal

@@ -4,8 +4,8 @@ use Rattle.std.specs.FinMap as finite
 use Rattle.std.specs.Ordering.{nat_cmp}
 use Rattle.std.proofs.lemmas.List.{length-set}
 use Rattle.deadline_heap.specs.Deadlines.{moments_of}
-use Rattle.deadline_heap.specs.Heap.{IsHeapBut}
-use Rattle.deadline_heap.specs.Placed.{HasNumberAt}
+use Rattle.deadline_heap.specs.private.Heap.{IsHeapBut}
+use Rattle.deadline_heap.specs.private.Placed.{HasNumberAt}
 use Rattle.deadline_heap.proofs.HeapOrder.{but_set}
 use Rattle.deadline_heap.proofs.Moments.{len_moments, moments_permuted, moments_set, place_there}
 use Rattle.deadline_heap.proofs.deadlines.DeadlineHeap.move_to.Goals as goal

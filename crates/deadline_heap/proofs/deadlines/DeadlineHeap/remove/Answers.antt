@@ -5,7 +5,7 @@ use Rattle.std.specs.Ordering.{nat_cmp}
 use Rattle.std.proofs.lemmas.List.Edits.{length-swap}
 use Rattle.std.proofs.lemmas.List.Sorted.{IsPermutation-swap}
 use Rattle.deadline_heap.specs.Deadlines.{moments_of}
-use Rattle.deadline_heap.specs.Placed.{HasDistinctNumbers, HasNumberAt}
+use Rattle.deadline_heap.specs.private.Placed.{HasDistinctNumbers, HasNumberAt}
 use Rattle.deadline_heap.proofs.HeapOrder.{but_taken}
 use Rattle.deadline_heap.proofs.Moments.{get_moments, get_moments_lacking, last_is, len_moments, moments_permuted, moments_taken}
 use Rattle.deadline_heap.proofs.Keyed.{removed_lacking}

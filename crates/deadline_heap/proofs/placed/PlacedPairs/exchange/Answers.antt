@@ -4,7 +4,7 @@ use Rattle.std.specs.FinMap.{FinMap, get}
 use Rattle.std.specs.FinMap as finite
 use Rattle.std.specs.Ordering.{nat_cmp}
 use Rattle.std.proofs.lemmas.List.{get_or_read}
-use Rattle.deadline_heap.specs.Placed.{HasNumberAt}
+use Rattle.deadline_heap.specs.private.Placed.{HasNumberAt}
 use Rattle.deadline_heap.proofs.HeapOrder.{exchanged}
 use Rattle.deadline_heap.proofs.Placing.{distinct_placed, is_some_inserted, is_some_there, placed_at, placed_exchanged}
 use Rattle.deadline_heap.proofs.placed.PlacedPairs.exchange.Goals as goal

@@ -1,5 +1,5 @@
 use Rattle.std.proofs.Common.{◌≡◌, ℕ, List, IfSome, IfNone, ap, subst}
-use Rattle.deadline_heap.specs.Placed.{HasNumberAt, LacksNumber}
+use Rattle.deadline_heap.specs.private.Placed.{HasNumberAt, LacksNumber}
 use Rattle.deadline_heap.proofs.Placing.{absent_of, found_of}
 use Rattle.deadline_heap.proofs.placed.PlacedPairs.place_of.Goals as goal
 

@@ -1,5 +1,5 @@
 use Rattle.std.proofs.Common.{◌≡◌, ℕ, ◌+◌, ◌∷◌, [], ◌++◌, List, length, refl, ap, ◌∙◌, subst, arith, length-append}
-use Rattle.deadline_heap.specs.Placed.{IsPlaced}
+use Rattle.deadline_heap.specs.private.Placed.{IsPlaced}
 use Rattle.deadline_heap.proofs.Placing.{distinct_placed, is_some_last, placed_at, placed_popped}
 use Rattle.deadline_heap.proofs.placed.PlacedPairs.pop.Goals as goal
 

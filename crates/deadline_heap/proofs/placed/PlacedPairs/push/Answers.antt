@@ -1,7 +1,7 @@
 use Rattle.std.proofs.Common.{◌≡◌, ℕ, ◌+◌, ◌-◌, ◌∷◌, [], false, List, length, is_some, ap, sym, ◌∙◌, subst, arith, length-append}
 use Rattle.std.specs.FinMap.{get}
 use Rattle.std.specs.FinMap as finite
-use Rattle.deadline_heap.specs.Placed.{LacksNumber}
+use Rattle.deadline_heap.specs.private.Placed.{LacksNumber}
 use Rattle.deadline_heap.proofs.Placing.{distinct_placed, is_some_lacking, placed_at, placed_pushed}
 use Rattle.deadline_heap.proofs.placed.PlacedPairs.push.Goals as goal
 

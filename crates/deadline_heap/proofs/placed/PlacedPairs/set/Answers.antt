@@ -1,6 +1,6 @@
 use Rattle.std.proofs.Common.{◌≡◌, ℕ, List, ap, sym, subst, arith}
 use Rattle.std.proofs.lemmas.List.{length-set}
-use Rattle.deadline_heap.specs.Placed.{HasNumberAt}
+use Rattle.deadline_heap.specs.private.Placed.{HasNumberAt}
 use Rattle.deadline_heap.proofs.Placing.{distinct_placed, placed_set}
 use Rattle.deadline_heap.proofs.placed.PlacedPairs.set.Goals as goal
 

@@ -4,7 +4,7 @@ use Rattle.std.specs.FinMap as finite
 use Rattle.std.specs.List.{remove}
 use Rattle.std.specs.Ordering.{nat_cmp}
 use Rattle.std.proofs.lemmas.List.Edits.{length-remove}
-use Rattle.deadline_heap.specs.Rows.{IsRising}
+use Rattle.deadline_heap.specs.private.Rows.{IsRising}
 use Rattle.deadline_heap.proofs.Keyed.{entries_removed, removed_lacking}
 use Rattle.deadline_heap.proofs.RowSearch.{get_gap, none_row, rising_remove, rows_distinct, some_row}
 use Rattle.deadline_heap.proofs.places.Places.remove.Goals as goal

@@ -5,7 +5,7 @@ use Rattle.std.specs.List.{insert}
 use Rattle.std.specs.Ordering.{nat_cmp}
 use Rattle.std.proofs.lemmas.List.{length-set}
 use Rattle.std.proofs.lemmas.List.Edits.{length-insert}
-use Rattle.deadline_heap.specs.Rows.{IsRising}
+use Rattle.deadline_heap.specs.private.Rows.{IsRising}
 use Rattle.deadline_heap.proofs.Keyed.{entries_inserted, entries_set}
 use Rattle.deadline_heap.proofs.RowSearch.{gap_absent, none_row, rising_insert, rising_set, rows_distinct, some_row}
 use Rattle.deadline_heap.proofs.places.Places.set.Goals as goal

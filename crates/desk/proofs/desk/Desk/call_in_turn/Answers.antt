@@ -3,7 +3,7 @@ use Rattle.queue_core.specs.Queue.{QueueHistory}
 use Rattle.desk.specs.History.{state_of, call}
 use Rattle.desk.specs.Views.{IsKnown, knowledge_of}
 use Rattle.desk.specs.Printed.{IsToldOf}
-use Rattle.desk.specs.Steps.{behind_call, with_call}
+use Rattle.desk.specs.private.Steps.{behind_call, with_call}
 use Rattle.desk.proofs.PassLemmas.{called, known_behind, left_behind, performed}
 use Rattle.desk.proofs.desk.Desk.call_in_turn.Goals as goal
 

@@ -1,6 +1,6 @@
 use Rattle.std.proofs.Common.{◌≡◌, ◌≤◌}
 use Rattle.desk.specs.Views.{most_tickets}
-use Rattle.desk.specs.Steps.{Holder, counting}
+use Rattle.desk.specs.private.Steps.{Holder, counting}
 use Rattle.desk.proofs.desk.Desk.draw.Given as goal
 
 abbrev pub invariant-loop : goal.invariant-loop

@@ -1,5 +1,5 @@
 use Rattle.std.proofs.Common.{◌≡◌}
-use Rattle.desk.specs.Steps.{StillWaits}
+use Rattle.desk.specs.private.Steps.{StillWaits}
 use Rattle.desk.proofs.desk.Desk.wait.Given as goal
 
 abbrev pub invariant-loop : goal.invariant-loop

@@ -6,9 +6,10 @@ use Rattle.queue_core.specs.declared.reply.Reply.{Reply}
 use Rattle.queue_core.specs.Queue.{QueueHistory, reached, outcome_at, after_answer}
 use Rattle.queue_core.specs.Legal.{IsLegal}
 use Rattle.desk.specs.History.{IsAnswered}
-use Rattle.desk.specs.Held.{Lying, told_behind}
-use Rattle.desk.specs.KeptRows.{AreRowsOf}
-use Rattle.desk.specs.Printed.{IsPrinted}
+use Rattle.desk.specs.Held.{Lying}
+use Rattle.desk.specs.private.Held.{told_behind}
+use Rattle.desk.specs.private.KeptRows.{AreRowsOf}
+use Rattle.desk.specs.private.Printed.{IsPrinted}
 use Rattle.desk.proofs.PrintLemmas.{printed_behind}
 use Rattle.desk.proofs.RowLemmas.{rows_behind}
 use Rattle.desk.proofs.held.Held.perform.Goals as goal

@@ -3,8 +3,9 @@ use Rattle.std.specs.Prelude.{IfSome}
 use Rattle.queue_core.specs.Queue.{QueueHistory}
 use Rattle.queue_core.specs.Legal.{IsLegal}
 use Rattle.desk.specs.Held.{Lying}
-use Rattle.desk.specs.KeptRows.{AreRowsOf}
-use Rattle.desk.specs.Printed.{TurnReport, report_of, IsNextIn, IsPublicationRecord, IsPrinted}
+use Rattle.desk.specs.private.KeptRows.{AreRowsOf}
+use Rattle.desk.specs.Printed.{TurnReport, report_of, IsNextIn, IsPublicationRecord}
+use Rattle.desk.specs.private.Printed.{IsPrinted}
 use Rattle.desk.proofs.PrintLemmas.{next_in, printed_more}
 use Rattle.desk.proofs.held.Held.print.Goals as goal
 

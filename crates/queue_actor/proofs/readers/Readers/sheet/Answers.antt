@@ -6,7 +6,8 @@ use Rattle.std.specs.Option.{IfSome, option_map}
 use Rattle.std.proofs.lemmas.List.Quantifiers.{position-Some}
 use Rattle.std.proofs.lemmas.Slice.Eq.{bytes_eq-Decides}
 use Rattle.queue_actor.specs.declared.readers.Shown.{Shown}
-use Rattle.queue_actor.specs.Reading.{IsSheetUnder, sheet_of}
+use Rattle.queue_actor.specs.Reading.{IsSheetUnder}
+use Rattle.queue_actor.specs.private.Reading.{sheet_of}
 use Rattle.queue_actor.proofs.ReaderLemmas.{HasOwnRecord, all_later_self, found_set, later_lent, none_found}
 use Rattle.queue_actor.proofs.readers.Readers.sheet.Goals as goal
 

@@ -5,7 +5,8 @@ use Rattle.std.proofs.lemmas.List.{take_more, take_more_set, map-append, get_or-
 use Rattle.std.proofs.lemmas.List.Elements.{All-push, All-same}
 use Rattle.board.specs.Sheet.{Statistics}
 use Rattle.queue_actor.specs.declared.readers.Shown.{Shown}
-use Rattle.queue_actor.specs.Reading.{IsSheetUnder, sheet_of}
+use Rattle.queue_actor.specs.Reading.{IsSheetUnder}
+use Rattle.queue_actor.specs.private.Reading.{sheet_of}
 use Rattle.queue_actor.proofs.ReaderLemmas.{all_later_self, later_lent, records_more}
 use Rattle.queue_actor.proofs.readers.Readers.sheets.Goals as goal
 

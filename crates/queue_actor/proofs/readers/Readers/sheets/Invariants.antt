@@ -1,7 +1,8 @@
 -- The sheets so far are those of the first readers, which have records now. The readers stay the same ones.
 use Rattle.std.proofs.Common.{◌≡◌, map, take}
 use Rattle.std.specs.List.{All, AllZip, AllWithin}
-use Rattle.queue_actor.specs.Reading.{IsSheetUnder, IsLater, HasRecord, sheet_of}
+use Rattle.queue_actor.specs.Reading.{IsSheetUnder}
+use Rattle.queue_actor.specs.private.Reading.{IsLater, HasRecord, sheet_of}
 use Rattle.queue_actor.proofs.readers.Readers.sheets.Given as goal
 
 abbrev pub invariant-loop-place : goal.invariant-loop-place

@@ -11,12 +11,12 @@ use Rattle.queue_core.specs.declared.effect.Change.{Change}
 use Rattle.queue_core.specs.declared.effect.Change.TheVariants.{Nothing}
 use Rattle.queue_core.specs.declared.index.MessageIndex.{MessageIndex}
 use Rattle.queue_core.specs.declared.record.Record.{Record}
-use Rattle.queue_core.specs.Effects.{changed_by}
+use Rattle.queue_core.specs.private.Effects.{changed_by}
 use Rattle.queue_core.specs.Messages.{Birth, Effect, effect_of, opens}
-use Rattle.queue_core.specs.Tally.{births}
-use Rattle.queue_core.specs.Spending.{Costs, effect_adds, event_adds, left_count}
-use Rattle.queue_core.specs.Records.{born_record, record_of_birth, hidden_until, received_at}
-use Rattle.queue_core.specs.Applying.{HaveCounted, HasChanged, among, where_here, where_left, ended_by}
+use Rattle.queue_core.specs.private.Tally.{births}
+use Rattle.queue_core.specs.private.Spending.{Costs, effect_adds, event_adds, left_count}
+use Rattle.queue_core.specs.private.Records.{born_record, record_of_birth, hidden_until, received_at}
+use Rattle.queue_core.specs.private.Applying.{HaveCounted, HasChanged, among, where_here, where_left, ended_by}
 use Rattle.queue_core.proofs.AppliedLemmas.{alike-applied, can_apply-alike, birth-applied, received-applied, changed-applied, deleted-applied, purged-applied, set-applied, settled-applied, orphaned-applied, closed-applied, deleted_again-applied}
 use Rattle.queue_core.proofs.Scans.{StandsAlone}
 use Rattle.queue_core.proofs.PushLemmas.{fresh}

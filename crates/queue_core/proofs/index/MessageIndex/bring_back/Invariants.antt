@@ -1,8 +1,8 @@
 use Rattle.std.proofs.Common.{◌≡◌, ◌*◌, take, count_by}
-use Rattle.queue_core.specs.Slots.{is_left_for}
-use Rattle.queue_core.specs.Records.{slots_in}
-use Rattle.queue_core.specs.Applying.{HasChanged, among, where_left, returned_from}
-use Rattle.queue_core.specs.Spending.{Costs}
+use Rattle.queue_core.specs.private.Slots.{is_left_for}
+use Rattle.queue_core.specs.private.Records.{slots_in}
+use Rattle.queue_core.specs.private.Applying.{HasChanged, among, where_left, returned_from}
+use Rattle.queue_core.specs.private.Spending.{Costs}
 use Rattle.queue_core.proofs.index.MessageIndex.bring_back.Given as goal
 
 abbrev pub invariant-loop-place : goal.invariant-loop-place

@@ -1,7 +1,7 @@
 use Rattle.std.proofs.Common.{◌≡◌, ℕ, false, None, length}
 use Rattle.queue_core.specs.Messages.{contains_number}
-use Rattle.queue_core.specs.Records.{records_in, HasIndices}
-use Rattle.queue_core.specs.Spending.{Costs}
+use Rattle.queue_core.specs.private.Records.{records_in, HasIndices}
+use Rattle.queue_core.specs.private.Spending.{Costs}
 use Rattle.queue_core.proofs.index.MessageIndex.close.Given as goal
 
 abbrev pub invariant-loop-number : goal.invariant-loop-number

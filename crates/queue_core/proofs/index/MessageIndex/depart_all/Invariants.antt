@@ -1,8 +1,8 @@
 use Rattle.std.proofs.Common.{◌≡◌, take, false, Some}
 use Rattle.queue_core.specs.declared.slot.Stay.TheVariants.{Left}
-use Rattle.queue_core.specs.Records.{with_stay}
-use Rattle.queue_core.specs.Applying.{HasChanged, among}
-use Rattle.queue_core.specs.Spending.{Costs}
+use Rattle.queue_core.specs.private.Records.{with_stay}
+use Rattle.queue_core.specs.private.Applying.{HasChanged, among}
+use Rattle.queue_core.specs.private.Spending.{Costs}
 use Rattle.queue_core.proofs.index.MessageIndex.depart_all.Given as goal
 
 abbrev pub invariant-loop-number : goal.invariant-loop-number

@@ -1,6 +1,6 @@
 use Rattle.std.proofs.Common.{◌≡◌, take}
-use Rattle.queue_core.specs.Applying.{HasChanged, among, where_left, ended_by}
-use Rattle.queue_core.specs.Spending.{Costs}
+use Rattle.queue_core.specs.private.Applying.{HasChanged, among, where_left, ended_by}
+use Rattle.queue_core.specs.private.Spending.{Costs}
 use Rattle.queue_core.proofs.index.MessageIndex.end_period.Given as goal
 
 abbrev pub invariant-loop-place : goal.invariant-loop-place

@@ -1,6 +1,6 @@
 use Rattle.std.proofs.lemmas.Fn.{filter_same}
-use Rattle.queue_core.specs.Slots.{is_left}
-use Rattle.queue_core.specs.Records.{slots_in}
+use Rattle.queue_core.specs.private.Slots.{is_left}
+use Rattle.queue_core.specs.private.Records.{slots_in}
 use Rattle.queue_core.proofs.index.MessageIndex.forget_returned.Goals as goal
 use Rattle.std.proofs.Common.{rules}
 

@@ -1,6 +1,6 @@
 use Rattle.std.proofs.Common.{◌≡◌, ◌++◌, take}
 use Rattle.std.specs.List.{filter_map}
-use Rattle.queue_core.specs.Keeping.{kept_in}
+use Rattle.queue_core.specs.private.Keeping.{kept_in}
 use Rattle.queue_core.proofs.index.MessageIndex.keep_left.Given as goal
 
 abbrev pub invariant-loop-place : goal.invariant-loop-place

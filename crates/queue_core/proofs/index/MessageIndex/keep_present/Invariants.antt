@@ -1,6 +1,6 @@
 use Rattle.std.proofs.Common.{◌≡◌, ◌++◌}
 use Rattle.std.specs.List.{filter_map, range_with_len}
-use Rattle.queue_core.specs.Keeping.{present_in}
+use Rattle.queue_core.specs.private.Keeping.{present_in}
 use Rattle.queue_core.proofs.index.MessageIndex.keep_present.Given as goal
 
 abbrev pub invariant-loop-place : goal.invariant-loop-place

@@ -2,9 +2,9 @@
 use Rattle.std.proofs.Common.{◌≡◌, ℕ}
 use Rattle.std.specs.Prelude.{option_and_then}
 use Rattle.indexmap.specs.IndexMap.{index_map_len}
-use Rattle.queue_core.specs.Records.{records_in, HasIndices}
-use Rattle.queue_core.specs.Settling.{kept_since}
-use Rattle.queue_core.specs.Spending.{Costs}
+use Rattle.queue_core.specs.private.Records.{records_in, HasIndices}
+use Rattle.queue_core.specs.private.Settling.{kept_since}
+use Rattle.queue_core.specs.private.Spending.{Costs}
 use Rattle.queue_core.proofs.index.MessageIndex.let_go.Given as goal
 
 abbrev pub invariant-loop-number : goal.invariant-loop-number

@@ -1,4 +1,4 @@
-use Rattle.queue_core.specs.Records.{slots_in}
+use Rattle.queue_core.specs.private.Records.{slots_in}
 use Rattle.queue_core.proofs.SpendingLemmas.{hidden-costs}
 use Rattle.queue_core.proofs.index.MessageIndex.offer.Goals as goal
 

@@ -1,5 +1,5 @@
 use Rattle.std.proofs.Common.{◌+◌, ◌*◌, get_or, take, refl, ◌∙◌, Some, arith}
-use Rattle.queue_core.specs.Records.{hidden_until, received_at}
+use Rattle.queue_core.specs.private.Records.{hidden_until, received_at}
 use Rattle.queue_core.proofs.NumberLemmas.{contains-at, unseen}
 use Rattle.queue_core.proofs.ChangeLemmas.{changed-more, counted-more, here-below, here-outside}
 use Rattle.queue_core.proofs.SpendingLemmas.{costs_within, costs_then}

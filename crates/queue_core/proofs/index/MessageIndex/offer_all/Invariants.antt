@@ -1,7 +1,7 @@
 use Rattle.std.proofs.Common.{◌≡◌, ◌*◌, take, Some}
-use Rattle.queue_core.specs.Records.{hidden_until, received_at}
-use Rattle.queue_core.specs.Applying.{HaveCounted, HasChanged, among}
-use Rattle.queue_core.specs.Spending.{Costs}
+use Rattle.queue_core.specs.private.Records.{hidden_until, received_at}
+use Rattle.queue_core.specs.private.Applying.{HaveCounted, HasChanged, among}
+use Rattle.queue_core.specs.private.Spending.{Costs}
 use Rattle.queue_core.proofs.index.MessageIndex.offer_all.Given as goal
 
 abbrev pub invariant-loop-number : goal.invariant-loop-number

@@ -1,8 +1,8 @@
 use Rattle.std.proofs.Common.{◌≡◌}
 use Rattle.indexmap.specs.IndexMap.{index_map_len}
-use Rattle.queue_core.specs.Records.{HasIndices}
+use Rattle.queue_core.specs.private.Records.{HasIndices}
 use Rattle.queue_core.proofs.ChangeLemmas.{LeavesSame}
-use Rattle.queue_core.specs.Spending.{Costs}
+use Rattle.queue_core.specs.private.Spending.{Costs}
 use Rattle.queue_core.proofs.index.MessageIndex.purge.Given as goal
 
 abbrev pub invariant-loop-number : goal.invariant-loop-number

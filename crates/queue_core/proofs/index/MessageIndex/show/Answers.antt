@@ -1,4 +1,4 @@
-use Rattle.queue_core.specs.Records.{slots_in}
+use Rattle.queue_core.specs.private.Records.{slots_in}
 use Rattle.queue_core.proofs.SpendingLemmas.{shown-free}
 use Rattle.queue_core.proofs.index.MessageIndex.show.Goals as goal
 

@@ -1,9 +1,9 @@
 -- What the records are with all shown that is due stays the same.
 use Rattle.std.proofs.Common.{◌≡◌, ℕ, ◌+◌}
 use Rattle.std.specs.Prelude.{option_map}
-use Rattle.queue_core.specs.Records.{records_in, HasIndices}
-use Rattle.queue_core.specs.Settling.{shown_at}
-use Rattle.queue_core.specs.Spending.{Costs}
+use Rattle.queue_core.specs.private.Records.{records_in, HasIndices}
+use Rattle.queue_core.specs.private.Settling.{shown_at}
+use Rattle.queue_core.specs.private.Spending.{Costs}
 use Rattle.queue_core.proofs.index.MessageIndex.show_due.Given as goal
 
 abbrev pub invariant-loop-number : goal.invariant-loop-number

@@ -9,16 +9,17 @@ use Rattle.std.specs.Prelude.{option_to_list}
 use Rattle.std.specs.Option.{OnSome}
 use Rattle.std.specs.List.{filter_map}
 use Rattle.queue_core.specs.declared.record.Record.{Record}
-use Rattle.queue_core.specs.Records.{record_of_birth, IsReady}
+use Rattle.queue_core.specs.private.Records.{record_of_birth, IsReady}
 use Rattle.queue_core.specs.Messages.{Birth, effect_of, message_count}
 use Rattle.queue_core.specs.Legal.{IsCausedIn}
-use Rattle.queue_core.specs.Kept.{IsKept}
-use Rattle.queue_core.specs.Tally.{births, Tallies}
-use Rattle.queue_core.specs.Indexed.{IsIndexOf}
-use Rattle.queue_core.specs.Accepted.{accepted_keys, AreAccepted}
+use Rattle.queue_core.specs.private.Kept.{IsKept}
+use Rattle.queue_core.specs.private.Tally.{births, Tallies}
+use Rattle.queue_core.specs.private.Indexed.{IsIndexOf}
+use Rattle.queue_core.specs.Accepted.{accepted_keys}
+use Rattle.queue_core.specs.private.Accepted.{AreAccepted}
 use Rattle.queue_core.specs.Summary.{summary_of}
 use Rattle.metric_window.specs.Flows.{minute_of}
-use Rattle.queue_core.specs.Watched.{IsWatchAt}
+use Rattle.queue_core.specs.private.Watched.{IsWatchAt}
 use Rattle.queue_core.proofs.LegalSoundLemmas.{sound_legal, kept_few}
 use Rattle.queue_core.proofs.CauseLemmas.{about-caused}
 use Rattle.queue_core.proofs.AloneLemmas.{alone-caused}
@@ -28,7 +29,7 @@ use Rattle.queue_core.proofs.IndexLemmas.{same-index, can_apply, event-index}
 use Rattle.queue_core.proofs.WatchLemmas.{watch-pushed}
 use Rattle.queue_core.proofs.AcceptedLemmas.{accepted-same, accepted-noted, unheld-caused}
 use Rattle.queue_core.specs.Cost.{most_ticks}
-use Rattle.queue_core.specs.Spending.{event_adds, left_count, HasCome}
+use Rattle.queue_core.specs.private.Spending.{event_adds, left_count, HasCome}
 use Rattle.queue_core.proofs.BoundLemmas.{kept-is, bound-later, bound-event}
 use Rattle.queue_core.proofs.SpendingLemmas.{costs_behind}
 use Rattle.queue_core.proofs.CostLemmas.{has_added}

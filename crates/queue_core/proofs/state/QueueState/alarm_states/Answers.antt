@@ -5,7 +5,7 @@ use Rattle.std.specs.Result.{IfOk}
 use Rattle.alarm.specs.declared.state.AlarmState.{AlarmState}
 use Rattle.alarm.specs.KeptAlarm.{KeptAlarm, kept_state}
 use Rattle.metric_window.specs.Flows.{minute_of}
-use Rattle.queue_core.specs.Watched.{rows_before, told_alarm}
+use Rattle.queue_core.specs.private.Watched.{rows_before, told_alarm}
 use Rattle.queue_core.proofs.QuestionLemmas.{sound_of}
 use Rattle.queue_core.proofs.WatchLemmas.{watch_of, states-told}
 use Rattle.queue_core.proofs.state.QueueState.alarm_states.Goals as goal

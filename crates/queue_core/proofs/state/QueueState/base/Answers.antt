@@ -5,7 +5,7 @@ use Rattle.journal.specs.Base.{BaseOf}
 use Rattle.queue_core.specs.Queue.{QueueHistory}
 use Rattle.queue_core.specs.Summary.{Summary, summary_of}
 use Rattle.queue_core.specs.Rebase.{kept_flows, kept_row, base_of}
-use Rattle.queue_core.specs.Keeping.{messages_kept}
+use Rattle.queue_core.specs.private.Keeping.{messages_kept}
 use Rattle.queue_core.proofs.KeepingLemmas.{messages_same, base_is}
 use Rattle.queue_core.proofs.state.QueueState.base.Goals as goal
 

@@ -7,13 +7,13 @@ use Rattle.journal.specs.Journal.{Lines}
 use Rattle.journal.specs.Weight.{weight_of}
 use Rattle.metric_window.specs.Flows.{minute_of}
 use Rattle.queue_core.specs.Messages.{is_closed}
-use Rattle.queue_core.specs.Tally.{Tallies}
-use Rattle.queue_core.specs.Indexed.{Keeps}
-use Rattle.queue_core.specs.Watched.{IsWatchOf}
-use Rattle.queue_core.specs.Kept.{IsKept}
+use Rattle.queue_core.specs.private.Tally.{Tallies}
+use Rattle.queue_core.specs.private.Indexed.{Keeps}
+use Rattle.queue_core.specs.private.Watched.{IsWatchOf}
+use Rattle.queue_core.specs.private.Kept.{IsKept}
 use Rattle.queue_core.specs.Summary.{Summary, summary_of}
 use Rattle.queue_core.specs.Queue.{QueueHistory, is_at_limit, first_refusal, rebased}
-use Rattle.queue_core.specs.Replaced.{CanComeBack}
+use Rattle.queue_core.specs.private.Replaced.{CanComeBack}
 use Rattle.queue_core.proofs.LegalLemmas.{kept-spare}
 use Rattle.queue_core.proofs.LegalSoundLemmas.{unrefused, stands_rebased, kept_rebased}
 use Rattle.queue_core.proofs.RoomLemmas.{unclosed_of, unfull_of, below_acting}

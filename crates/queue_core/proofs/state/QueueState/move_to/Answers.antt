@@ -1,18 +1,19 @@
 use Rattle.std.proofs.Common.{◌≡◌, ℕ, max, subst, sym, ap, ◌∙◌, arith}
 use Rattle.metric_window.specs.Flows.{minute_of}
 use Rattle.queue_core.specs.Queue.{QueueHistory}
-use Rattle.queue_core.specs.Kept.{IsKept}
-use Rattle.queue_core.specs.Tally.{Tallies}
-use Rattle.queue_core.specs.Indexed.{IsIndexOf}
-use Rattle.queue_core.specs.Accepted.{accepted_keys, AreAccepted}
+use Rattle.queue_core.specs.private.Kept.{IsKept}
+use Rattle.queue_core.specs.private.Tally.{Tallies}
+use Rattle.queue_core.specs.private.Indexed.{IsIndexOf}
+use Rattle.queue_core.specs.Accepted.{accepted_keys}
+use Rattle.queue_core.specs.private.Accepted.{AreAccepted}
 use Rattle.queue_core.specs.Summary.{summary_of}
-use Rattle.queue_core.specs.Watched.{IsWatchAt}
+use Rattle.queue_core.specs.private.Watched.{IsWatchAt}
 use Rattle.queue_core.specs.declared.state.QueueState.TheInside.{Inside}
 use Rattle.queue_core.proofs.LegalLemmas.{IsKept-later}
 use Rattle.queue_core.proofs.TallyLemmas.{tallies-later}
 use Rattle.std.specs.Prelude.{nat_eq}
 use Rattle.indexmap.specs.IndexMap.{IsUnique}
-use Rattle.queue_core.specs.Spending.{Costs, HasCome}
+use Rattle.queue_core.specs.private.Spending.{Costs, HasCome}
 use Rattle.queue_core.proofs.CostLemmas.{has_come}
 use Rattle.queue_core.proofs.state.QueueState.move_to.Goals as goal
 

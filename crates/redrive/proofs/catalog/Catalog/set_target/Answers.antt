@@ -1,6 +1,7 @@
 use Rattle.std.proofs.Common.{◌≡◌, Some, sym, ap, subst, ◌∙◌, nat_eq}
 use Rattle.std.specs.List.{position}
-use Rattle.redrive.specs.Catalog.{NameDirectory, IsKeptDirectory, with_target}
+use Rattle.redrive.specs.Catalog.{NameDirectory, with_target}
+use Rattle.redrive.specs.private.Catalog.{IsKeptDirectory}
 use Rattle.redrive.proofs.CatalogLemmas.{has-present, has-absent, with_target-absent, with_target-present, IsKept-with_target}
 use Rattle.redrive.proofs.catalog.Catalog.set_target.Goals as goal
 

@@ -4,7 +4,7 @@ use Rattle.std.specs.Option.{option_map_or}
 use Rattle.std.proofs.lemmas.Option.{slice_get-get_or}
 use Rattle.queue_core.specs.Queue.{QueueHistory, at_moment}
 use Rattle.redrive.specs.World.{World, closed_queue}
-use Rattle.redrive.specs.ByPlace.{with_place_changed, without_place}
+use Rattle.redrive.specs.private.ByPlace.{with_place_changed, without_place}
 use Rattle.redrive.proofs.CostLemmas.{done-at}
 use Rattle.redrive.proofs.queues.Queues.close_and_take.Goals as goal
 

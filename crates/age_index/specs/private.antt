@@ -1,0 +1,3 @@
+pub mod Ages
+pub mod Links
+pub mod Nodes

@@ -1,0 +1,4 @@
+pub mod Deadlines
+pub mod Heap
+pub mod Placed
+pub mod Rows

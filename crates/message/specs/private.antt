@@ -1,0 +1,2 @@
+pub mod StoredName
+pub mod StoredContent

@@ -1,0 +1,17 @@
+pub mod Tally
+pub mod Ages
+pub mod Slots
+pub mod Records
+pub mod Recorded
+pub mod Changes
+pub mod Settling
+pub mod Applying
+pub mod Accepted
+pub mod Indexed
+pub mod Heaps
+pub mod Keeping
+pub mod Kept
+pub mod Replaced
+pub mod Watched
+pub mod Spending
+pub mod Effects

@@ -1,0 +1,4 @@
+pub mod Catalog
+pub mod ByPlace
+pub mod Halves
+pub mod Cost
