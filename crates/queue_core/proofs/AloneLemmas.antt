@@ -20,7 +20,7 @@ use Rattle.queue_core.specs.Legal.{IsWhole, IsOpening, IsCausedIn, BeginsAndFoll
 use Rattle.queue_core.proofs.Scans.{StandsAlone, StandAlone, length-messages_from}
 use Rattle.queue_core.proofs.PushLemmas.{Line}
 use Rattle.queue_core.proofs.CauseLemmas.{about-caused}
-use Rattle.queue_core.proofs.AlongLemmas.{holds_along}
+use Rattle.queue_core.proofs.entries.AlongLemmas.{holds_along}
 
 -- ---- which entries are none
 

@@ -18,11 +18,11 @@ use Rattle.queue_core.specs.Legal.{IsLegal}
 use Rattle.queue_core.specs.Lasting.{StandsAs, left_by_refusal}
 use Rattle.queue_core.specs.Refusals.{is_own_refusal}
 use Rattle.queue_core.specs.Standing.{StandsFor}
-use Rattle.queue_core.proofs.LegalLemmas.{IsOrdered-later}
+use Rattle.queue_core.proofs.commands.LegalLemmas.{IsOrdered-later}
 use Rattle.queue_core.proofs.LegalSoundLemmas.{stands_rebased}
 use Rattle.queue_core.proofs.SoundLemmas.{IsSound, sound_later}
-use Rattle.queue_core.proofs.WeightLemmas.{based_weight}
-use Rattle.queue_core.proofs.RefusalLemmas.{StandsAs-refusal}
+use Rattle.queue_core.proofs.checkpoints.WeightLemmas.{based_weight}
+use Rattle.queue_core.proofs.commands.RefusalLemmas.{StandsAs-refusal}
 
 legal_reached : (q : QueueHistory) (at : ℕ) (command : Command) → IsLegal q → IsLegal (reached q at command)
 legal_reached q at command legal = by_clock (leaves_clock command)

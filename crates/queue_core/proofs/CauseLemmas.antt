@@ -26,9 +26,9 @@ use Rattle.queue_core.specs.States.{is_live, waiting_state, same_state, is_in_st
 use Rattle.queue_core.specs.Queue.{QueueHistory, Outcome, refusal, unless_refused, first_refusal, refused_or, done, send_outcome, receive_outcome, change_outcome, delete_outcome, change_refusal, is_valid_handle, is_latest_handle, holds_in_flight, passes_twelve_hours, holds_live, arrive_outcome, is_pending, settle_outcome, orphan_outcome, in_flight_count, is_exhausted, scanned_candidates, offered_candidates, leaving_candidates, received_event, numbers_of, policy_target, outcome_in}
 use Rattle.queue_core.specs.Turns.{IsVisibleCandidate}
 use Rattle.queue_core.specs.Legal.{IsCausedIn}
-use Rattle.queue_core.proofs.InPlaceLemmas.{added_in}
+use Rattle.queue_core.proofs.commands.InPlaceLemmas.{added_in}
 use Rattle.queue_core.proofs.Scans.{StandsAlone}
-use Rattle.queue_core.proofs.NumberLemmas.{or-false}
+use Rattle.queue_core.proofs.entries.NumberLemmas.{or-false}
 use Rattle.queue_core.proofs.OfferLemmas.{comes_to, scanned-take, scanned_once, order_visible, offered_visible}
 use Rattle.queue_core.proofs.PushLemmas.{numbered-number}
 

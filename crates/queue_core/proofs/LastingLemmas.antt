@@ -30,16 +30,16 @@ use Rattle.queue_core.specs.Queue.{QueueHistory, Outcome, adding, at_moment, ref
 use Rattle.queue_core.specs.Run.{AreExact, NeverRebases, after_all}
 use Rattle.queue_core.specs.Turns.{IsVisibleCandidate}
 use Rattle.queue_core.specs.Lasting.{content_numbered, is_gone, is_removed_number, is_gone_number, NamesOrLetGo}
-use Rattle.queue_core.proofs.AlikeLemmas.{in_state}
+use Rattle.queue_core.proofs.entries.AlikeLemmas.{in_state}
 use Rattle.queue_core.proofs.OfferLemmas.{Contains-map, offered_visible}
 use Rattle.queue_core.proofs.PendingLemmas.{contains-number}
-use Rattle.queue_core.proofs.InPlaceLemmas.{unwanted}
+use Rattle.queue_core.proofs.commands.InPlaceLemmas.{unwanted}
 use Rattle.queue_core.proofs.CauseLemmas.{IsAbout, about-outcome}
 use Rattle.queue_core.proofs.Scans.{StandsAlone}
 use Rattle.queue_core.proofs.PushLemmas.{Line, slice_get-append, course-push, unexpired-past, content-push, contents-push, length-contents, numbered-push, numbered-number, numbered-place, numbered-below, numbered-kept, begun_at, newborn, removed_after, removed_from}
-use Rattle.queue_core.proofs.RecordLemmas.{expired-later, expired-push}
-use Rattle.queue_core.proofs.GoneLemmas.{removed_based, gone_based, content_based, none_based}
-use Rattle.queue_core.proofs.RefusalLemmas.{all-placed}
+use Rattle.queue_core.proofs.records.RecordLemmas.{expired-later, expired-push}
+use Rattle.queue_core.proofs.checkpoints.GoneLemmas.{removed_based, gone_based, content_based, none_based}
+use Rattle.queue_core.proofs.commands.RefusalLemmas.{all-placed}
 
 -- ---- what is removed
 

@@ -25,17 +25,17 @@ use Rattle.queue_core.specs.Queue.{QueueHistory, Outcome, at_moment, with_event,
 use Rattle.queue_core.specs.Legal.{IsOrdered, IsAllowedIn, IsCausedIn, AreCaused, BeginsAndFollows, IsWhole, IsCheckpoint, GoesOn, IsLegal}
 use Rattle.queue_core.specs.private.Kept.{IsKept}
 use Rattle.queue_core.specs.Standing.{StandsFor}
-use Rattle.queue_core.proofs.InPlaceLemmas.{added_in, unlimited, unwanted, placed}
+use Rattle.queue_core.proofs.commands.InPlaceLemmas.{added_in, unlimited, unwanted, placed}
 use Rattle.queue_core.proofs.CauseLemmas.{about-caused}
-use Rattle.queue_core.proofs.LegalLemmas.{caused_in, event_weight-caused, weight-push, whole_behind, whole_later, OpenFor, open_for}
+use Rattle.queue_core.proofs.commands.LegalLemmas.{caused_in, event_weight-caused, weight-push, whole_behind, whole_later, OpenFor, open_for}
 use Rattle.queue_core.proofs.SoundLemmas.{IsSound, sound_whole, sound_behind, sound_later}
-use Rattle.queue_core.proofs.StandingLemmas.{passes, kept_told, settings_same, closed_same, answers_in}
-use Rattle.queue_core.proofs.StandingStepLemmas.{stands_later, stands_behind}
+use Rattle.queue_core.proofs.checkpoints.StandingLemmas.{passes, kept_told, settings_same, closed_same, answers_in}
+use Rattle.queue_core.proofs.checkpoints.StandingStepLemmas.{stands_later, stands_behind}
 use Rattle.queue_core.proofs.AloneLemmas.{kept_whole}
-use Rattle.queue_core.proofs.FewLemmas.{fewer_later, few_behind}
-use Rattle.queue_core.proofs.OpenLemmas.{open_summary}
-use Rattle.queue_core.proofs.RebaseLemmas.{rebased_summary, sound_based}
-use Rattle.queue_core.proofs.WeightLemmas.{based_weight}
+use Rattle.queue_core.proofs.checkpoints.FewLemmas.{fewer_later, few_behind}
+use Rattle.queue_core.proofs.checkpoints.OpenLemmas.{open_summary}
+use Rattle.queue_core.proofs.checkpoints.RebaseLemmas.{rebased_summary, sound_based}
+use Rattle.queue_core.proofs.checkpoints.WeightLemmas.{based_weight}
 
 abbrev Line : Type 0
 Line = Entry ContentText

@@ -23,7 +23,7 @@ use Rattle.queue_core.specs.Messages.{Birth, Receives, Since, never_received, ke
 use Rattle.queue_core.specs.States.{gauges_of, receive_order}
 use Rattle.queue_core.specs.private.Tally.{births}
 use Rattle.journal.specs.Mark.{mark_event, mark_of}
-use Rattle.queue_core.proofs.AlikeLemmas.{IsAlike, gauges-alike, order-alike}
+use Rattle.queue_core.proofs.entries.AlikeLemmas.{IsAlike, gauges-alike, order-alike}
 
 -- ---- one event
 

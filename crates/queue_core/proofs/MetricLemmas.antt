@@ -35,10 +35,10 @@ use Rattle.queue_core.specs.Legal.{IsOrdered, IsOpening, IsWhole, BeginsAndFollo
 use Rattle.queue_core.specs.Run.{NeverRebases, after_all}
 use Rattle.queue_core.proofs.LastingLemmas.{lasts_all, lasts_in_place}
 use Rattle.queue_core.proofs.CauseLemmas.{IsAbout, about-outcome}
-use Rattle.queue_core.proofs.GoneLemmas.{created-push, row_based}
+use Rattle.queue_core.proofs.checkpoints.GoneLemmas.{created-push, row_based}
 use Rattle.queue_core.proofs.Scans.{StandsAlone, StandAlone}
 use Rattle.queue_core.proofs.AloneLemmas.{alone_begun, row-alone}
-use Rattle.queue_core.proofs.LegalLemmas.{not_after}
+use Rattle.queue_core.proofs.commands.LegalLemmas.{not_after}
 use Rattle.queue_core.proofs.MarkLemmas.{map_agree, created_time-marks, gauges_of-marks, rows_known-marks}
 
 pub row-parts : (minute : ℕ) (f g : Flows) (a b : Gauges) → f ≡ g → a ≡ b

@@ -27,8 +27,8 @@ use Rattle.queue_core.specs.Lasting.{StandsAs}
 use Rattle.queue_core.specs.Refusals.{is_own_refusal, LastsAs}
 use Rattle.queue_core.specs.private.Recorded.{ran_out_before, runs_out_by}
 use Rattle.queue_core.proofs.PushLemmas.{or_false, settings_from-push, ran_out-push, expired-split}
-use Rattle.queue_core.proofs.AlikeLemmas.{Agree, IsAlike, agree-live, agree-state, gauges-alike, order-alike}
-use Rattle.queue_core.proofs.RefusalLemmas.{all-placed, StandsAs-refused}
+use Rattle.queue_core.proofs.entries.AlikeLemmas.{Agree, IsAlike, agree-live, agree-state, gauges-alike, order-alike}
+use Rattle.queue_core.proofs.commands.RefusalLemmas.{all-placed, StandsAs-refused}
 
 -- ---- which refusals are entries
 

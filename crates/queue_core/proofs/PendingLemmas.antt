@@ -26,9 +26,9 @@ use Rattle.queue_core.specs.Queue.{QueueHistory}
 use Rattle.queue_core.specs.Legal.{IsWhole, IsOpening}
 use Rattle.queue_core.proofs.PushLemmas.{or_false, IsNew, numbered-cases, numbered-kept, course-kept, new_course, new_begun}
 use Rattle.queue_core.proofs.OfferLemmas.{Contains-filter, Contains-from_filter}
-use Rattle.queue_core.proofs.PairLemmas.{AllPairs-map}
+use Rattle.queue_core.proofs.entries.PairLemmas.{AllPairs-map}
 use Rattle.queue_core.proofs.CauseLemmas.{AllPairs-nil, AllPairs-head, AllPairs-tail, IsAbout, about-caused}
-use Rattle.queue_core.proofs.AlongLemmas.{holds_along}
+use Rattle.queue_core.proofs.entries.AlongLemmas.{holds_along}
 use Rattle.queue_core.proofs.AloneLemmas.{departures-alone}
 
 -- ---- one entry more

@@ -18,9 +18,9 @@ use Rattle.queue_core.specs.Queue.{QueueHistory}
 use Rattle.queue_core.specs.Legal.{IsOrdered, IsWhole, BeginsAndFollows}
 use Rattle.queue_core.proofs.Scans.{StandsAlone, StandAlone}
 use Rattle.queue_core.proofs.AloneLemmas.{alone_legal, rows-none}
-use Rattle.queue_core.proofs.LegalLemmas.{not_after, IsOrdered-later, IsOrdered-push}
+use Rattle.queue_core.proofs.commands.LegalLemmas.{not_after, IsOrdered-later, IsOrdered-push}
 use Rattle.queue_core.proofs.CauseLemmas.{IsAbout}
-use Rattle.queue_core.proofs.UnbornLemmas.{IsUnborn, unborn_past, silent_about}
+use Rattle.queue_core.proofs.entries.UnbornLemmas.{IsUnborn, unborn_past, silent_about}
 use Rattle.queue_core.proofs.PendingLemmas.{IsPendingOf, IsPendingOf-push, IsPendingOf-opened, pending_legal}
 use Rattle.queue_core.proofs.PushLemmas.{Line, count-push, receives-push, first-push, last-push}
 

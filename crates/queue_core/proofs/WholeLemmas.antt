@@ -26,15 +26,15 @@ use Rattle.queue_core.specs.Queue.{QueueHistory, Outcome, at_moment, is_at_limit
 use Rattle.queue_core.specs.Run.{AreAnswers, after_all}
 use Rattle.queue_core.specs.Standing.{StandsFor, AnswersAs, without_lines}
 use Rattle.queue_core.specs.Whole.{without_limit, is_journal_full, whole_after, whole_after_all, AnswersAsWhole, AnswerAsWhole}
-use Rattle.queue_core.proofs.InPlaceLemmas.{in_place, placed, unwanted}
+use Rattle.queue_core.proofs.commands.InPlaceLemmas.{in_place, placed, unwanted}
 use Rattle.queue_core.proofs.CauseLemmas.{IsAbout, about-outcome, about-closed}
 use Rattle.queue_core.proofs.SoundLemmas.{IsSound, sound_behind, sound_later, sound_opened}
-use Rattle.queue_core.proofs.StandingLemmas.{AnswersIn, closed_same, settings_same, accepted_same, first_same, transfers_same, answers_in}
-use Rattle.queue_core.proofs.StandingStepLemmas.{stands_later, stands_behind}
-use Rattle.queue_core.proofs.OpenLemmas.{open_summary}
-use Rattle.queue_core.proofs.RebaseLemmas.{rebased_summary, sound_based}
+use Rattle.queue_core.proofs.checkpoints.StandingLemmas.{AnswersIn, closed_same, settings_same, accepted_same, first_same, transfers_same, answers_in}
+use Rattle.queue_core.proofs.checkpoints.StandingStepLemmas.{stands_later, stands_behind}
+use Rattle.queue_core.proofs.checkpoints.OpenLemmas.{open_summary}
+use Rattle.queue_core.proofs.checkpoints.RebaseLemmas.{rebased_summary, sound_based}
 use Rattle.queue_core.proofs.BehindLemmas.{open_where, makes_room, free_behind, own_in}
-use Rattle.queue_core.proofs.RoomLemmas.{refused_of}
+use Rattle.queue_core.proofs.commands.RoomLemmas.{refused_of}
 
 -- ---- queues that stand for each other
 

@@ -1,6 +1,6 @@
 use Rattle.std.proofs.Common.{◌≡◌, Some, position, remove, eqb, sym, ◌∙◌, arith}
 use Rattle.std.proofs.lemmas.List.Quantifiers.{position-Some}
-use Rattle.queue_core.proofs.NumberLemmas.{somewhere, nowhere, remove_is, without-none}
+use Rattle.queue_core.proofs.entries.NumberLemmas.{somewhere, nowhere, remove_is, without-none}
 use Rattle.queue_core.proofs.applying.remove_number.Goals as goal
 
 pub returns-in-Some-clause-found : goal.returns-in-Some-clause-found

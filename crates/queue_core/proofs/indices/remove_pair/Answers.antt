@@ -1,5 +1,5 @@
-use Rattle.queue_core.proofs.VisibleLemmas.{pairs_removed, strict_removed, pairs_kept}
-use Rattle.queue_core.proofs.SpendingLemmas.{len-removed}
+use Rattle.queue_core.proofs.indexed.VisibleLemmas.{pairs_removed, strict_removed, pairs_kept}
+use Rattle.queue_core.proofs.costs.SpendingLemmas.{len-removed}
 use Rattle.queue_core.proofs.indices.remove_pair.Goals as goal
 
 pub returns-in-Some-clause-pairs : goal.returns-in-Some-clause-pairs

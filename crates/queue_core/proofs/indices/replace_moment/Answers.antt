@@ -1,6 +1,6 @@
 use Rattle.std.proofs.Common.{Some, None}
 use Rattle.std.specs.FinMap as finite
-use Rattle.queue_core.proofs.MomentLemmas.{moments_put, moments_taken, moments_are}
+use Rattle.queue_core.proofs.indexed.MomentLemmas.{moments_put, moments_taken, moments_are}
 use Rattle.queue_core.proofs.indices.replace_moment.Goals as goal
 
 pub returns-in-None-Some-clause-moments : goal.returns-in-None-Some-clause-moments

@@ -1,5 +1,5 @@
-use Rattle.queue_core.proofs.VisibleLemmas.{pairs_given, strict_given, pairs_left}
-use Rattle.queue_core.proofs.SpendingLemmas.{len-put}
+use Rattle.queue_core.proofs.indexed.VisibleLemmas.{pairs_given, strict_given, pairs_left}
+use Rattle.queue_core.proofs.costs.SpendingLemmas.{len-put}
 use Rattle.queue_core.proofs.indices.replace_pair.Goals as goal
 
 pub returns-in-Some-clause-pairs : goal.returns-in-Some-clause-pairs

@@ -1,4 +1,4 @@
-use Rattle.queue_core.proofs.StateLemmas.{counts_are_live}
+use Rattle.queue_core.proofs.entries.StateLemmas.{counts_are_live}
 use Rattle.queue_core.proofs.laws.each_live_message_is_in_one_state.Goals as goal
 
 pub returns : goal.returns

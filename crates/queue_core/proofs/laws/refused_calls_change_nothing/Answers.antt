@@ -1,4 +1,4 @@
-use Rattle.queue_core.proofs.RefusalLemmas.{StandsAs-refusal}
+use Rattle.queue_core.proofs.commands.RefusalLemmas.{StandsAs-refusal}
 use Rattle.queue_core.proofs.BehindLemmas.{stands_left, stands_in_place}
 use Rattle.queue_core.proofs.laws.refused_calls_change_nothing.Goals as goal
 

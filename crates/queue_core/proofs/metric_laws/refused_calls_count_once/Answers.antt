@@ -1,4 +1,4 @@
-use Rattle.queue_core.proofs.CountedLemmas.{counted, uncounted, other_minutes, recorded}
+use Rattle.queue_core.proofs.minutes.CountedLemmas.{counted, uncounted, other_minutes, recorded}
 use Rattle.queue_core.proofs.MetricLemmas.{rows_shown}
 use Rattle.queue_core.proofs.metric_laws.refused_calls_count_once.Goals as goal
 

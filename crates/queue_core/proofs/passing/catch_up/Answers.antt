@@ -4,10 +4,10 @@ use Rattle.metric_window.specs.Window.{longest_window}
 use Rattle.metric_window.specs.Flows.{minute_of}
 use Rattle.queue_core.specs.declared.watch.Watch.{Watch}
 use Rattle.queue_core.specs.private.Watched.{first_shown, rows_before, IsPassing}
-use Rattle.queue_core.proofs.IndexLemmas.{IsSettling, later-index}
+use Rattle.queue_core.proofs.indexed.IndexLemmas.{IsSettling, later-index}
 use Rattle.queue_core.proofs.LegalSoundLemmas.{sound_legal}
-use Rattle.queue_core.proofs.WatchLemmas.{passing-from, passing-behind, watch-passed, watch-jumped}
-use Rattle.queue_core.proofs.SpendingLemmas.{free_then}
+use Rattle.queue_core.proofs.minutes.WatchLemmas.{passing-from, passing-behind, watch-passed, watch-jumped}
+use Rattle.queue_core.proofs.costs.SpendingLemmas.{free_then}
 use Rattle.queue_core.proofs.passing.catch_up.Goals.{then-is_far, else-is_far}
 use Rattle.queue_core.proofs.passing.catch_up.Goals as goal
 

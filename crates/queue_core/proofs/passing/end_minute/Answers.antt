@@ -2,9 +2,9 @@ use Rattle.std.proofs.Common.{ℕ, ◌-◌, refl, ap, ◌∙◌, subst, arith}
 use Rattle.queue_core.specs.States.{gauges_of}
 use Rattle.queue_core.specs.Metrics.{minute_end}
 use Rattle.queue_core.specs.private.Indexed.{IsIndexOf}
-use Rattle.queue_core.proofs.IndexLemmas.{later-index}
+use Rattle.queue_core.proofs.indexed.IndexLemmas.{later-index}
 use Rattle.queue_core.proofs.LegalSoundLemmas.{sound_legal}
-use Rattle.queue_core.proofs.WatchLemmas.{minute-ended}
+use Rattle.queue_core.proofs.minutes.WatchLemmas.{minute-ended}
 use Rattle.queue_core.proofs.passing.end_minute.Goals as goal
 
 pub returns-clause-passing : goal.returns-clause-passing

@@ -1,5 +1,5 @@
 use Rattle.std.proofs.Common.{ℕ, ◌+◌, ap, ◌∙◌, arith}
-use Rattle.queue_core.proofs.SpendingLemmas.{free_then}
+use Rattle.queue_core.proofs.costs.SpendingLemmas.{free_then}
 use Rattle.queue_core.proofs.passing.go_on.Goals as goal
 
 pub end_minute-requires-clause-indices : goal.end_minute-requires-clause-indices

@@ -1,4 +1,4 @@
-use Rattle.queue_core.proofs.StopLemmas.{receive_stops, stops_there, offers_there, leaves_there}
+use Rattle.queue_core.proofs.entries.StopLemmas.{receive_stops, stops_there, offers_there, leaves_there}
 use Rattle.queue_core.proofs.receive_laws.a_receive_stops_behind_its_last_offer.Goals as goal
 
 pub returns : goal.returns

@@ -1,6 +1,6 @@
 use Rattle.queue_core.proofs.LegalSoundLemmas.{sound_legal}
-use Rattle.queue_core.proofs.StandingLemmas.{gauges_same}
-use Rattle.queue_core.proofs.StandingStepLemmas.{alarms_same}
+use Rattle.queue_core.proofs.checkpoints.StandingLemmas.{gauges_same}
+use Rattle.queue_core.proofs.checkpoints.StandingStepLemmas.{alarms_same}
 use Rattle.queue_core.proofs.WholeLemmas.{answers_same}
 use Rattle.queue_core.proofs.standing_laws.answers_follow_from_a_summary.Goals as goal
 

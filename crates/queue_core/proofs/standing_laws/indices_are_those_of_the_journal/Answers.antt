@@ -1,4 +1,4 @@
-use Rattle.queue_core.proofs.IndexLemmas.{index_due, index_sent, index_visible, index_ages, index_shown, index_delayed, index_in_flight}
+use Rattle.queue_core.proofs.indexed.IndexLemmas.{index_due, index_sent, index_visible, index_ages, index_shown, index_delayed, index_in_flight}
 use Rattle.queue_core.proofs.standing_laws.indices_are_those_of_the_journal.Goals as goal
 
 pub returns : goal.returns

@@ -1,6 +1,6 @@
 use Rattle.queue_core.proofs.CauseLemmas.{about-caused}
 use Rattle.queue_core.proofs.LegalSoundLemmas.{sound_legal}
-use Rattle.queue_core.proofs.StandingStepLemmas.{stands_later, stands_behind}
+use Rattle.queue_core.proofs.checkpoints.StandingStepLemmas.{stands_later, stands_behind}
 use Rattle.queue_core.proofs.standing_laws.summaries_go_on_alike.Goals as goal
 
 pub returns : goal.returns

@@ -1,4 +1,4 @@
-use Rattle.queue_core.proofs.SumLemmas.{minute_uncut, sum_uncut, refusal_counts}
+use Rattle.queue_core.proofs.minutes.SumLemmas.{minute_uncut, sum_uncut, refusal_counts}
 use Rattle.queue_core.proofs.sum_laws.no_number_of_a_row_is_cut.Goals as goal
 
 pub returns : goal.returns

@@ -1,6 +1,6 @@
 use Rattle.std.proofs.Common.{sym, ap, ◌∙◌, arith}
 use Rattle.alarm.specs.KeptAlarm.{with_minute}
-use Rattle.queue_core.proofs.WatchLemmas.{told-next, all-told}
+use Rattle.queue_core.proofs.minutes.WatchLemmas.{told-next, all-told}
 use Rattle.queue_core.proofs.watch.tell.Goals as goal
 
 pub loop-alarm-preserved : goal.loop-alarm-preserved

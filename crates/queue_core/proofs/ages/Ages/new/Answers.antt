@@ -1,4 +1,4 @@
-use Rattle.queue_core.proofs.AgeLemmas.{ages_none}
+use Rattle.queue_core.proofs.indexed.AgeLemmas.{ages_none}
 use Rattle.queue_core.proofs.ages.Ages.new.Goals as goal
 
 pub returns : goal.returns

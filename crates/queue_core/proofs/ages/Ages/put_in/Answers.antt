@@ -1,5 +1,5 @@
 use Rattle.std.proofs.Common.{refl}
-use Rattle.queue_core.proofs.AgeLemmas.{put_in_list}
+use Rattle.queue_core.proofs.indexed.AgeLemmas.{put_in_list}
 use Rattle.queue_core.proofs.ages.Ages.put_in.Goals as goal
 
 pub returns : goal.returns

@@ -1,5 +1,5 @@
 use Rattle.std.proofs.Common.{refl}
-use Rattle.queue_core.proofs.AgeLemmas.{taken_from_list}
+use Rattle.queue_core.proofs.indexed.AgeLemmas.{taken_from_list}
 use Rattle.queue_core.proofs.ages.Ages.take_out.Goals as goal
 
 pub returns : goal.returns

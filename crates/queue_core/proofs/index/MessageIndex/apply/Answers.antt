@@ -17,10 +17,10 @@ use Rattle.queue_core.specs.private.Tally.{births}
 use Rattle.queue_core.specs.private.Spending.{Costs, effect_adds, event_adds, left_count}
 use Rattle.queue_core.specs.private.Records.{born_record, record_of_birth, hidden_until, received_at}
 use Rattle.queue_core.specs.private.Applying.{HaveCounted, HasChanged, among, where_here, where_left, ended_by}
-use Rattle.queue_core.proofs.AppliedLemmas.{alike-applied, can_apply-alike, birth-applied, received-applied, changed-applied, deleted-applied, purged-applied, set-applied, settled-applied, orphaned-applied, closed-applied, deleted_again-applied}
+use Rattle.queue_core.proofs.records.AppliedLemmas.{alike-applied, can_apply-alike, birth-applied, received-applied, changed-applied, deleted-applied, purged-applied, set-applied, settled-applied, orphaned-applied, closed-applied, deleted_again-applied}
 use Rattle.queue_core.proofs.Scans.{StandsAlone}
 use Rattle.queue_core.proofs.PushLemmas.{fresh}
-use Rattle.queue_core.proofs.SpendingLemmas.{costs_none, costs_within, costs_then}
+use Rattle.queue_core.proofs.costs.SpendingLemmas.{costs_none, costs_within, costs_then}
 use Rattle.queue_core.proofs.index.MessageIndex.apply.Goals as goal
 
 -- the effect of an event, by the change that it makes

@@ -1,8 +1,8 @@
 -- The message comes under the number of those that there were.
 use Rattle.std.proofs.Common.{◌≡◌, arith}
 use Rattle.queue_core.specs.private.Records.{born_in}
-use Rattle.queue_core.proofs.KeptRecordLemmas.{can_begin, has_begun}
-use Rattle.queue_core.proofs.SpendingLemmas.{costs-begun}
+use Rattle.queue_core.proofs.records.KeptRecordLemmas.{can_begin, has_begun}
+use Rattle.queue_core.proofs.costs.SpendingLemmas.{costs-begun}
 use Rattle.queue_core.proofs.index.MessageIndex.begin.Goals as goal
 
 pub replace-requires : goal.replace-requires

@@ -1,8 +1,8 @@
 use Rattle.std.proofs.Common.{rules, ◌≡◌, ◌<◌, ◌≤◌, ℕ, List, length, get_or, ap, ◌∙◌, arith}
 use Rattle.std.proofs.lemmas.Grind.{get_or_default_zero}
 use Rattle.queue_core.specs.private.Applying.{where_left, returned_from}
-use Rattle.queue_core.proofs.ChangeLemmas.{changed-more, changed-all, changed-beside, left-all}
-use Rattle.queue_core.proofs.SpendingLemmas.{costs_within, costs_then, back-counted, back-all}
+use Rattle.queue_core.proofs.records.ChangeLemmas.{changed-more, changed-all, changed-beside, left-all}
+use Rattle.queue_core.proofs.costs.SpendingLemmas.{costs_within, costs_then, back-counted, back-all}
 use Rattle.queue_core.proofs.index.MessageIndex.bring_back.Goals as goal
 
 pub returns-clause-change : goal.returns-clause-change

@@ -1,8 +1,8 @@
 use Rattle.std.proofs.Common.{false, get_or, take, Some}
 use Rattle.queue_core.specs.declared.slot.Stay.TheVariants.{Left}
 use Rattle.queue_core.specs.private.Records.{with_stay}
-use Rattle.queue_core.proofs.NumberLemmas.{contains-at, unseen}
-use Rattle.queue_core.proofs.ChangeLemmas.{here-outside}
+use Rattle.queue_core.proofs.entries.NumberLemmas.{contains-at, unseen}
+use Rattle.queue_core.proofs.records.ChangeLemmas.{here-outside}
 use Rattle.queue_core.proofs.index.MessageIndex.depart_all.Goals as goal
 
 pub depart-requires-clause-here : goal.depart-requires-clause-here

@@ -1,5 +1,5 @@
 -- The least moment is past the time.
-use Rattle.queue_core.proofs.DueLemmas.{none_due}
+use Rattle.queue_core.proofs.indexed.DueLemmas.{none_due}
 use Rattle.queue_core.proofs.index.MessageIndex.due_by.Goals as goal
 
 pub returns-else-moment-at-clause-none : goal.returns-else-moment-at-clause-none

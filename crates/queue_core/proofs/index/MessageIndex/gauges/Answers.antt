@@ -1,4 +1,4 @@
-use Rattle.queue_core.proofs.QuestionLemmas.{gauged}
+use Rattle.queue_core.proofs.indexed.QuestionLemmas.{gauged}
 use Rattle.queue_core.proofs.index.MessageIndex.gauges.Goals as goal
 
 pub returns : goal.returns

@@ -3,7 +3,7 @@ use Rattle.std.specs.List.{filter_map}
 use Rattle.std.proofs.lemmas.List.{take_all, take_more}
 use Rattle.std.proofs.lemmas.Grind.{get_or_default_zero}
 use Rattle.queue_core.specs.private.Keeping.{kept_in}
-use Rattle.queue_core.proofs.KeepingLemmas.{kept_next}
+use Rattle.queue_core.proofs.checkpoints.KeepingLemmas.{kept_next}
 use Rattle.queue_core.proofs.index.MessageIndex.keep_left.Goals as goal
 
 pub loop-place-preserved : goal.loop-place-preserved

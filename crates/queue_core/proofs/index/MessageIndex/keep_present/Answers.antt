@@ -1,7 +1,7 @@
 use Rattle.std.proofs.Common.{◌≡◌, ℕ, List, ◌++◌, length, ap, ◌∙◌, arith}
 use Rattle.std.specs.List.{filter_map, range_with_len}
 use Rattle.queue_core.specs.private.Keeping.{present_in}
-use Rattle.queue_core.proofs.KeepingLemmas.{kept_next, range_next}
+use Rattle.queue_core.proofs.checkpoints.KeepingLemmas.{kept_next, range_next}
 use Rattle.queue_core.proofs.index.MessageIndex.keep_present.Goals as goal
 
 pub loop-place-preserved : goal.loop-place-preserved

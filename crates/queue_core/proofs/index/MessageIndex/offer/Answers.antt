@@ -1,5 +1,5 @@
 use Rattle.queue_core.specs.private.Records.{slots_in}
-use Rattle.queue_core.proofs.SpendingLemmas.{hidden-costs}
+use Rattle.queue_core.proofs.costs.SpendingLemmas.{hidden-costs}
 use Rattle.queue_core.proofs.index.MessageIndex.offer.Goals as goal
 
 pub returns-clause-cost : goal.returns-clause-cost

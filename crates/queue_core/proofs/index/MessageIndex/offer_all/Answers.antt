@@ -1,8 +1,8 @@
 use Rattle.std.proofs.Common.{◌+◌, ◌*◌, get_or, take, refl, ◌∙◌, Some, arith}
 use Rattle.queue_core.specs.private.Records.{hidden_until, received_at}
-use Rattle.queue_core.proofs.NumberLemmas.{contains-at, unseen}
-use Rattle.queue_core.proofs.ChangeLemmas.{changed-more, counted-more, here-below, here-outside}
-use Rattle.queue_core.proofs.SpendingLemmas.{costs_within, costs_then}
+use Rattle.queue_core.proofs.entries.NumberLemmas.{contains-at, unseen}
+use Rattle.queue_core.proofs.records.ChangeLemmas.{changed-more, counted-more, here-below, here-outside}
+use Rattle.queue_core.proofs.costs.SpendingLemmas.{costs_within, costs_then}
 use Rattle.queue_core.proofs.index.MessageIndex.offer_all.Goals as goal
 
 pub offer-requires-clause-here : goal.offer-requires-clause-here

@@ -1,5 +1,5 @@
 use Rattle.std.proofs.Common.{ℕ, ◌-◌, ◌/◌, sym, ap, ◌∙◌}
-use Rattle.queue_core.proofs.QuestionLemmas.{oldest_by, oldest_none}
+use Rattle.queue_core.proofs.indexed.QuestionLemmas.{oldest_by, oldest_none}
 use Rattle.queue_core.proofs.index.MessageIndex.oldest_age.Goals as goal
 
 pub returns-in-Some : goal.returns-in-Some

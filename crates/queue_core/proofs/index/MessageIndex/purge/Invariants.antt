@@ -1,7 +1,7 @@
 use Rattle.std.proofs.Common.{◌≡◌}
 use Rattle.indexmap.specs.IndexMap.{index_map_len}
 use Rattle.queue_core.specs.private.Records.{HasIndices}
-use Rattle.queue_core.proofs.ChangeLemmas.{LeavesSame}
+use Rattle.queue_core.proofs.records.ChangeLemmas.{LeavesSame}
 use Rattle.queue_core.specs.private.Spending.{Costs}
 use Rattle.queue_core.proofs.index.MessageIndex.purge.Given as goal
 

@@ -1,7 +1,7 @@
 -- Whatever was refused, the indices are those of the same records.
 use Rattle.std.proofs.Common.{◌+◌, refl, arith}
-use Rattle.queue_core.proofs.AgeRoomLemmas.{left_counted, few_ages, reserved_ages}
-use Rattle.queue_core.proofs.KeptRecordLemmas.{has_reserved, ready_reserved}
+use Rattle.queue_core.proofs.indexed.AgeRoomLemmas.{left_counted, few_ages, reserved_ages}
+use Rattle.queue_core.proofs.records.KeptRecordLemmas.{has_reserved, ready_reserved}
 use Rattle.queue_core.proofs.index.MessageIndex.reserve_one.Goals as goal
 
 pub reserve-requires-2 : goal.reserve-requires-2

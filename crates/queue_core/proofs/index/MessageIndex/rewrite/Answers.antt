@@ -1,8 +1,8 @@
 -- The slot before is that of a record that is there.
 use Rattle.std.proofs.Common.{refl, Some, arith}
-use Rattle.queue_core.proofs.KeptRecordLemmas.{can_change, has_rewritten}
+use Rattle.queue_core.proofs.records.KeptRecordLemmas.{can_change, has_rewritten}
 use Rattle.queue_core.specs.private.Records.{records_in, slots_in}
-use Rattle.queue_core.proofs.SpendingLemmas.{costs-changed, keeps-sent}
+use Rattle.queue_core.proofs.costs.SpendingLemmas.{costs-changed, keeps-sent}
 use Rattle.queue_core.proofs.index.MessageIndex.rewrite.Goals as goal
 
 pub replace-requires : goal.replace-requires

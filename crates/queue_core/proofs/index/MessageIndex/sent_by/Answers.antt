@@ -1,5 +1,5 @@
 -- The least moment is past the time.
-use Rattle.queue_core.proofs.DueLemmas.{none_sent}
+use Rattle.queue_core.proofs.indexed.DueLemmas.{none_sent}
 use Rattle.queue_core.proofs.index.MessageIndex.sent_by.Goals as goal
 
 pub returns-else-sent-moment-clause-none : goal.returns-else-sent-moment-clause-none

@@ -1,4 +1,4 @@
-use Rattle.queue_core.proofs.SpendingLemmas.{free_then}
+use Rattle.queue_core.proofs.costs.SpendingLemmas.{free_then}
 use Rattle.queue_core.proofs.index.MessageIndex.settle.Goals as goal
 
 pub returns-in-Some-clause-cost : goal.returns-in-Some-clause-cost

@@ -1,5 +1,5 @@
 use Rattle.queue_core.specs.private.Records.{slots_in}
-use Rattle.queue_core.proofs.SpendingLemmas.{shown-free}
+use Rattle.queue_core.proofs.costs.SpendingLemmas.{shown-free}
 use Rattle.queue_core.proofs.index.MessageIndex.show.Goals as goal
 
 pub returns-clause-cost : goal.returns-clause-cost

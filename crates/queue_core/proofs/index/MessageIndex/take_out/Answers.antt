@@ -1,7 +1,7 @@
 -- The slot before is that of a record that is there.
 use Rattle.std.proofs.Common.{refl, Some, None, arith}
-use Rattle.queue_core.proofs.KeptRecordLemmas.{can_take_out, has_let_go}
-use Rattle.queue_core.proofs.SpendingLemmas.{costs_none, costs-changed, keeps-none}
+use Rattle.queue_core.proofs.records.KeptRecordLemmas.{can_take_out, has_let_go}
+use Rattle.queue_core.proofs.costs.SpendingLemmas.{costs_none, costs-changed, keeps-none}
 use Rattle.queue_core.proofs.index.MessageIndex.take_out.Goals as goal
 
 pub replace-requires : goal.replace-requires

@@ -1,6 +1,6 @@
 -- Both are few, since no more are kept than were begun.
 use Rattle.std.proofs.Common.{arith}
-use Rattle.queue_core.proofs.AgeRoomLemmas.{few_without}
+use Rattle.queue_core.proofs.indexed.AgeRoomLemmas.{few_without}
 use Rattle.queue_core.proofs.index.MessageIndex.without_age.Goals as goal
 
 pub overflow_add-result : goal.overflow_add-result

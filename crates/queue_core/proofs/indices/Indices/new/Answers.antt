@@ -1,5 +1,5 @@
 use Rattle.std.proofs.Common.{refl}
-use Rattle.queue_core.proofs.SlotsIndexedLemmas.{indexed_none}
+use Rattle.queue_core.proofs.indexed.SlotsIndexedLemmas.{indexed_none}
 use Rattle.queue_core.proofs.indices.Indices.new.Goals as goal
 
 pub returns : goal.returns

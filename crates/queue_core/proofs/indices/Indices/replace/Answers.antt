@@ -4,8 +4,8 @@ use Rattle.std.specs.FinMap as finite
 use Rattle.visible_index.specs.Pairs.{has_pair}
 use Rattle.queue_core.specs.private.Slots.{is_hidden, is_shown, is_here, is_delayed, is_in_flight, is_failing}
 use Rattle.queue_core.specs.private.Changes.{is_at}
-use Rattle.queue_core.proofs.SlotLemmas.{is_some-due_in, is_some-sent_in, is_some-shown_in, is_at-shown_in, same_rooms, recounted}
-use Rattle.queue_core.proofs.SpendingLemmas.{cost-replaced}
+use Rattle.queue_core.proofs.indexed.SlotLemmas.{is_some-due_in, is_some-sent_in, is_some-shown_in, is_at-shown_in, same_rooms, recounted}
+use Rattle.queue_core.proofs.costs.SpendingLemmas.{cost-replaced}
 use Rattle.queue_core.proofs.indices.Indices.replace.Goals as goal
 
 pub replace-requires : goal.replace-requires

@@ -1,6 +1,6 @@
 use Rattle.queue_core.specs.declared.command.Command.TheVariants as commands
-use Rattle.queue_core.proofs.InPlaceLemmas.{placed}
-use Rattle.queue_core.proofs.LegalLemmas.{caused_in, event-arrived}
+use Rattle.queue_core.proofs.commands.InPlaceLemmas.{placed}
+use Rattle.queue_core.proofs.commands.LegalLemmas.{caused_in, event-arrived}
 use Rattle.queue_core.proofs.state.QueueState.accept.Goals as goal
 
 pub add-requires : goal.add-requires

@@ -23,16 +23,16 @@ use Rattle.queue_core.specs.private.Watched.{IsWatchAt}
 use Rattle.queue_core.proofs.LegalSoundLemmas.{sound_legal, kept_few}
 use Rattle.queue_core.proofs.CauseLemmas.{about-caused}
 use Rattle.queue_core.proofs.AloneLemmas.{alone-caused}
-use Rattle.queue_core.proofs.LegalLemmas.{place-left, kept-spare, IsKept-pushed}
-use Rattle.queue_core.proofs.TallyLemmas.{tallies-push, GoesOn}
-use Rattle.queue_core.proofs.IndexLemmas.{same-index, can_apply, event-index}
-use Rattle.queue_core.proofs.WatchLemmas.{watch-pushed}
-use Rattle.queue_core.proofs.AcceptedLemmas.{accepted-same, accepted-noted, unheld-caused}
+use Rattle.queue_core.proofs.commands.LegalLemmas.{place-left, kept-spare, IsKept-pushed}
+use Rattle.queue_core.proofs.entries.TallyLemmas.{tallies-push, GoesOn}
+use Rattle.queue_core.proofs.indexed.IndexLemmas.{same-index, can_apply, event-index}
+use Rattle.queue_core.proofs.minutes.WatchLemmas.{watch-pushed}
+use Rattle.queue_core.proofs.entries.AcceptedLemmas.{accepted-same, accepted-noted, unheld-caused}
 use Rattle.queue_core.specs.Cost.{most_ticks}
 use Rattle.queue_core.specs.private.Spending.{event_adds, left_count, HasCome}
-use Rattle.queue_core.proofs.BoundLemmas.{kept-is, bound-later, bound-event}
-use Rattle.queue_core.proofs.SpendingLemmas.{costs_behind}
-use Rattle.queue_core.proofs.CostLemmas.{has_added}
+use Rattle.queue_core.proofs.costs.BoundLemmas.{kept-is, bound-later, bound-event}
+use Rattle.queue_core.proofs.costs.SpendingLemmas.{costs_behind}
+use Rattle.queue_core.proofs.costs.CostLemmas.{has_added}
 use Rattle.queue_core.proofs.state.QueueState.add.Goals as goal
 
 pub after-tally-requires-clause-alone : goal.after-tally-requires-clause-alone

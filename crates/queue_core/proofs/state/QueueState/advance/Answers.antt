@@ -1,4 +1,4 @@
-use Rattle.queue_core.proofs.BoundLemmas.{bound-later}
+use Rattle.queue_core.proofs.costs.BoundLemmas.{bound-later}
 use Rattle.queue_core.proofs.state.QueueState.advance.Goals as goal
 
 pub returns-clause-cost : goal.returns-clause-cost

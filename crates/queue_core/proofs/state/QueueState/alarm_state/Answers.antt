@@ -2,8 +2,8 @@ use Rattle.std.proofs.Common.{List, Option, Some, ap, ◌∙◌}
 use Rattle.std.specs.Prelude.{option_map, slice_get}
 use Rattle.alarm.specs.declared.state.AlarmState.{AlarmState}
 use Rattle.alarm.specs.KeptAlarm.{KeptAlarm, kept_state}
-use Rattle.queue_core.proofs.QuestionLemmas.{sound_of}
-use Rattle.queue_core.proofs.WatchLemmas.{watch_of, some-at, none-at, one-told}
+use Rattle.queue_core.proofs.indexed.QuestionLemmas.{sound_of}
+use Rattle.queue_core.proofs.minutes.WatchLemmas.{watch_of, some-at, none-at, one-told}
 use Rattle.queue_core.proofs.state.QueueState.alarm_state.Goals as goal
 
 pub returns-in-Some : goal.returns-in-Some

@@ -6,8 +6,8 @@ use Rattle.alarm.specs.declared.state.AlarmState.{AlarmState}
 use Rattle.alarm.specs.KeptAlarm.{KeptAlarm, kept_state}
 use Rattle.metric_window.specs.Flows.{minute_of}
 use Rattle.queue_core.specs.private.Watched.{rows_before, told_alarm}
-use Rattle.queue_core.proofs.QuestionLemmas.{sound_of}
-use Rattle.queue_core.proofs.WatchLemmas.{watch_of, states-told}
+use Rattle.queue_core.proofs.indexed.QuestionLemmas.{sound_of}
+use Rattle.queue_core.proofs.minutes.WatchLemmas.{watch_of, states-told}
 use Rattle.queue_core.proofs.state.QueueState.alarm_states.Goals as goal
 
 pub returns-clause-states : goal.returns-clause-states

@@ -1,4 +1,4 @@
-use Rattle.queue_core.proofs.BoundLemmas.{bound-later}
+use Rattle.queue_core.proofs.costs.BoundLemmas.{bound-later}
 use Rattle.queue_core.proofs.state.QueueState.arrive_now.Goals as goal
 
 pub returns-then-has_accepted-clause-cost : goal.returns-then-has_accepted-clause-cost

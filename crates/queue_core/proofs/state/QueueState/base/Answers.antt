@@ -6,7 +6,7 @@ use Rattle.queue_core.specs.Queue.{QueueHistory}
 use Rattle.queue_core.specs.Summary.{Summary, summary_of}
 use Rattle.queue_core.specs.Rebase.{kept_flows, kept_row, base_of}
 use Rattle.queue_core.specs.private.Keeping.{messages_kept}
-use Rattle.queue_core.proofs.KeepingLemmas.{messages_same, base_is}
+use Rattle.queue_core.proofs.checkpoints.KeepingLemmas.{messages_same, base_is}
 use Rattle.queue_core.proofs.state.QueueState.base.Goals as goal
 
 is_other : (r : Result (BaseOf ContentText) Fault) (a b : BaseOf ContentText) → a ≡ b → IfOk r (λ base. base ≡ a) → IfOk r (λ base. base ≡ b)

@@ -1,4 +1,4 @@
-use Rattle.queue_core.proofs.BoundLemmas.{bound-later}
+use Rattle.queue_core.proofs.costs.BoundLemmas.{bound-later}
 use Rattle.queue_core.proofs.state.QueueState.begin.Goals as goal
 
 pub returns-in-Some-clause-cost : goal.returns-in-Some-clause-cost

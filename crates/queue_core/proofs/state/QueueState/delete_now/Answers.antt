@@ -1,7 +1,7 @@
 use Rattle.std.proofs.Common.{sym, ◌∙◌}
 use Rattle.queue_core.specs.declared.command.Command.TheVariants as commands
-use Rattle.queue_core.proofs.InPlaceLemmas.{placed}
-use Rattle.queue_core.proofs.LegalLemmas.{caused_in, event-invalid, event-deleted}
+use Rattle.queue_core.proofs.commands.InPlaceLemmas.{placed}
+use Rattle.queue_core.proofs.commands.LegalLemmas.{caused_in, event-invalid, event-deleted}
 use Rattle.queue_core.proofs.state.QueueState.delete_now.Goals as goal
 
 pub refuse-requires-clause-caused : goal.refuse-requires-clause-caused

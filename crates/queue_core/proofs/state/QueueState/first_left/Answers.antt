@@ -1,5 +1,5 @@
 use Rattle.std.proofs.Common.{refl, arith}
-use Rattle.queue_core.proofs.QuestionLemmas.{front_is, index_of, legal_of, sound_of, left_for}
+use Rattle.queue_core.proofs.indexed.QuestionLemmas.{front_is, index_of, legal_of, sound_of, left_for}
 use Rattle.queue_core.proofs.state.QueueState.first_left.Goals as goal
 
 pub returns-clause-first : goal.returns-clause-first

@@ -2,7 +2,7 @@ use Rattle.std.proofs.Common.{◌≡◌, Some, Option, Result, Ok, ap, ◌∙◌
 use Rattle.message.specs.declared.fault.Fault.{Fault}
 use Rattle.message.specs.Content.{ContentText}
 use Rattle.queue_core.specs.declared.parcel.Parcel.{Parcel}
-use Rattle.queue_core.proofs.QuestionLemmas.{index_of, sound_of, parcel_is, parcel_kept, parcel_there}
+use Rattle.queue_core.proofs.indexed.QuestionLemmas.{index_of, sound_of, parcel_is, parcel_kept, parcel_there}
 use Rattle.queue_core.proofs.state.QueueState.first_parcel.Goals as goal
 
 pub unreachable-requires : goal.unreachable-requires

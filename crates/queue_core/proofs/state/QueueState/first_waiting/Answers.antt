@@ -1,7 +1,7 @@
 use Rattle.std.proofs.Common.{Option, ap}
 use Rattle.std.specs.Prelude.{option_map}
 use Rattle.queue_core.specs.declared.parcel.Parcel.{Parcel}
-use Rattle.queue_core.proofs.QuestionLemmas.{index_of, legal_of, sound_of, parcel_is, parcel_kept, ends_in}
+use Rattle.queue_core.proofs.indexed.QuestionLemmas.{index_of, legal_of, sound_of, parcel_is, parcel_kept, ends_in}
 use Rattle.queue_core.proofs.state.QueueState.first_waiting.Goals as goal
 
 pub unreachable-requires : goal.unreachable-requires

@@ -1,6 +1,6 @@
 use Rattle.std.proofs.Common.{sym, ap}
 use Rattle.queue_core.specs.Queue.{QueueHistory}
-use Rattle.queue_core.proofs.QuestionLemmas.{index_of, legal_of}
+use Rattle.queue_core.proofs.indexed.QuestionLemmas.{index_of, legal_of}
 use Rattle.queue_core.proofs.state.QueueState.gauges.Goals as goal
 
 pub gauges-requires : goal.gauges-requires

@@ -1,7 +1,7 @@
 use Rattle.std.proofs.Common.{◌∙◌, ap}
 use Rattle.queue_core.specs.Queue.{QueueHistory}
 use Rattle.queue_core.specs.Messages.{has_accepted}
-use Rattle.queue_core.proofs.AcceptedLemmas.{holds_are}
+use Rattle.queue_core.proofs.entries.AcceptedLemmas.{holds_are}
 use Rattle.queue_core.proofs.state.QueueState.has_accepted.Goals as goal
 
 pub returns : goal.returns

@@ -1,4 +1,4 @@
-use Rattle.queue_core.proofs.QuestionLemmas.{index_of, in_flight_counted}
+use Rattle.queue_core.proofs.indexed.QuestionLemmas.{index_of, in_flight_counted}
 use Rattle.queue_core.proofs.state.QueueState.in_flight_count.Goals as goal
 
 pub returns : goal.returns

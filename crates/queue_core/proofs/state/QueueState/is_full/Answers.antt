@@ -4,7 +4,7 @@ use Rattle.indexmap.specs.IndexMap.{IsUnique, index_map_len}
 use Rattle.queue_core.specs.declared.state.QueueState.TheInside.{Inside}
 use Rattle.queue_core.specs.States.{kept_count}
 use Rattle.queue_core.specs.Queue.{QueueHistory, is_at_limit}
-use Rattle.queue_core.proofs.BoundLemmas.{kept-is}
+use Rattle.queue_core.proofs.costs.BoundLemmas.{kept-is}
 use Rattle.queue_core.proofs.state.QueueState.is_full.Goals as goal
 
 pub returns-then-is_at_limit : goal.returns-then-is_at_limit

@@ -1,6 +1,6 @@
 use Rattle.std.proofs.Common.{ap, ◌∙◌}
 use Rattle.queue_core.specs.Queue.{look_of}
-use Rattle.queue_core.proofs.BoundLemmas.{bound-later}
+use Rattle.queue_core.proofs.costs.BoundLemmas.{bound-later}
 use Rattle.queue_core.proofs.state.QueueState.look.Goals as goal
 
 pub returns-clause-answer : goal.returns-clause-answer

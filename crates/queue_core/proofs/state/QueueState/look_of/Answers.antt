@@ -1,6 +1,6 @@
 use Rattle.std.proofs.Common.{ap}
 use Rattle.queue_core.specs.Queue.{QueueHistory}
-use Rattle.queue_core.proofs.LegalLemmas.{look_of-parts}
+use Rattle.queue_core.proofs.commands.LegalLemmas.{look_of-parts}
 use Rattle.queue_core.proofs.state.QueueState.look_of.Goals as goal
 
 pub returns : goal.returns

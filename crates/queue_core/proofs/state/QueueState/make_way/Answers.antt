@@ -14,9 +14,9 @@ use Rattle.queue_core.specs.private.Kept.{IsKept}
 use Rattle.queue_core.specs.Summary.{Summary, summary_of}
 use Rattle.queue_core.specs.Queue.{QueueHistory, is_at_limit, first_refusal, rebased}
 use Rattle.queue_core.specs.private.Replaced.{CanComeBack}
-use Rattle.queue_core.proofs.LegalLemmas.{kept-spare}
+use Rattle.queue_core.proofs.commands.LegalLemmas.{kept-spare}
 use Rattle.queue_core.proofs.LegalSoundLemmas.{unrefused, stands_rebased, kept_rebased}
-use Rattle.queue_core.proofs.RoomLemmas.{unclosed_of, unfull_of, below_acting}
+use Rattle.queue_core.proofs.commands.RoomLemmas.{unclosed_of, unfull_of, below_acting}
 use Rattle.queue_core.proofs.state.QueueState.make_way.Goals.{After-replace}
 use Rattle.queue_core.proofs.state.QueueState.make_way.Goals as goal
 

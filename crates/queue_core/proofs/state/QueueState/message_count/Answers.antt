@@ -1,7 +1,7 @@
 use Rattle.std.proofs.Common.{ap, ◌∙◌}
 use Rattle.queue_core.specs.Queue.{QueueHistory}
 use Rattle.queue_core.specs.Messages.{message_count}
-use Rattle.queue_core.proofs.TallyLemmas.{received-count}
+use Rattle.queue_core.proofs.entries.TallyLemmas.{received-count}
 use Rattle.queue_core.proofs.state.QueueState.message_count.Goals as goal
 
 pub returns : goal.returns

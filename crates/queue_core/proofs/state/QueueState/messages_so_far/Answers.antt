@@ -2,8 +2,8 @@ use Rattle.std.proofs.Common.{◌≡◌, ap, arith}
 use Rattle.journal.specs.Weight.{weight_of}
 use Rattle.queue_core.specs.Messages.{message_count}
 use Rattle.queue_core.specs.Queue.{QueueHistory}
-use Rattle.queue_core.proofs.KeptRecordLemmas.{born_few}
-use Rattle.queue_core.proofs.IndexLemmas.{born_is}
+use Rattle.queue_core.proofs.records.KeptRecordLemmas.{born_few}
+use Rattle.queue_core.proofs.indexed.IndexLemmas.{born_is}
 use Rattle.queue_core.proofs.state.QueueState.messages_so_far.Goals as goal
 
 -- there is a count of receives for each message

@@ -9,12 +9,12 @@ use Rattle.queue_core.specs.private.Accepted.{AreAccepted}
 use Rattle.queue_core.specs.Summary.{summary_of}
 use Rattle.queue_core.specs.private.Watched.{IsWatchAt}
 use Rattle.queue_core.specs.declared.state.QueueState.TheInside.{Inside}
-use Rattle.queue_core.proofs.LegalLemmas.{IsKept-later}
-use Rattle.queue_core.proofs.TallyLemmas.{tallies-later}
+use Rattle.queue_core.proofs.commands.LegalLemmas.{IsKept-later}
+use Rattle.queue_core.proofs.entries.TallyLemmas.{tallies-later}
 use Rattle.std.specs.Prelude.{nat_eq}
 use Rattle.indexmap.specs.IndexMap.{IsUnique}
 use Rattle.queue_core.specs.private.Spending.{Costs, HasCome}
-use Rattle.queue_core.proofs.CostLemmas.{has_come}
+use Rattle.queue_core.proofs.costs.CostLemmas.{has_come}
 use Rattle.queue_core.proofs.state.QueueState.move_to.Goals as goal
 
 pub catch_up-requires-clause-past : goal.catch_up-requires-clause-past

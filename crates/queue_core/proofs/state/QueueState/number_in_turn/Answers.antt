@@ -1,5 +1,5 @@
 use Rattle.std.proofs.Common.{sym, ◌∙◌}
-use Rattle.queue_core.proofs.ReceiveLemmas.{index_seen, number_at, none_missing}
+use Rattle.queue_core.proofs.indexed.ReceiveLemmas.{index_seen, number_at, none_missing}
 use Rattle.queue_core.proofs.state.QueueState.number_in_turn.Goals as goal
 
 pub unreachable-requires : goal.unreachable-requires

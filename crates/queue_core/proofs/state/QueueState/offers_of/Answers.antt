@@ -2,7 +2,7 @@ use Rattle.std.proofs.Common.{◌≡◌, ap, sym, ◌∙◌, arith}
 use Rattle.std.proofs.lemmas.List.{take_all}
 use Rattle.message.specs.Content.{ContentText}
 use Rattle.queue_core.specs.Queue.{offer_of, offers_of, offered_candidates}
-use Rattle.queue_core.proofs.ReceiveLemmas.{index_seen, as_many, offer_missing, offer_more}
+use Rattle.queue_core.proofs.indexed.ReceiveLemmas.{index_seen, as_many, offer_missing, offer_more}
 use Rattle.queue_core.proofs.state.QueueState.offers_of.Goals as goal
 use Rattle.queue_core.proofs.state.QueueState.offers_of.Goals.{in-Some+in_ok-share-in-Some+in_ok-push-in-Some, in-None}
 

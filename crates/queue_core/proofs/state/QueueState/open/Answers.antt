@@ -7,8 +7,8 @@ use Rattle.queue_config.specs.AlarmRules.{Rule}
 use Rattle.metric_window.specs.KeptRows.{opened_at}
 use Rattle.metric_window.specs.Window.{longest_window}
 use Rattle.alarm.specs.KeptAlarm.{new_alarm}
-use Rattle.queue_core.proofs.IndexLemmas.{opened-index}
-use Rattle.queue_core.proofs.WatchLemmas.{watch-opened}
+use Rattle.queue_core.proofs.indexed.IndexLemmas.{opened-index}
+use Rattle.queue_core.proofs.minutes.WatchLemmas.{watch-opened}
 use Rattle.queue_core.proofs.state.QueueState.open.Goals as goal
 
 of_ok : {A : Type 0} (a b : A) → ◌≡◌ {A = Result A Fault} (Ok a) (Ok b) → a ≡ b

@@ -1,7 +1,7 @@
 use Rattle.std.proofs.Common.{refl}
 use Rattle.queue_core.specs.declared.command.Command.TheVariants as commands
-use Rattle.queue_core.proofs.InPlaceLemmas.{placed}
-use Rattle.queue_core.proofs.LegalLemmas.{caused_in, event-orphaned, answer-orphaned}
+use Rattle.queue_core.proofs.commands.InPlaceLemmas.{placed}
+use Rattle.queue_core.proofs.commands.LegalLemmas.{caused_in, event-orphaned, answer-orphaned}
 use Rattle.queue_core.proofs.state.QueueState.orphan_now.Goals as goal
 
 pub add-requires : goal.add-requires

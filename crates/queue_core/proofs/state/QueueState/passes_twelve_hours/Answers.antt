@@ -1,6 +1,6 @@
 use Rattle.std.proofs.Common.{ap, ◌∙◌}
 use Rattle.queue_core.specs.Queue.{QueueHistory}
-use Rattle.queue_core.proofs.QuestionLemmas.{index_of, in_flight_kept, twelve_hours}
+use Rattle.queue_core.proofs.indexed.QuestionLemmas.{index_of, in_flight_kept, twelve_hours}
 use Rattle.queue_core.proofs.state.QueueState.passes_twelve_hours.Goals as goal
 
 pub returns : goal.returns

@@ -1,5 +1,5 @@
 use Rattle.queue_core.specs.declared.reply.Reply.TheVariants as replies
-use Rattle.queue_core.proofs.InPlaceLemmas.{looked, performed_answer, performed_exact, performed_room, performed_state}
+use Rattle.queue_core.proofs.commands.InPlaceLemmas.{looked, performed_answer, performed_exact, performed_room, performed_state}
 use Rattle.queue_core.proofs.state.QueueState.perform.Goals as goal
 
 pub returns-in-Look-clause-answer : goal.returns-in-Look-clause-answer

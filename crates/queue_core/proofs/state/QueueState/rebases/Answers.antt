@@ -1,4 +1,4 @@
-use Rattle.queue_core.proofs.QuestionLemmas.{legal_of}
+use Rattle.queue_core.proofs.indexed.QuestionLemmas.{legal_of}
 use Rattle.queue_core.proofs.state.QueueState.rebases.Goals as goal
 
 pub returns-in-Some-clause-legal : goal.returns-in-Some-clause-legal

@@ -3,7 +3,7 @@ use Rattle.std.proofs.lemmas.Result.{err_from_is_err_and}
 use Rattle.queue_core.specs.declared.command.Command.TheVariants as commands
 use Rattle.queue_core.specs.declared.reply.Reply.TheVariants as replies
 use Rattle.queue_core.specs.Queue.{outcome_in}
-use Rattle.queue_core.proofs.RoomLemmas.{finished_answer, finished_exact, finished_room, finished_state, finished_cost, back_of, refused_answer, refused_exact, refused_room, refused_state, short_exact, short_room}
+use Rattle.queue_core.proofs.commands.RoomLemmas.{finished_answer, finished_exact, finished_room, finished_state, finished_cost, back_of, refused_answer, refused_exact, refused_room, refused_state, short_exact, short_room}
 use Rattle.queue_core.proofs.state.QueueState.receive.Goals as goal
 
 pub returns-clause-answer : goal.returns-clause-answer

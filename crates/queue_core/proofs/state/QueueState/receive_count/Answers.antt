@@ -3,7 +3,7 @@ use Rattle.std.proofs.lemmas.Option.{slice_get_past, slice_get_read}
 use Rattle.queue_core.specs.Messages.{receive_count}
 use Rattle.queue_core.specs.Queue.{QueueHistory}
 use Rattle.queue_core.proofs.LegalSoundLemmas.{sound_legal}
-use Rattle.queue_core.proofs.ReceiveLemmas.{count_found, count_missing}
+use Rattle.queue_core.proofs.indexed.ReceiveLemmas.{count_found, count_missing}
 use Rattle.queue_core.proofs.state.QueueState.receive_count.Goals as goal
 
 pub returns-in-Some : goal.returns-in-Some

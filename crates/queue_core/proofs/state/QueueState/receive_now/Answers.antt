@@ -2,9 +2,9 @@ use Rattle.std.proofs.Common.{Bool, refl, sym, ap, ◌∙◌}
 use Rattle.queue_core.specs.declared.command.Command.TheVariants as commands
 use Rattle.journal.specs.declared.entry.Event.TheVariants.{Received}
 use Rattle.queue_core.specs.Queue.{rebased_where, with_optional_event, outcome_in}
-use Rattle.queue_core.proofs.InPlaceLemmas.{plain, placed}
-use Rattle.queue_core.proofs.LegalLemmas.{caused_in, event-over_limit, event-received, answer-received, state-received, more-received}
-use Rattle.queue_core.proofs.BoundLemmas.{bound-later}
+use Rattle.queue_core.proofs.commands.InPlaceLemmas.{plain, placed}
+use Rattle.queue_core.proofs.commands.LegalLemmas.{caused_in, event-over_limit, event-received, answer-received, state-received, more-received}
+use Rattle.queue_core.proofs.costs.BoundLemmas.{bound-later}
 use Rattle.queue_core.proofs.state.QueueState.receive_now.Goals as goal
 
 pub refuse-requires-clause-caused : goal.refuse-requires-clause-caused

@@ -1,7 +1,7 @@
 use Rattle.std.proofs.Common.{ap}
 use Rattle.journal.specs.Journal.{Lines}
 use Rattle.queue_core.specs.Queue.{QueueHistory}
-use Rattle.queue_core.proofs.LegalLemmas.{kept-spare}
+use Rattle.queue_core.proofs.commands.LegalLemmas.{kept-spare}
 use Rattle.queue_core.proofs.state.QueueState.reserve.Goals as goal
 
 pub invariant_of-self : goal.invariant_of-self

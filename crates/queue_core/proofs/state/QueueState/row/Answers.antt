@@ -1,6 +1,6 @@
 use Rattle.std.proofs.Common.{◌∙◌}
-use Rattle.queue_core.proofs.QuestionLemmas.{sound_of}
-use Rattle.queue_core.proofs.WatchLemmas.{watch_of, row-told}
+use Rattle.queue_core.proofs.indexed.QuestionLemmas.{sound_of}
+use Rattle.queue_core.proofs.minutes.WatchLemmas.{watch_of, row-told}
 use Rattle.queue_core.proofs.state.QueueState.row.Goals as goal
 
 pub returns : goal.returns

@@ -3,7 +3,7 @@ use Rattle.std.specs.Global.{Vec}
 use Rattle.metric_window.specs.declared.row.Row.{Row}
 use Rattle.message.specs.Content.{content_size}
 use Rattle.metric_window.specs.Window.{window_end}
-use Rattle.queue_core.proofs.RowLemmas.{rows-next, row-missing, rows-all}
+use Rattle.queue_core.proofs.minutes.RowLemmas.{rows-next, row-missing, rows-all}
 use Rattle.queue_core.proofs.state.QueueState.rows.Goals.{in-Some+in_ok-push, in_default}
 use Rattle.queue_core.proofs.state.QueueState.rows.Goals as goal
 

@@ -1,7 +1,7 @@
 use Rattle.std.proofs.Common.{◌≡◌, ◌-◌, ◌≤◌}
 use Rattle.message.specs.Content.{content_size}
 use Rattle.metric_window.specs.Window.{window_end}
-use Rattle.queue_core.proofs.RowLemmas.{first_minute, rows_until}
+use Rattle.queue_core.proofs.minutes.RowLemmas.{first_minute, rows_until}
 use Rattle.queue_core.proofs.state.QueueState.rows.Given as goal
 
 abbrev pub invariant-loop-minute : goal.invariant-loop-minute

@@ -3,7 +3,7 @@ use Rattle.std.proofs.lemmas.List.{drop_more}
 use Rattle.message.specs.Fault.{Meets}
 use Rattle.queue_core.specs.declared.command.TimedCommand.{TimedCommand}
 use Rattle.queue_core.specs.Queue.{IsExact, IsExactWithRoom}
-use Rattle.queue_core.proofs.RunLemmas.{Continues-step, Continues-end, pays_step, pays_end}
+use Rattle.queue_core.proofs.commands.RunLemmas.{Continues-step, Continues-end, pays_step, pays_end}
 use Rattle.queue_core.proofs.state.QueueState.run.Goals as goal
 
 pub returns-clause-answers : goal.returns-clause-answers

@@ -1,7 +1,7 @@
 use Rattle.std.proofs.Common.{◌≡◌, ◌≤◌, drop, length, vec_len, vec_capacity}
 use Rattle.message.specs.Fault.{Meets}
 use Rattle.queue_core.specs.Queue.{IsExact, IsExactWithRoom}
-use Rattle.queue_core.proofs.RunLemmas.{Continues, Pays}
+use Rattle.queue_core.proofs.commands.RunLemmas.{Continues, Pays}
 use Rattle.queue_core.proofs.state.QueueState.run.Given as goal
 
 abbrev pub invariant-loop-step : goal.invariant-loop-step

@@ -3,7 +3,7 @@ use Rattle.queue_core.specs.declared.facts.Candidate.{Candidate}
 use Rattle.queue_core.specs.States.{receive_order}
 use Rattle.queue_core.specs.Queue.{is_exhausted, scanned_candidates}
 use Rattle.queue_core.proofs.OfferLemmas.{go_on}
-use Rattle.queue_core.proofs.ReceiveLemmas.{index_seen, turns_are, exhausted_by, scan_stops, scan_all, step_leaving, step_offered}
+use Rattle.queue_core.proofs.indexed.ReceiveLemmas.{index_seen, turns_are, exhausted_by, scan_stops, scan_all, step_leaving, step_offered}
 use Rattle.queue_core.proofs.state.QueueState.scan.Goals as goal
 use Rattle.queue_core.proofs.state.QueueState.scan.Goals.{then-is_exhausted+in_ok-push, else-is_exhausted+in_ok-push-2}
 

@@ -1,7 +1,7 @@
 use Rattle.std.proofs.Common.{drop}
 use Rattle.queue_core.specs.States.{receive_order}
 use Rattle.queue_core.specs.Queue.{is_exhausted, scanned, scanned_candidates}
-use Rattle.queue_core.proofs.ReceiveLemmas.{IsScanned}
+use Rattle.queue_core.proofs.indexed.ReceiveLemmas.{IsScanned}
 use Rattle.queue_core.proofs.state.QueueState.scan.Given as goal
 
 abbrev pub invariant-loop-place : goal.invariant-loop-place

@@ -1,8 +1,8 @@
 use Rattle.std.proofs.Common.{subst}
 use Rattle.queue_config.specs.Settings.{QueueSettings, AreSettings}
 use Rattle.queue_core.specs.declared.command.Command.TheVariants as commands
-use Rattle.queue_core.proofs.InPlaceLemmas.{placed}
-use Rattle.queue_core.proofs.LegalLemmas.{caused_in, event-set}
+use Rattle.queue_core.proofs.commands.InPlaceLemmas.{placed}
+use Rattle.queue_core.proofs.commands.LegalLemmas.{caused_in, event-set}
 use Rattle.queue_core.proofs.state.QueueState.set_now.Goals as goal
 
 pub add-requires : goal.add-requires

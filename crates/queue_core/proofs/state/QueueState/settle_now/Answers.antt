@@ -1,8 +1,8 @@
 use Rattle.std.proofs.Common.{sym, ◌∙◌}
 use Rattle.queue_core.specs.declared.command.Command.TheVariants as commands
-use Rattle.queue_core.proofs.InPlaceLemmas.{placed}
-use Rattle.queue_core.proofs.LegalLemmas.{caused_in, event-settled}
-use Rattle.queue_core.proofs.BoundLemmas.{bound-later}
+use Rattle.queue_core.proofs.commands.InPlaceLemmas.{placed}
+use Rattle.queue_core.proofs.commands.LegalLemmas.{caused_in, event-settled}
+use Rattle.queue_core.proofs.costs.BoundLemmas.{bound-later}
 use Rattle.queue_core.proofs.state.QueueState.settle_now.Goals as goal
 
 pub add-requires : goal.add-requires

@@ -1,5 +1,5 @@
 use Rattle.std.proofs.Common.{◌∙◌}
-use Rattle.queue_core.proofs.QuestionLemmas.{index_of, left_for_counted}
+use Rattle.queue_core.proofs.indexed.QuestionLemmas.{index_of, left_for_counted}
 use Rattle.queue_core.proofs.state.QueueState.waiting_count.Goals as goal
 
 pub returns : goal.returns

@@ -1,0 +1,9 @@
+pub mod StandingLemmas
+pub mod StandingCountLemmas
+pub mod StandingStepLemmas
+pub mod OpenLemmas
+pub mod RebaseLemmas
+pub mod KeepingLemmas
+pub mod FewLemmas
+pub mod WeightLemmas
+pub mod GoneLemmas

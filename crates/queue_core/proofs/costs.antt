@@ -1,0 +1,4 @@
+pub mod TouchLemmas
+pub mod BoundLemmas
+pub mod SpendingLemmas
+pub mod CostLemmas

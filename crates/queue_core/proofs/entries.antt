@@ -1,0 +1,10 @@
+pub mod TallyLemmas
+pub mod OrderLemmas
+pub mod AlikeLemmas
+pub mod StopLemmas
+pub mod AlongLemmas
+pub mod UnbornLemmas
+pub mod PairLemmas
+pub mod StateLemmas
+pub mod NumberLemmas
+pub mod AcceptedLemmas

@@ -1,0 +1,12 @@
+pub mod IndexedLemmas
+pub mod SlotCountLemmas
+pub mod SlotLemmas
+pub mod MomentLemmas
+pub mod VisibleLemmas
+pub mod AgeLemmas
+pub mod SlotsIndexedLemmas
+pub mod AgeRoomLemmas
+pub mod DueLemmas
+pub mod ReceiveLemmas
+pub mod QuestionLemmas
+pub mod IndexLemmas
