@@ -40,7 +40,11 @@ impl Model for Reader {
 
 impl Reader {
     /// A reader that takes this side.
-    pub(crate) fn new(given: Sheet, told: KnownTurns, side: Side<KnownTurns, [u64; 0], OnePlace>) -> Reader
+    pub(crate) fn new(
+        given: Sheet,
+        told: KnownTurns,
+        side: Side<KnownTurns, [u64; 0], OnePlace>,
+    ) -> Reader
         requires { view side.place ≡ place_of told.book }
         ensures { result ≡ record { given = given; book = told.book; turns = told.turns } }
     {

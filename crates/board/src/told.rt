@@ -172,12 +172,20 @@ impl Absorb<KnownTurns> for KnownTurns {
 
     ghost applied = { place_with };
 
-    fn absorb_first(&mut self, operation: &KnownTurns, _other: &KnownTurns) -> Result<(), AllocError> {
+    fn absorb_first(
+        &mut self,
+        operation: &KnownTurns,
+        _other: &KnownTurns,
+    ) -> Result<(), AllocError> {
         *self = operation.copy()?;
         Ok(())
     }
 
-    fn absorb_second(&mut self, operation: KnownTurns, _other: &KnownTurns) -> Result<(), KnownTurns> {
+    fn absorb_second(
+        &mut self,
+        operation: KnownTurns,
+        _other: &KnownTurns,
+    ) -> Result<(), KnownTurns> {
         *self = operation;
         Ok(())
     }

@@ -86,7 +86,9 @@ impl ValueKind {
             ValueKind::Number { least, most } => {
                 write!(line.text, "a whole number from {least} to {most}")
             }
-            ValueKind::Name | ValueKind::Metric | ValueKind::Operator => line.text.push_str("a string"),
+            ValueKind::Name | ValueKind::Metric | ValueKind::Operator => line
+                .text
+                .push_str("a string"),
             ValueKind::Table => line.text.push_str("a table"),
             ValueKind::Tables => line.text.push_str("an array of tables"),
         }

@@ -4,7 +4,7 @@
 
 use crate::kind::ValueKind;
 use crate::spot::Spot;
-use queue_config::{ALL_METRICS, ALL_OPERATORS, ALL_SETTINGS, setting_row, setting_named};
+use queue_config::{ALL_METRICS, ALL_OPERATORS, ALL_SETTINGS, setting_named, setting_row};
 use std::alloc::{AllocError, Global};
 
 pub(crate) const LIMITS: &str = "limits";

@@ -52,7 +52,12 @@ fn first_begun(lines: &FirstEntries<'_>, from: usize, event: &Event<Content>) ->
 
 /// The first of the messages that leave for the dead-letter queue of a uid whose transfer no entry from
 /// a place on ends.
-fn first_open(lines: &FirstEntries<'_>, from: usize, leaving: &[u64], target: u64) -> Option<Transfer>
+fn first_open(
+    lines: &FirstEntries<'_>,
+    from: usize,
+    leaving: &[u64],
+    target: u64,
+) -> Option<Transfer>
     ensures { result ≡ find (λ t. not (list_any (λ later. ends_transfer t later.event) (drop from lines.now)))
         (map (λ number. record { number = number; target = target }) leaving.now) }
 {

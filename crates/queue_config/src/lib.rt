@@ -50,6 +50,6 @@ pub use limits::Limits;
 pub use metric::{ALL_METRICS, Metric, metric_named};
 pub use operator::{ALL_OPERATORS, Operator, operator_named};
 pub use policy::{RedrivePolicy, RequestedPolicy};
-pub use setting::{ALL_SETTINGS, Setting, SettingRow, setting_row, setting_named};
+pub use setting::{ALL_SETTINGS, Setting, SettingRow, setting_named, setting_row};
 pub use settings::Settings;
 pub use wish::{Wish, is_ignored};

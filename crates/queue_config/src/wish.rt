@@ -9,7 +9,7 @@ ghost use Rattle.queue_config.specs.Settings.{no_requested_attributes, requested
 
 use crate::decimal::decimal_number;
 use crate::policy::{RequestedPolicy, requested_policy};
-use crate::setting::{Setting, setting_row, setting_named};
+use crate::setting::{Setting, setting_named, setting_row};
 use message::{Fault, QueueName};
 use std::alloc::Global;
 use std::marker::Model;

@@ -14,5 +14,5 @@ mod task;
 #[cfg(test)]
 mod tests;
 
-pub use plan::{Outcome, Performed, Remaining, Step, Then, ReceiveParts, after};
+pub use plan::{Outcome, Performed, ReceiveParts, Remaining, Step, Then, after};
 pub use task::{Task, task_of};

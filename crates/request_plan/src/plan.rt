@@ -119,7 +119,12 @@ pub(crate) fn attributes(queue: QueueName, names: Option<AttributeNames>) -> Ste
 }
 
 /// Asks for messages, for which it may wait so many seconds.
-fn receive_within(maximum: Maximum, timeout: Option<Timeout>, seconds: u64, told: ReceiveParts) -> Step
+fn receive_within(
+    maximum: Maximum,
+    timeout: Option<Timeout>,
+    seconds: u64,
+    told: ReceiveParts,
+) -> Step
     ensures { result ≡ plan.receive_within maximum timeout seconds told }
 {
     Step::Ask {
@@ -271,7 +276,12 @@ fn messages_answer(uid: u64, told: ReceiveParts, outcome: Outcome) -> Result<Rep
 
 /// Asks for messages after a look, and waits for them as the queue has it. One that was closed is not
 /// there any more.
-fn receive_looked(maximum: Maximum, timeout: Option<Timeout>, told: ReceiveParts, reply: Reply) -> Step
+fn receive_looked(
+    maximum: Maximum,
+    timeout: Option<Timeout>,
+    told: ReceiveParts,
+    reply: Reply,
+) -> Step
     ensures { result ≡ plan.receive_looked maximum timeout told reply }
 {
     match reply {
@@ -285,7 +295,12 @@ fn receive_looked(maximum: Maximum, timeout: Option<Timeout>, told: ReceiveParts
 }
 
 /// The same, where the look may have failed.
-fn receive_after(maximum: Maximum, timeout: Option<Timeout>, told: ReceiveParts, outcome: Outcome) -> Step
+fn receive_after(
+    maximum: Maximum,
+    timeout: Option<Timeout>,
+    told: ReceiveParts,
+    outcome: Outcome,
+) -> Step
     ensures { result ≡ plan.receive_after maximum timeout told outcome }
 {
     match outcome {

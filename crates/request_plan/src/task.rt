@@ -2,7 +2,7 @@
 
 ghost use Rattle.request_plan.specs.Task.{Begins};
 
-use crate::plan::{Step, ReceiveParts, attributes, batch, done, receive};
+use crate::plan::{ReceiveParts, Step, attributes, batch, done, receive};
 use aws_json::{Prefix, Request};
 use message::QueueName;
 use queue_config::Wish;

@@ -22,7 +22,7 @@ use crate::head::{Denial, asked_of, target_of};
 use crate::queues::{Made, Mailbox, NewQueue, Order, Printer, Queue, Queues, is_full};
 use crate::register::Register;
 use crate::reply::{Sent, busy, denied, refused, sent_for};
-use crate::stage::{Creation, Exchange, Halt, Next, Postponed, Purpose, Stage, Polled};
+use crate::stage::{Creation, Exchange, Halt, Next, Polled, Postponed, Purpose, Stage};
 use aws_json::{Prefix, QueueNames, ReplyShape, Request};
 use crossbeam_channel::{SendError, Sender};
 use desk::NoGate;
@@ -498,7 +498,13 @@ impl<R: Wait + Clock + Drop> Front<R> {
     }
 
     /// Begins what a request asks whose body has come, and keeps the request.
-    fn read(&self, head: Parts, body: Collected, part: Part, kept: &mut Option<KeptRequest>) -> Next<R>
+    fn read(
+        &self,
+        head: Parts,
+        body: Collected,
+        part: Part,
+        kept: &mut Option<KeptRequest>,
+    ) -> Next<R>
         ensures { IsRead self.now.port head body result }
     {
         match body.to_bytes() {

@@ -51,7 +51,13 @@ impl Register {
     }
 
     /// Counts a request, and tells of it where it is to be told. `None` is one whose body was not read.
-    pub fn note<R: Wait + Clock>(&self, rt: &R, alloc: Global, asked: Option<&KeptRequest>, sent: &Sent) {
+    pub fn note<R: Wait + Clock>(
+        &self,
+        rt: &R,
+        alloc: Global,
+        asked: Option<&KeptRequest>,
+        sent: &Sent,
+    ) {
         let (action, body) = match asked {
             Some(asked) => (action_in(&asked.head), asked.body.as_slice()),
             None => ("", b"".as_slice()),

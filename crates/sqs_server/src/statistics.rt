@@ -27,7 +27,7 @@ use hyper::Request;
 use hyper::body::Incoming;
 use hyper::service::Service;
 use message::{Fault, QueueName};
-use statistics_api::{AskedSheets, ServerFacts, AnswerText, asked_for, out_of_memory, respond};
+use statistics_api::{AnswerText, AskedSheets, ServerFacts, asked_for, out_of_memory, respond};
 use std::alloc::Global;
 use std::sync::{Arc, Wait};
 

@@ -28,7 +28,10 @@ pub(crate) fn method_not_allowed() -> (u16, AnswerText)
     ensures answer { shown result ≡ method_not_allowed }
     ensures constant { is_written result.1 ≡ false }
 {
-    (405, AnswerText::Constant(r#"{"message":"method not allowed"}"#))
+    (
+        405,
+        AnswerText::Constant(r#"{"message":"method not allowed"}"#),
+    )
 }
 
 /// The text cannot be written for lack of memory.
@@ -63,7 +66,12 @@ fn text_of(alloc: Global, route: Route, sheet: &Sheet) -> Result<String, Fault>
 }
 
 /// What a path tells.
-fn told(alloc: Global, route: Route, name: &str, sheets: &[Sheet]) -> Result<(u16, AnswerText), Fault>
+fn told(
+    alloc: Global,
+    route: Route,
+    name: &str,
+    sheets: &[Sheet],
+) -> Result<(u16, AnswerText), Fault>
     ensures answer { Meets (result_map shown result) (Ok (told route name.now sheets.now)) }
     ensures constant { IfOk result (λ answer. (answer.0 ≡ 200) ⊎ (is_written answer.1 ≡ false)) }
 {

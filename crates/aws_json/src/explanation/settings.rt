@@ -6,7 +6,7 @@ use crate::explanation::words::{
 };
 use crate::members::members_in;
 use message::Fault;
-use queue_config::{Setting, Wish, setting_row, setting_named};
+use queue_config::{Setting, Wish, setting_named, setting_row};
 use serde_json::{Category, Map, Value};
 use std::alloc::{AllocError, Global};
 

@@ -89,7 +89,12 @@ struct Scan {
 
 /// What a receive does at a time: it goes through the visible messages in order, until so many are offered or
 /// 100 leave.
-fn scanned(alloc: Global, lines: &FirstEntries<'_>, clock: Moment, limit: usize) -> Result<Scan, Fault> {
+fn scanned(
+    alloc: Global,
+    lines: &FirstEntries<'_>,
+    clock: Moment,
+    limit: usize,
+) -> Result<Scan, Fault> {
     let policy = settings_of(lines).redrive_policy;
     let most = policy.map_or(u64::MAX, |policy| u64::from(policy.max_receive_count));
     let mut offered = Vec::new(alloc);
@@ -109,7 +114,11 @@ fn scanned(alloc: Global, lines: &FirstEntries<'_>, clock: Moment, limit: usize)
 }
 
 /// The offer of a message at a time, with its content.
-fn offer_of(lines: &FirstEntries<'_>, clock: Moment, message: &Message) -> Result<Option<Offer>, Fault> {
+fn offer_of(
+    lines: &FirstEntries<'_>,
+    clock: Moment,
+    message: &Message,
+) -> Result<Option<Offer>, Fault> {
     let Some(content) = content_of(lines, message) else {
         return Ok(None);
     };
