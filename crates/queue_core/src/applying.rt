@@ -149,7 +149,7 @@ impl MessageIndex {
     }
 
     /// Lets the messages of these numbers leave for the dead-letter queue of a uid.
-    #[tactic(auto, using(crate::proofs::SpendingLemmas::free_then, crate::proofs::SpendingLemmas::costs_none))]
+    #[tactic(auto, using(crate::proofs::costs::SpendingLemmas::free_then, crate::proofs::costs::SpendingLemmas::costs_none))]
     fn depart_all(&mut self, numbers: &[u64], target: u64, ticks: &mut Ticks)
         requires indices { HasIndices self.old }
         requires here { (n : ℕ) → contains_number n numbers.now ≡ true → is_here (slots_in self.old n) ≡ true }
@@ -191,7 +191,7 @@ impl MessageIndex {
     }
 
     /// Takes the message of a number out, where it is there.
-    #[tactic(auto, using(crate::proofs::SpendingLemmas::free_then, crate::proofs::SpendingLemmas::costs_none))]
+    #[tactic(auto, using(crate::proofs::costs::SpendingLemmas::free_then, crate::proofs::costs::SpendingLemmas::costs_none))]
     fn delete(&mut self, number: u64, ticks: &mut Ticks)
         requires indices { HasIndices self.old }
         ensures change { HasChanged (among (number ∷ []) (where_here (λ r. None))) self.old self.new }
@@ -209,7 +209,7 @@ impl MessageIndex {
     }
 
     /// Takes out every message that is there.
-    #[tactic(auto, using(crate::proofs::SpendingLemmas::free_then, crate::proofs::SpendingLemmas::costs_none))]
+    #[tactic(auto, using(crate::proofs::costs::SpendingLemmas::free_then, crate::proofs::costs::SpendingLemmas::costs_none))]
     fn purge(&mut self, ticks: &mut Ticks)
         requires indices { HasIndices self.old }
         ensures change { HasChanged (λ n. where_here (λ r. None)) self.old self.new }
@@ -246,7 +246,7 @@ impl MessageIndex {
     }
 
     /// Notes of every message that has left whether its retention in seconds has ended at a time.
-    #[tactic(auto, using(crate::proofs::SpendingLemmas::free_then, crate::proofs::SpendingLemmas::costs_none))]
+    #[tactic(auto, using(crate::proofs::costs::SpendingLemmas::free_then, crate::proofs::costs::SpendingLemmas::costs_none))]
     fn end_period(&mut self, retention: u32, at: Moment, ticks: &mut Ticks)
         requires indexed { IsIndexed self.old }
         ensures change { HasChanged (λ n. where_left (ended_by retention at)) self.old self.new }
@@ -261,7 +261,7 @@ impl MessageIndex {
     }
 
     /// Lets the message of a number go, where it has left: the transfer is confirmed.
-    #[tactic(auto, using(crate::proofs::SpendingLemmas::free_then, crate::proofs::SpendingLemmas::costs_none))]
+    #[tactic(auto, using(crate::proofs::costs::SpendingLemmas::free_then, crate::proofs::costs::SpendingLemmas::costs_none))]
     fn confirm(&mut self, number: u64, ticks: &mut Ticks)
         requires indexed { IsIndexed self.old }
         ensures change { HasChanged (among (number ∷ []) (where_left (λ target ran_out r. None))) self.old self.new }
@@ -332,7 +332,7 @@ impl MessageIndex {
     }
 
     /// Takes out every message.
-    #[tactic(auto, using(crate::proofs::SpendingLemmas::free_then, crate::proofs::SpendingLemmas::costs_none))]
+    #[tactic(auto, using(crate::proofs::costs::SpendingLemmas::free_then, crate::proofs::costs::SpendingLemmas::costs_none))]
     fn close(&mut self, ticks: &mut Ticks)
         requires indexed { IsIndexed self.old }
         ensures change { HasChanged (λ n r. None) self.old self.new }

@@ -230,7 +230,7 @@ impl MessageIndex {
     }
 
     /// Shows what is hidden and due by a time in milliseconds.
-    #[tactic(auto, using(crate::proofs::SpendingLemmas::free_then, crate::proofs::SpendingLemmas::costs_none))]
+    #[tactic(auto, using(crate::proofs::costs::SpendingLemmas::free_then, crate::proofs::costs::SpendingLemmas::costs_none))]
     fn show_due(&mut self, at: u64, ticks: &mut Ticks)
         requires indices { HasIndices self.old }
         ensures indices { HasIndices self.new }
@@ -245,7 +245,7 @@ impl MessageIndex {
     }
 
     /// Lets go what is there and was first sent by a time in milliseconds.
-    #[tactic(auto, using(crate::proofs::SpendingLemmas::free_then, crate::proofs::SpendingLemmas::costs_none))]
+    #[tactic(auto, using(crate::proofs::costs::SpendingLemmas::free_then, crate::proofs::costs::SpendingLemmas::costs_none))]
     fn let_go(&mut self, moment: u64, ticks: &mut Ticks)
         requires indices { HasIndices self.old }
         ensures indices { HasIndices self.new }

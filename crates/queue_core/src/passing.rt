@@ -44,7 +44,7 @@ pub(crate) fn catch_up(
 }
 
 /// Closes minute by minute, up to one.
-#[tactic(auto, using(crate::proofs::SpendingLemmas::costs_none))]
+#[tactic(auto, using(crate::proofs::costs::SpendingLemmas::costs_none))]
 fn go_on(index: &mut MessageIndex, watch: &mut Watch, retention: u32, end: u64, ticks: &mut Ticks)
     requires indices { HasIndices index.old }
     requires past { watch.old.window.minute ≤ end }

@@ -182,7 +182,7 @@ fn refused_memory(rt: HostRuntime) -> Result<(), Fail> {
     for line in CALLS.lines() {
         hold(&rt, rt.alloc(), sheets.as_slice(), line)?;
     }
-    let server = Served {
+    let server = ServerFacts {
         version: "1",
         started: 0,
         requests: Vec::new(rt.alloc()),
@@ -197,7 +197,7 @@ fn refused_memory(rt: HostRuntime) -> Result<(), Fail> {
 }
 
 /// A server that has answered three requests.
-fn server(alloc: Global) -> Result<Served, Fault> {
+fn server(alloc: Global) -> Result<ServerFacts, Fault> {
     let mut requests = Vec::new(alloc);
     requests.push(Requested {
         action: "SendMessage",
@@ -209,7 +209,7 @@ fn server(alloc: Global) -> Result<Served, Fault> {
         status: 405,
         count: 1,
     })?;
-    Ok(Served {
+    Ok(ServerFacts {
         version: "1.2.3",
         started: 1764218284,
         requests,

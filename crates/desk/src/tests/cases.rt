@@ -150,7 +150,7 @@ impl Talk {
         let asked = self
             .desk
             .ask(rt, alloc, p, Moment::zero(), &Command::Look, &NoGate);
-        let Asked { reply, told } = asked;
+        let CallAnswer { reply, told } = asked;
         self.add_marks(&told)?;
         match &reply {
             Ok(Reply::Looked(look)) => Ok(*look),
@@ -291,7 +291,7 @@ fn tell_asked(
     text: &mut String,
     verb: &str,
     gate: &Barrier,
-    asked: &Asked<Shown>,
+    asked: &CallAnswer<Shown>,
 ) -> Result<(), Fault> {
     match (verb, &asked.reply) {
         (_, Err(Fault::OutOfMemory)) => Err(Fault::OutOfMemory),

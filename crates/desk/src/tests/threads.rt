@@ -60,8 +60,8 @@ impl Caller<'_> {
     }
 
     /// Keeps what it is told. Where no turn is printed, each call is told of all the same.
-    fn keep_told(&mut self, asked: Asked<()>) -> Result<(), Fault> {
-        let Asked { reply, told } = asked;
+    fn keep_told(&mut self, asked: CallAnswer<()>) -> Result<(), Fault> {
+        let CallAnswer { reply, told } = asked;
         match reply? {
             Reply::Sent(posted) => self.told.push((posted.number, 0))?,
             Reply::Received(offers) => self.keep(&offers)?,

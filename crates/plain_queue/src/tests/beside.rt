@@ -109,7 +109,7 @@ fn perform(
     call: &str,
     ticks: &mut Ticks,
 ) -> Result<(), Fail> {
-    let Step { at, command } = step(alloc, call)?;
+    let TimedCommand { at, command } = step(alloc, call)?;
     let clock = pair.whole.look(Moment::zero(), ticks).clock.later(at);
     let is_refused = is_refused(alloc, pair, clock, &command, ticks)?;
     let answer = pair.short.perform(alloc, at, &command, ticks);

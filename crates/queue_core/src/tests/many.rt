@@ -73,14 +73,14 @@ fn many_minutes(rt: HostRuntime) -> Result<(), Fail> {
 
 impl Talk {
     /// Performs a step, whatever it answers but a refusal.
-    fn do_step(&mut self, step: &Step) -> Result<(), Fault> {
+    fn do_step(&mut self, step: &TimedCommand) -> Result<(), Fault> {
         self.queue
             .perform(self.alloc, step.at, &step.command, &mut self.ticks)?;
         Ok(())
     }
 
     /// Performs a step so many times.
-    fn repeat(&mut self, step: &Step, count: u32) -> Result<(), Fault> {
+    fn repeat(&mut self, step: &TimedCommand, count: u32) -> Result<(), Fault> {
         for _ in 0..count {
             self.do_step(step)?;
         }

@@ -131,10 +131,10 @@ fn command(alloc: Global, text: &str) -> Result<Command, Fault> {
 }
 
 /// The moment and the command that a text says.
-pub(super) fn step(alloc: Global, text: &str) -> Result<Step, Fault> {
+pub(super) fn step(alloc: Global, text: &str) -> Result<TimedCommand, Fault> {
     let (at, call) = first_word(text);
     let (at, command) = (known_moment(at)?, command(alloc, call)?);
-    Ok(Step { at, command })
+    Ok(TimedCommand { at, command })
 }
 
 /// The rule of an alarm that is on where a message was visible in two of the last three minutes.
@@ -538,7 +538,7 @@ impl Talk {
     }
 
     /// Runs commands, and gives whether they answered that the first is done and what a look sees.
-    fn run(&mut self, steps: &[Step]) -> Result<bool, Fault> {
+    fn run(&mut self, steps: &[TimedCommand]) -> Result<bool, Fault> {
         let answers = self.queue.run(self.alloc, steps, &mut self.ticks)?;
         Ok(matches!(answers.as_slice(), [Ok(Reply::Done), Ok(Reply::Looked(_))]))
     }
