@@ -6,3 +6,4 @@ pub mod MovingLemmas
 pub mod ReaderLemmas
 pub mod ActorSending
 pub mod ScriptLemmas
+pub mod EndLemmas

@@ -11,7 +11,8 @@ use Rattle.queue_actor.specs.declared.parcels.Delivery.{Delivery}
 use Rattle.queue_actor.specs.Course.{MailboxEvent, GoesThrough}
 use Rattle.queue_actor.specs.declared.mail.Mail.{Mail}
 use Rattle.queue_actor.specs.Serving.{is_receive, is_tick, IsAnswerAt, IsAnsweredAt, IsServedAt, AreServedAt, LooksAt, with_kept, LooksOver, Admits, TakesIn, Goes, Ends, Serves}
-use Rattle.queue_actor.specs.Waiting.{WaitBeyond, WaitsBehind, TakesAnswers, waiting_with, moment_with}
+use Rattle.queue_actor.specs.Waiting.{WaitsBehind, TakesAnswers, waiting_with, moment_with}
+use Rattle.queue_actor.specs.private.Ending.{WaitBeyond}
 
 -- equal lists have equal heads and equal tails
 head_of_or : {A : Type 0} → A → List A → A

@@ -1,6 +1,5 @@
 -- Which answers an actor may give while it serves: those to asks that came and that were not answered yet.
-use Rattle.std.specs.Prelude.{◌≡◌, ℕ, ◌<◌, List, [], ◌∷◌, ◌++◌}
-use Rattle.std.specs.List.{All}
+use Rattle.std.specs.Prelude.{◌≡◌, ℕ, List, [], ◌∷◌, ◌++◌}
 use Rattle.queue_actor.specs.declared.mail.Ask.{Ask}
 use Rattle.queue_actor.specs.declared.mail.Mail.{Mail}
 use Rattle.queue_actor.specs.declared.mail.Mail.TheVariants as mails
@@ -13,10 +12,6 @@ module _ {P S Told : Type 0} where
   abbrev pub IsWithout : List (Ask P S Told) → S → List (Ask P S Told) → Type 0
   IsWithout asks slot others =
       (front back : List (Ask P S Told)) × (r : Ask P S Told) × (asks ≡ front ++ r ∷ back) × (slot ≡ r.reply) × (others ≡ front ++ back)
-
-  -- at a moment the wait of none of the asks is over
-  abbrev pub WaitBeyond : ℕ → List (Ask P S Told) → Type 0
-  WaitBeyond at asks = All (λ r. at < r.wait_until) asks
 
   -- the asks that wait once a mail has come
   abbrev pub waiting_with : List (Ask P S Told) → Mail P S Told → List (Ask P S Told)

@@ -1,6 +1,6 @@
 //! The actor of a queue: it takes the queue's mail, answers asks, and keeps polls that wait.
 
-ghost use Rattle.std.specs.Prelude.{◌≡◌, ◌<◌, ◌≤◌, true, false, [], ◌∷◌, ◌++◌, List, MatchBool, is_some};
+ghost use Rattle.std.specs.Prelude.{◌≡◌, ◌<◌, ◌≤◌, true, false, [], ◌∷◌, ◌++◌, List, is_some};
 ghost use Rattle.std.specs.Arc.{arc_value};
 ghost use Rattle.std.specs.VecDeque.{deque_len, deque_capacity};
 ghost use Rattle.desk.specs.Views.{IsKnown};
@@ -9,7 +9,8 @@ ghost use Rattle.queue_actor.specs.declared.mail.Mail.{Mail};
 ghost use Rattle.queue_actor.specs.Answered.{Answered};
 ghost use Rattle.queue_actor.specs.Calling.{HasAsked, Finds, KeepsWaiting, LooksAtTick, is_quiet};
 ghost use Rattle.queue_actor.specs.Serving.{is_receive, is_tick, may_wait, has_closed, Enters, IsAnswerAt, IsServedAt, AreServedAt, LooksAt, LooksOver, Admits, Leads, TakesIn, Ends, Serves};
-ghost use Rattle.queue_actor.specs.Waiting.{TakesAnswers, WaitBeyond, waiting_with, moment_with};
+ghost use Rattle.queue_actor.specs.Waiting.{TakesAnswers, waiting_with, moment_with};
+ghost use Rattle.queue_actor.specs.private.Ending.{EndFrom, IsSoonestWith, WaitBeyond};
 
 use crate::answer::Answer;
 use crate::deadline::TICK_MILLISECONDS;
@@ -229,8 +230,8 @@ where
         }
     }
 
-    /// Looks over the polls that wait. Only where the wait of one is over, or all are to be gone through, it comes to all of
-    /// them.
+    /// Looks over the polls that wait. Only where the wait of one may be over, or all are to be gone through, it comes to all
+    /// of them. It is told the earliest end of their waits, or an earlier time, and tells that of those that are left.
     fn look_over<S: Drop, I: Inbox<Mail<P, S>, S, Answer<P>>, R: Wait, G: Gate>(
         &mut self,
         rt: &R,
@@ -239,19 +240,23 @@ where
         limit: u32,
         is_sweep: bool,
         known: bool,
+        soonest: u64,
         parked: &mut VecDeque<Ask<P, S>>,
         mailbox: &mut I,
         gate: &G,
-    )
+    ) -> u64
         requires may { TakesAnswers I.brings I.is_over I.may_give I.gives I.was_left parked.old.items at mailbox.old }
+        requires ends { EndFrom soonest parked.old.items }
         ensures looked { (happened : List (MailboxEvent (Mail P S P.Told) S Answered)) × LooksOver limit at known self.old.pass parked.old.items happened self.new.pass parked.new.items × GoesThrough I.brings I.is_over I.gives I.was_left mailbox.old happened mailbox.new }
         ensures may { TakesAnswers I.brings I.is_over I.may_give I.gives I.was_left parked.new.items at mailbox.new }
+        ensures ends { EndFrom result parked.new.items }
     {
-        if is_sweep || is_any_due(at, parked) {
+        if is_sweep || soonest <= at.milliseconds() {
             self.look_over_all(rt, alloc, at, limit, known, parked, mailbox, gate);
-        } else {
-            self.look_over_first(rt, alloc, at, limit, known, parked, mailbox, gate);
+            return soonest_of(parked);
         }
+        self.look_over_first(rt, alloc, at, limit, known, parked, mailbox, gate);
+        soonest
     }
 
     /// Serves the mails of a mailbox one after another, until it is told to end, its queue is closed, or no
@@ -278,11 +283,13 @@ where
         let mut parked = VecDeque::new(alloc);
         let mut last = Moment::zero();
         let mut due = 0;
+        let mut soonest = u64::MAX;
         for _ in rt.forever() {
             let Some(mail) = mailbox.next(rt) else {
                 return self.end(rt, alloc, last, parked, mailbox, directory, gate);
             };
             let is_tick = is_tick(&mail);
+            let end = soonest_with(&mail, soonest);
             let (at, is_last) = take_in(
                 rt,
                 alloc,
@@ -302,13 +309,14 @@ where
             let quiet = self.look_at_tick(rt, alloc, at, limit, is_tick, gate);
             let (is_sweep, next) = sweep(is_tick, due, at);
             due = next;
-            self.look_over(
+            soonest = self.look_over(
                 rt,
                 alloc,
                 at,
                 limit,
                 is_sweep,
                 quiet,
+                end,
                 &mut parked,
                 mailbox,
                 gate,
@@ -383,16 +391,30 @@ fn may_wait<P: Press, S: Drop>(ask: &Ask<P, S>) -> bool
     is_receive(&ask.command) && ask.moment.milliseconds() < ask.wait_until.milliseconds()
 }
 
-/// Whether the wait of one of the polls is over at a moment.
-fn is_any_due<P: Press, S: Drop>(at: Moment, parked: &VecDeque<Ask<P, S>>) -> bool
-    ensures { MatchBool result (Unit {0}) (WaitBeyond at parked.now.items) }
+/// The earliest end of the waits of polls, in milliseconds.
+fn soonest_of<P: Press, S: Drop>(parked: &VecDeque<Ask<P, S>>) -> u64
+    ensures { EndFrom result parked.now.items }
 {
+    let mut soonest = u64::MAX;
     for place in 0..parked.len() {
-        if parked[place].wait_until.milliseconds() <= at.milliseconds() {
-            return true;
+        let end = parked[place].wait_until.milliseconds();
+        if end < soonest {
+            soonest = end;
         }
     }
-    false
+    soonest
+}
+
+/// The same where a mail comes, before which it was a time: that of an ask counts if it may wait.
+fn soonest_with<P: Press, S: Drop>(mail: &Mail<P, S>, soonest: u64) -> u64
+    ensures { IsSoonestWith mail.now soonest result }
+{
+    match mail {
+        Mail::Ask(ask) if may_wait(ask) && ask.wait_until.milliseconds() < soonest => {
+            ask.wait_until.milliseconds()
+        }
+        _ => soonest,
+    }
 }
 
 /// Asks what an ask asks, at a moment, at its own desk and with its own pass. The answer stands behind its

@@ -1,4 +1,5 @@
 use Rattle.queue_actor.specs.Waiting.{TakesAnswers}
+use Rattle.queue_actor.specs.private.Ending.{EndFrom}
 use Rattle.queue_actor.proofs.ServingLemmas.{Serving}
 use Rattle.queue_actor.proofs.actor.Actor.run.Given as goal
 
@@ -8,3 +9,4 @@ invariant-loop g l =
     × Serving (g.D.Targets.was_told l.fn.directory) (g.D.Targets.was_taken_out l.fn.directory) (g.D.Targets.was_retargeted l.fn.directory)
     g.I.Inbox.brings g.I.Inbox.is_over g.I.Inbox.gives g.I.Inbox.was_left l.uid l.limit l.fn.self.pass l.fn.mailbox l.self.pass l.parked.items l.last l.mailbox
     × TakesAnswers g.I.Inbox.brings g.I.Inbox.is_over g.I.Inbox.may_give g.I.Inbox.gives g.I.Inbox.was_left l.parked.items l.last l.mailbox
+    × EndFrom l.soonest l.parked.items

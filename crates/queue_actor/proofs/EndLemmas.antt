@@ -1,0 +1,55 @@
+-- The earliest end of the waits of polls, as polls come and are looked at.
+use Rattle.std.proofs.Common.{◌≡◌, ℕ, ◌<◌, ◌≤◌, Bool, true, false, List, [], ◌∷◌, ◌++◌, subst, sym, inl, inr, arith}
+use Rattle.std.proofs.lemmas.List.Elements.{All-cons, All-head, All-push, All-same, All-tail, All-weaker}
+use Rattle.desk.specs.Views.{Knowledge}
+use Rattle.queue_actor.specs.declared.mail.Ask.{Ask}
+use Rattle.queue_actor.specs.declared.mail.Mail.{Mail}
+use Rattle.queue_actor.specs.declared.mail.Mail.TheVariants as mails
+use Rattle.queue_actor.specs.Answered.{Answered}
+use Rattle.queue_actor.specs.Course.{MailboxEvent}
+use Rattle.queue_actor.specs.Serving.{with_kept, LooksOver, Admits, TakesIn}
+use Rattle.queue_actor.specs.private.Ending.{EndFrom, IsSoonestWith, WaitBeyond}
+
+module _ {P S Told : Type 0} where
+  -- waits that end from a time on end from any earlier one on
+  ends_weaker : (soonest next : ℕ) (asks : List (Ask P S Told)) → next ≤ soonest → EndFrom soonest asks → EndFrom next asks
+  ends_weaker soonest next asks less h =
+      All-weaker (λ (r : Ask P S Told). soonest ≤ r.wait_until) (λ (r : Ask P S Told). next ≤ r.wait_until) (λ r end. omega (arith, less, end)) asks h
+
+  -- before that time none is over
+  pub ends_beyond : (soonest at : ℕ) (asks : List (Ask P S Told)) → at < soonest → EndFrom soonest asks → WaitBeyond at asks
+  ends_beyond soonest at asks less h =
+      All-weaker (λ (r : Ask P S Told). soonest ≤ r.wait_until) (λ (r : Ask P S Told). at < r.wait_until) (λ r end. omega (arith, less, end)) asks h
+
+  kept_ends : (soonest : ℕ) (kept : Bool) (r : Ask P S Told) (others : List (Ask P S Told)) → soonest ≤ r.wait_until → EndFrom soonest others → EndFrom soonest (with_kept kept r others)
+  kept_ends soonest true r others first h = All-cons (λ (x : Ask P S Told). soonest ≤ x.wait_until) r others first h
+  kept_ends soonest false r others first h = h
+
+  -- those that go on waiting behind a look end no sooner
+  pub looked_ends : (soonest limit at : ℕ) (quiet : Bool) (before after : Knowledge) (parked left : List (Ask P S Told)) (happened : List (MailboxEvent (Mail P S Told) S Answered))
+      → LooksOver limit at quiet before parked happened after left → EndFrom soonest parked → EndFrom soonest left
+  looked_ends soonest limit at quiet before after [] left happened looks h = All-same (λ (x : Ask P S Told). soonest ≤ x.wait_until) left [] looks.2 h
+  looked_ends soonest limit at quiet before after (r ∷ rs) left happened looks h =
+      All-same (λ (x : Ask P S Told). soonest ≤ x.wait_until) left (with_kept looks.0 r looks.4) looks.7
+      (kept_ends soonest looks.0 r looks.4 (All-head (λ (x : Ask P S Told). soonest ≤ x.wait_until) r rs h)
+      (looked_ends soonest limit at looks.0 looks.3 after rs looks.4 looks.2 looks.8 (All-tail (λ (x : Ask P S Told). soonest ≤ x.wait_until) r rs h)))
+
+  -- an ask that comes ends no sooner where it waits
+  admitted_ends : (soonest next : ℕ) (r : Ask P S Told) (parked left : List (Ask P S Told)) (happened : List (MailboxEvent (Mail P S Told) S Answered))
+      → IsSoonestWith (mails.Ask r) soonest next → Admits r parked happened left → EndFrom soonest parked → EndFrom next left
+  admitted_ends soonest next r parked left happened is (inl waits) h =
+      All-same (λ (x : Ask P S Told). next ≤ x.wait_until) left (parked ++ r ∷ []) waits.2
+      (All-push (λ (x : Ask P S Told). next ≤ x.wait_until) parked r (ends_weaker soonest next parked is.0 h) (is.1 waits.0))
+  admitted_ends soonest next r parked left happened is (inr answered) h =
+      All-same (λ (x : Ask P S Told). next ≤ x.wait_until) left parked answered.0 (ends_weaker soonest next parked is.0 h)
+
+  -- those that wait once a mail was taken in
+  pub taken_ends : (taken_out : ℕ → Type 0) (retargeted : ℕ → ℕ → Type 0) (uid : ℕ) (mail : Mail P S Told) (last : ℕ) (parked : List (Ask P S Told))
+      (happened : List (MailboxEvent (Mail P S Told) S Answered)) (left : List (Ask P S Told)) (at : ℕ) (ends : Bool) (soonest next : ℕ)
+      → IsSoonestWith mail soonest next → TakesIn taken_out retargeted uid mail last parked happened left at ends → EndFrom soonest parked → EndFrom next left
+  taken_ends taken_out retargeted uid (mails.Ask r) last parked happened left at ends soonest next is takes h =
+      admitted_ends soonest next r parked left happened is takes.1 h
+  taken_ends taken_out retargeted uid (mails.Tick t) last parked happened left at ends soonest next is takes h =
+      All-same (λ (x : Ask P S Told). next ≤ x.wait_until) left parked takes.2 (subst (λ n. EndFrom n parked) (sym is) h)
+  taken_ends taken_out retargeted uid mails.End last parked happened left at ends soonest next is takes h =
+      All-same (λ (x : Ask P S Told). next ≤ x.wait_until) left parked takes.2 (subst (λ n. EndFrom n parked) (sym is) h)
