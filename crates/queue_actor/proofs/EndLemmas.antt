@@ -1,6 +1,6 @@
 -- The earliest end of the waits of polls, as polls come and are looked at.
 use Rattle.std.proofs.Common.{◌≡◌, ℕ, ◌<◌, ◌≤◌, Bool, true, false, List, [], ◌∷◌, ◌++◌, subst, sym, inl, inr, arith}
-use Rattle.std.proofs.lemmas.List.Elements.{All-cons, All-head, All-push, All-same, All-tail, All-weaker}
+use Rattle.std.proofs.lemmas.List.Elements.{All-cons, All-head, All-nil, All-push, All-same, All-tail, All-weaker}
 use Rattle.desk.specs.Views.{Knowledge}
 use Rattle.queue_actor.specs.declared.mail.Ask.{Ask}
 use Rattle.queue_actor.specs.declared.mail.Mail.{Mail}
@@ -11,6 +11,10 @@ use Rattle.queue_actor.specs.Serving.{with_kept, LooksOver, Admits, TakesIn}
 use Rattle.queue_actor.specs.private.Ending.{EndFrom, IsSoonestWith, WaitBeyond}
 
 module _ {P S Told : Type 0} where
+  -- where none waits, at any time
+  pub none_ends : (soonest : ℕ) (asks : List (Ask P S Told)) → asks ≡ [] → EndFrom soonest asks
+  none_ends soonest asks none = All-same (λ (x : Ask P S Told). soonest ≤ x.wait_until) asks [] none (All-nil (λ (x : Ask P S Told). soonest ≤ x.wait_until))
+
   -- waits that end from a time on end from any earlier one on
   ends_weaker : (soonest next : ℕ) (asks : List (Ask P S Told)) → next ≤ soonest → EndFrom soonest asks → EndFrom next asks
   ends_weaker soonest next asks less h =

@@ -1,9 +1,8 @@
 use Rattle.std.proofs.Common.{◌≡◌, [], subst, sym, ap}
-use Rattle.std.proofs.lemmas.List.Elements.{All-nil, All-same}
 use Rattle.queue_actor.specs.Calling.{LooksAtTick}
 use Rattle.queue_actor.specs.Serving.{TakesIn, Serves}
 use Rattle.queue_actor.specs.Waiting.{TakesAnswers}
-use Rattle.queue_actor.proofs.EndLemmas.{taken_ends}
+use Rattle.queue_actor.proofs.EndLemmas.{none_ends, taken_ends}
 use Rattle.queue_actor.proofs.ServingLemmas.{Serving, serving_begins, serving_goes, serving_ends, serving_is_ended, takes_brought, takes_over}
 use Rattle.queue_actor.proofs.actor.Actor.run.Goals as goal
 
@@ -16,7 +15,7 @@ loop-init g c = (
       (serving_begins (g.D.Targets.was_told c.args.directory.now) (g.D.Targets.was_taken_out c.args.directory.now) (g.D.Targets.was_retargeted c.args.directory.now) g.I.Inbox.brings g.I.Inbox.is_over g.I.Inbox.gives g.I.Inbox.was_left c.args.self.now.uid c.limits.inside.in_flight c.args.self.now.pass c.args.mailbox.now c.new-parked.result.items c.new-parked.ensures.items),
   subst (λ last. TakesAnswers g.I.Inbox.brings g.I.Inbox.is_over g.I.Inbox.may_give g.I.Inbox.gives g.I.Inbox.was_left c.new-parked.result.items last c.args.mailbox.now) (sym c.zero-last.ensures)
       (subst (λ asks. TakesAnswers g.I.Inbox.brings g.I.Inbox.is_over g.I.Inbox.may_give g.I.Inbox.gives g.I.Inbox.was_left asks 0 c.args.mailbox.now) (sym c.new-parked.ensures.items) c.requires.may),
-  All-same _ c.new-parked.result.items [] c.new-parked.ensures.items (All-nil _),
+  none_ends _ c.new-parked.result.items c.new-parked.ensures.items,
 )
 
 pub end-requires : goal.end-requires
@@ -63,7 +62,7 @@ returns-then-is_last-clause-served g c =
 pub loop-preserved : goal.loop-preserved
 loop-preserved g c =
     let taken = c.take_in-at.ensures.taken in
-    let looked = c.look_over.ensures.looked in
+    let looked = c.look_over-soonest.ensures.looked in
     let at = c.take_in-at.result.0 in
     let at_tick = subst (λ b. LooksAtTick c.limits.inside.in_flight at b c.look_at_tick-quiet.result c.loop.self.pass c.look_at_tick-quiet.new.self.pass) c.is_tick-is_tick.ensures c.look_at_tick-quiet.ensures in
     let takes = subst (λ b. TakesIn (g.D.Targets.was_taken_out c.args.directory.now) (g.D.Targets.was_retargeted c.args.directory.now) c.args.self.now.uid c.in-Some-next.mail c.loop.last c.loop.parked.items taken.0 c.take_in-at.new.parked.items at b) c.if-is_last.false taken.1 in (
@@ -71,17 +70,15 @@ loop-preserved g c =
       tt,
       serving_goes (g.D.Targets.was_told c.args.directory.now) (g.D.Targets.was_taken_out c.args.directory.now) (g.D.Targets.was_retargeted c.args.directory.now) g.I.Inbox.brings g.I.Inbox.is_over g.I.Inbox.gives g.I.Inbox.was_left c.args.self.now.uid c.limits.inside.in_flight c.args.self.now.pass c.args.mailbox.now
           c.loop.self.pass c.loop.parked.items c.loop.last c.loop.mailbox
-          c.in-Some-next.mail at taken.0 looked.0 c.take_in-at.new.parked.items c.look_over.new.parked.items c.move_parcels.new.self.pass
-          c.next-in-loop.new.self c.take_in-at.new.mailbox c.look_over.new.mailbox
+          c.in-Some-next.mail at taken.0 looked.0 c.take_in-at.new.parked.items c.look_over-soonest.new.parked.items c.move_parcels.new.self.pass
+          c.next-in-loop.new.self c.take_in-at.new.mailbox c.look_over-soonest.new.mailbox
           c.loop.invariant.2 c.in-Some-next.ensures.some takes taken.2
-          (c.look_at_tick-quiet.result, c.look_at_tick-quiet.new.self.pass, c.look_over.new.self.pass, at_tick, looked.1, c.move_parcels.ensures.moved) looked.2,
-      c.look_over.ensures.may,
-      c.look_over.ensures.ends,
+          (c.look_at_tick-quiet.result, c.look_at_tick-quiet.new.self.pass, c.look_over-soonest.new.self.pass, at_tick, looked.1, c.move_parcels.ensures.moved) looked.2,
+      c.look_over-soonest.ensures.may,
+      c.look_over-soonest.ensures.ends,
     )
 
-pub look_over-requires : goal.look_over-requires
-look_over-requires g c = record {
-  may = c.take_in-at.ensures.may;
-  ends = taken_ends (g.D.Targets.was_taken_out c.args.directory.now) (g.D.Targets.was_retargeted c.args.directory.now) c.args.self.now.uid c.in-Some-next.mail c.loop.last c.loop.parked.items c.take_in-at.ensures.taken.0 c.take_in-at.new.parked.items c.take_in-at.result.0 c.take_in-at.result.1
-      c.loop.soonest c.soonest_with-end.result c.soonest_with-end.ensures c.take_in-at.ensures.taken.1 c.loop.invariant.4;
-}
+pub look_over-soonest-requires-clause-ends : goal.look_over-soonest-requires-clause-ends
+look_over-soonest-requires-clause-ends g c =
+    taken_ends (g.D.Targets.was_taken_out c.args.directory.now) (g.D.Targets.was_retargeted c.args.directory.now) c.args.self.now.uid c.in-Some-next.mail c.loop.last c.loop.parked.items c.take_in-at.ensures.taken.0 c.take_in-at.new.parked.items c.take_in-at.result.0 c.take_in-at.result.1
+    c.loop.soonest c.soonest_with-end.result c.soonest_with-end.ensures c.take_in-at.ensures.taken.1 c.loop.invariant.4
