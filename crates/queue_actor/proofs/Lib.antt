@@ -7,3 +7,4 @@ pub mod ReaderLemmas
 pub mod ActorSending
 pub mod ScriptLemmas
 pub mod EndLemmas
+pub mod DirectoryLemmas

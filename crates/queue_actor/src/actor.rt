@@ -1,6 +1,6 @@
 //! The actor of a queue: it takes the queue's mail, answers asks, and keeps polls that wait.
 
-ghost use Rattle.std.specs.Prelude.{◌≡◌, ◌<◌, ◌≤◌, true, false, [], ◌∷◌, ◌++◌, List, is_some};
+ghost use Rattle.std.specs.Prelude.{◌≡◌, ◌<◌, ◌≤◌, ◌||◌, nat_le, true, false, [], ◌∷◌, ◌++◌, List, is_some};
 ghost use Rattle.std.specs.Arc.{arc_value};
 ghost use Rattle.std.specs.VecDeque.{deque_len, deque_capacity};
 ghost use Rattle.desk.specs.Views.{IsKnown};
@@ -10,7 +10,7 @@ ghost use Rattle.queue_actor.specs.Answered.{Answered};
 ghost use Rattle.queue_actor.specs.Calling.{HasAsked, Finds, KeepsWaiting, LooksAtTick, is_quiet};
 ghost use Rattle.queue_actor.specs.Serving.{is_receive, is_tick, may_wait, has_closed, Enters, IsAnswerAt, IsServedAt, AreServedAt, LooksAt, LooksOver, Admits, Leads, TakesIn, Ends, Serves};
 ghost use Rattle.queue_actor.specs.Waiting.{TakesAnswers, waiting_with, moment_with};
-ghost use Rattle.queue_actor.specs.private.Ending.{EndFrom, IsSoonestWith, WaitBeyond};
+ghost use Rattle.queue_actor.specs.private.Ending.{EndFrom, WaitBeyond, earlier, earliest, end_with};
 
 use crate::answer::Answer;
 use crate::deadline::TICK_MILLISECONDS;
@@ -231,7 +231,8 @@ where
     }
 
     /// Looks over the polls that wait. Only where the wait of one may be over, or all are to be gone through, it comes to all
-    /// of them. It is told the earliest end of their waits, or an earlier time, and tells that of those that are left.
+    /// of them. It is told the earliest end of their waits, or an earlier time, and tells the same of those that are left: the
+    /// earliest end where it came to all of them.
     fn look_over<S: Drop, I: Inbox<Mail<P, S>, S, Answer<P>>, R: Wait, G: Gate>(
         &mut self,
         rt: &R,
@@ -250,10 +251,12 @@ where
         ensures looked { (happened : List (MailboxEvent (Mail P S P.Told) S Answered)) × LooksOver limit at known self.old.pass parked.old.items happened self.new.pass parked.new.items × GoesThrough I.brings I.is_over I.gives I.was_left mailbox.old happened mailbox.new }
         ensures may { TakesAnswers I.brings I.is_over I.may_give I.gives I.was_left parked.new.items at mailbox.new }
         ensures ends { EndFrom result parked.new.items }
+        ensures all { (is_sweep || nat_le soonest at) ≡ true → result ≡ earliest 18446744073709551615 parked.new.items }
+        ensures first { (is_sweep || nat_le soonest at) ≡ false → result ≡ soonest }
     {
         if is_sweep || soonest <= at.milliseconds() {
             self.look_over_all(rt, alloc, at, limit, known, parked, mailbox, gate);
-            return soonest_of(parked);
+            return earliest(parked);
         }
         self.look_over_first(rt, alloc, at, limit, known, parked, mailbox, gate);
         soonest
@@ -289,7 +292,7 @@ where
                 return self.end(rt, alloc, last, parked, mailbox, directory, gate);
             };
             let is_tick = is_tick(&mail);
-            let end = soonest_with(&mail, soonest);
+            let earliest_end = end_with(&mail, soonest);
             let (at, is_last) = take_in(
                 rt,
                 alloc,
@@ -316,7 +319,7 @@ where
                 limit,
                 is_sweep,
                 quiet,
-                end,
+                earliest_end,
                 &mut parked,
                 mailbox,
                 gate,
@@ -391,28 +394,31 @@ fn may_wait<P: Press, S: Drop>(ask: &Ask<P, S>) -> bool
     is_receive(&ask.command) && ask.moment.milliseconds() < ask.wait_until.milliseconds()
 }
 
-/// The earliest end of the waits of polls, in milliseconds.
-fn soonest_of<P: Press, S: Drop>(parked: &VecDeque<Ask<P, S>>) -> u64
-    ensures { EndFrom result parked.now.items }
+/// The earlier of two times.
+fn earlier(time: u64, other: u64) -> u64
+    ensures { result ≡ earlier time other }
+{
+    if other < time { other } else { time }
+}
+
+/// The earliest end of the waits of polls, in milliseconds; the last time there is where none waits.
+fn earliest<P: Press, S: Drop>(parked: &VecDeque<Ask<P, S>>) -> u64
+    ensures { result ≡ earliest 18446744073709551615 parked.now.items }
 {
     let mut soonest = u64::MAX;
     for place in 0..parked.len() {
-        let end = parked[place].wait_until.milliseconds();
-        if end < soonest {
-            soonest = end;
-        }
+        soonest = earlier(soonest, parked[place].wait_until.milliseconds());
     }
     soonest
 }
 
-/// The same where a mail comes, before which it was a time: that of an ask counts if it may wait.
-fn soonest_with<P: Press, S: Drop>(mail: &Mail<P, S>, soonest: u64) -> u64
-    ensures { IsSoonestWith mail.now soonest result }
+/// A time before which no wait ends, once a mail has come; `soonest` is one before it came. The end of an ask counts if it
+/// may wait.
+fn end_with<P: Press, S: Drop>(mail: &Mail<P, S>, soonest: u64) -> u64
+    ensures { result ≡ end_with mail.now soonest }
 {
     match mail {
-        Mail::Ask(ask) if may_wait(ask) && ask.wait_until.milliseconds() < soonest => {
-            ask.wait_until.milliseconds()
-        }
+        Mail::Ask(ask) if may_wait(ask) => earlier(soonest, ask.wait_until.milliseconds()),
         _ => soonest,
     }
 }

@@ -1,11 +1,13 @@
 //! The directory of the queues that are served: names, mailboxes and desks.
 
-ghost use Rattle.std.specs.Prelude.{◌≡◌, ◌⊎◌, ◌==◌, ◌||◌, [], ◌∷◌, ◌++◌, map, false, true, Result, Ok, Err, None, IfSome, IfOk, IfErr, OnOk, OnErr, is_some};
+ghost use Rattle.std.specs.Prelude.{◌≡◌, ◌≢◌, ◌⊎◌, ◌==◌, nat_eq, not, ◌||◌, [], ◌∷◌, ◌++◌, map, filter, false, true, Result, Ok, Err, Some, None, IfSome, IfOk, IfErr, OnOk, OnErr, is_some};
 ghost use Rattle.std.specs.Arc.{arc_value};
-ghost use Rattle.std.specs.List.{All, position};
+ghost use Rattle.std.specs.List.{All, IsDistinct, find, position};
+ghost use Rattle.std.proofs.Props.{props};
 ghost use Rattle.std.specs.Str.{bytes_eq};
+ghost use Rattle.message.specs.Fault.{Meets};
 ghost use Rattle.message.specs.declared.fault.Fault.TheVariants.{OutOfMemory, QueueDoesNotExist, QueueNameExists, OverLimit};
-ghost use Rattle.redrive.specs.Catalog.{IsDirectory, empty_directory, has_uid, names_listed, with_target, without_uid};
+ghost use Rattle.redrive.specs.Catalog.{IsDirectory, add_answer, empty_directory, has_uid, names_listed, uid_of_name, with_registered, with_target, without_uid};
 ghost use Rattle.message.specs.declared.fault.Fault.{Fault};
 ghost use Rattle.queue_core.specs.declared.command.Command.TheVariants as commands;
 ghost use Rattle.queue_core.specs.declared.reply.Reply.{Reply};
@@ -160,7 +162,7 @@ impl<P: Press, S: Drop> Served<P, S> {
     }
 }
 
-/// What lies under the directory's lock: the names, and the queues that are served, each once and under a name of its own.
+/// What lies under the directory's lock: the names, and the queues that are served, each once and under the name to which its uid belongs.
 #[derive(Drop)]
 struct DirectoryEntries<P: Press, S: Drop> {
     catalog: Catalog,
@@ -169,6 +171,8 @@ struct DirectoryEntries<P: Press, S: Drop> {
     keys: Keys,
     ghost uids: { keys.uids ≡ map (λ queue. queue.uid) served.items },
     ghost names: { keys.names ≡ map (λ queue. queue.name) served.items },
+    ghost once: { IsDistinct nat_eq keys.uids } by { Prim.hlevel props },
+    ghost entered: { map (λ name. uid_of_name catalog name) keys.names ≡ map (λ uid. Some uid) keys.uids },
 }
 
 impl<P: Press, S: Drop> DirectoryEntries<P, S> {
@@ -209,7 +213,8 @@ impl<P: Press, S: Drop> DirectoryEntries<P, S> {
     /// The queue of a name once more, where it is served.
     fn find_name(&mut self, name: &QueueName) -> Result<Option<Served<P, S>>, Fault>
         ensures name { IfOk result (λ found. IfSome found (λ queue. queue.name ≡ name.now)) }
-        ensures absent { result ≡ Ok None → position (λ queue. bytes_eq queue.name name.now) self.old.served.items ≡ None }
+        ensures unserved { result ≡ Ok None → position (λ queue. bytes_eq queue.name name.now) self.old.served.items ≡ None }
+        ensures same { (self.new.catalog ≡ self.old.catalog) × (self.new.keys ≡ self.old.keys) }
         ensures errors { IfErr result (λ fault. fault ≡ OutOfMemory) }
     {
         match self.place_named(name) {
@@ -222,7 +227,9 @@ impl<P: Press, S: Drop> DirectoryEntries<P, S> {
     /// where no queue has the uid.
     fn find(&mut self, uid: u64) -> Result<Option<Served<P, S>>, Fault>
         ensures uid { IfOk result (λ found. IfSome found (λ queue. queue.uid ≡ uid)) }
+        ensures unserved { result ≡ Ok None → (position (λ queue. queue.uid == uid) self.old.served.items ≡ None) × (has_uid self.old.catalog uid ≡ true) }
         ensures absent { result ≡ Err QueueDoesNotExist → has_uid self.old.catalog uid ≡ false }
+        ensures same { (self.new.catalog ≡ self.old.catalog) × (self.new.keys ≡ self.old.keys) }
         ensures errors { IfErr result (λ fault. (fault ≡ QueueDoesNotExist) ⊎ (fault ≡ OutOfMemory)) }
     {
         match self.place_of(uid) {
@@ -232,23 +239,43 @@ impl<P: Press, S: Drop> DirectoryEntries<P, S> {
         }
     }
 
-    /// Adds the queue of a uid that has a name. It is `QueueNameExists` where one is served under that uid or name.
+    /// Enters a name, and answers the uid that belongs to it from now on. `QueueNameExists` where the name is there,
+    /// served or not; `OverLimit` where there are as many queues as there may be. A refused name is not entered.
+    fn enter(&mut self, alloc: Global, name: QueueName) -> Result<u64, Fault>
+        ensures there { uid_of_name self.old.catalog name ≢ None → result ≡ Err QueueNameExists }
+        ensures answer { uid_of_name self.old.catalog name ≡ None → Meets result (add_answer self.old.catalog) }
+        ensures ok { OnOk result (self.new.catalog ≡ with_registered self.old.catalog name 0) }
+        ensures err { OnErr result (self.new.catalog ≡ self.old.catalog) }
+        ensures same { (self.new.served.items ≡ self.old.served.items) × (self.new.keys ≡ self.old.keys) }
+        ensures errors { IfErr result (λ fault. (fault ≡ QueueNameExists) ⊎ (fault ≡ OverLimit) ⊎ (fault ≡ OutOfMemory)) }
+    {
+        match self.catalog.find(&name) {
+            Some(_) => Err(Fault::QueueNameExists),
+            None => self.catalog.add(alloc, name, 0),
+        }
+    }
+
+    /// Adds a queue under the name to which its uid belongs, and gives it its target. It is `QueueNameExists` where one is
+    /// served under that uid or name, and `QueueDoesNotExist` where the name does not belong to the uid.
     fn serve(&mut self, alloc: Global, queue: Served<P, S>, target: u64) -> Result<(), Fault>
         ensures ok { OnOk result (self.new.served.items ≡ self.old.served.items ++ queue ∷ []) }
         ensures target { OnOk result (self.new.catalog ≡ with_target self.old.catalog queue.uid target) }
-        ensures named { OnOk result (has_uid self.old.catalog queue.uid ≡ true) }
-        ensures err { OnErr result (self.new.served.items ≡ self.old.served.items) }
+        ensures named { OnOk result (uid_of_name self.old.catalog queue.name ≡ Some queue.uid) }
+        ensures err { OnErr result ((self.new.served.items ≡ self.old.served.items) × (self.new.catalog ≡ self.old.catalog)) }
         ensures once { (is_some (position (λ q. q.uid == queue.uid) self.old.served.items) || is_some (position (λ q. bytes_eq q.name queue.name) self.old.served.items)) ≡ true → result ≡ Err QueueNameExists }
+        ensures exists { result ≡ Err QueueNameExists → (is_some (position (λ q. q.uid == queue.uid) self.old.served.items) || is_some (position (λ q. bytes_eq q.name queue.name) self.old.served.items)) ≡ true }
+        ensures unnamed { result ≡ Err QueueDoesNotExist → uid_of_name self.old.catalog queue.name ≢ Some queue.uid }
         ensures errors { IfErr result (λ fault. (fault ≡ QueueDoesNotExist) ⊎ (fault ≡ QueueNameExists) ⊎ (fault ≡ OutOfMemory)) }
     {
         if self.is_served(queue.uid, &queue.name) {
             return Err(Fault::QueueNameExists);
         }
-        self.served.reserve(1)?;
-        self.keys.reserve(alloc)?;
-        if !self.catalog.set_target(queue.uid, target) {
+        if self.catalog.find(&queue.name) != Some(queue.uid) {
             return Err(Fault::QueueDoesNotExist);
         }
+        self.served.reserve(1)?;
+        self.keys.reserve(alloc)?;
+        self.catalog.set_target(queue.uid, target);
         queue.duties.set_target(target);
         self.keys.push(queue.uid, queue.name);
         self.served.push_reserved(queue);
@@ -259,6 +286,7 @@ impl<P: Press, S: Drop> DirectoryEntries<P, S> {
     fn set_target(&mut self, uid: u64, target: u64) -> bool
         ensures there { result ≡ has_uid self.old.catalog uid }
         ensures target { self.new.catalog ≡ with_target self.old.catalog uid target }
+        ensures same { (self.new.served.items ≡ self.old.served.items) × (self.new.keys ≡ self.old.keys) }
     {
         if let Some(place) = self.place_of(uid) {
             self.served[place].duties.set_target(target);
@@ -266,34 +294,33 @@ impl<P: Press, S: Drop> DirectoryEntries<P, S> {
         self.catalog.set_target(uid, target)
     }
 
-    /// Takes the queue of a uid from those that are served.
+    /// Takes the queue of a uid from those that are served. The others stay.
     fn unserve(&mut self, uid: u64) -> Option<Served<P, S>>
-        ensures uid { IfSome result (λ queue. queue.uid ≡ uid) }
+        ensures queue { result ≡ find (λ queue. queue.uid == uid) self.old.served.items }
+        ensures left { self.new.served.items ≡ filter (λ queue. not (queue.uid == uid)) self.old.served.items }
         ensures catalog { self.new.catalog ≡ self.old.catalog }
     {
-        match self.place_of(uid) {
-            Some(place) => {
-                let queue = self.served.remove(place);
-                self.keys.remove(place);
-                Some(queue)
-            }
-            None => None,
-        }
+        let place = self.place_of(uid)?;
+        let queue = self.served.remove(place);
+        self.keys.remove(place);
+        Some(queue)
     }
 
-    /// Takes out the queue of a uid: its name, and the queue where it is served.
+    /// Takes out the queue of a uid: its name, and the queue where it is served. The others stay.
     fn remove(&mut self, uid: u64) -> (bool, Option<Served<P, S>>)
         ensures named { result.0 ≡ has_uid self.old.catalog uid }
         ensures catalog { self.new.catalog ≡ without_uid self.old.catalog uid }
-        ensures served { IfSome result.1 (λ queue. queue.uid ≡ uid) }
+        ensures queue { result.1 ≡ find (λ queue. queue.uid == uid) self.old.served.items }
+        ensures left { self.new.served.items ≡ filter (λ queue. not (queue.uid == uid)) self.old.served.items }
     {
-        let named = self.catalog.remove(uid);
-        (named, self.unserve(uid))
+        let queue = self.unserve(uid);
+        (self.catalog.remove(uid), queue)
     }
 
     /// All queues that are served once more. `OutOfMemory` is the only refusal.
     fn all(&mut self, alloc: Global) -> Result<Vec<Served<P, S>>, Fault>
         ensures all { IfOk result (λ queues. map (λ queue. queue.uid) queues.items ≡ map (λ queue. queue.uid) self.old.served.items) }
+        ensures same { (self.new.catalog ≡ self.old.catalog) × (self.new.keys ≡ self.old.keys) }
         ensures errors { IfErr result (λ fault. fault ≡ OutOfMemory) }
     {
         let mut queues = Vec::new(alloc);
@@ -348,16 +375,12 @@ impl<P: Press, S: Drop> Directory<P, S> {
     pub fn enter<R: Wait>(&self, rt: &R, alloc: Global, name: QueueName) -> Result<u64, Fault>
         ensures errors { IfErr result (λ fault. (fault ≡ QueueNameExists) ⊎ (fault ≡ OverLimit) ⊎ (fault ≡ OutOfMemory)) }
     {
-        let mut entries = self.entries.lock(rt);
-        match entries.catalog.find(&name) {
-            Some(_) => Err(Fault::QueueNameExists),
-            None => entries.catalog.add(alloc, name, 0),
-        }
+        self.entries.lock(rt).enter(alloc, name)
     }
 
-    /// Adds the queue of a uid that was entered, and gives it its target, 0 for none. It is
-    /// `QueueDoesNotExist` where the uid was taken out meanwhile, and `QueueNameExists` where a queue of that uid
-    /// or name is served already. A refused queue is dropped, and its name stays.
+    /// Adds the queue of a uid that was entered, under the name that was entered with it, and gives it its target, 0 for
+    /// none. It is `QueueDoesNotExist` where the uid was taken out meanwhile or its name is another, and
+    /// `QueueNameExists` where a queue of that uid or name is served already. A refused queue is dropped, and its name stays.
     pub fn serve<R: Wait>(
         &self,
         rt: &R,

@@ -81,4 +81,4 @@ loop-preserved g c =
 pub look_over-soonest-requires-clause-ends : goal.look_over-soonest-requires-clause-ends
 look_over-soonest-requires-clause-ends g c =
     taken_ends (g.D.Targets.was_taken_out c.args.directory.now) (g.D.Targets.was_retargeted c.args.directory.now) c.args.self.now.uid c.in-Some-next.mail c.loop.last c.loop.parked.items c.take_in-at.ensures.taken.0 c.take_in-at.new.parked.items c.take_in-at.result.0 c.take_in-at.result.1
-    c.loop.soonest c.soonest_with-end.result c.soonest_with-end.ensures c.take_in-at.ensures.taken.1 c.loop.invariant.4
+    c.loop.soonest c.end_with-earliest_end.result c.end_with-earliest_end.ensures c.take_in-at.ensures.taken.1 c.loop.invariant.4

@@ -1,5 +1,5 @@
 -- Each turn lends the next queue once more, under the same uid.
-use Rattle.std.proofs.Common.{rules, ◌≡◌, ℕ, ◌<◌, List, [], ◌∷◌, ◌++◌, map, take, length, get_or, refl, sym, ap, ◌∙◌, arith}
+use Rattle.std.proofs.Common.{rules, ◌≡◌, ℕ, ◌<◌, List, [], ◌∷◌, ◌++◌, map, take, length, get_or, sym, ap, ◌∙◌, arith}
 use Rattle.std.proofs.Math.Seq.{map-set_same}
 use Rattle.std.proofs.lemmas.List.{take_more, map-append, get_or-map, length-map}
 use Rattle.queue_actor.proofs.directory.DirectoryEntries.all.Goals as goal
@@ -21,6 +21,8 @@ loop-place-preserved g c =
       uids = ap (map (λ q. q.uid)) c.in_ok-push.ensures.items ∙ map-append (λ q. q.uid) c.loop-place.queues.items (other ∷ [])
           ∙ ap (λ (ns : List ℕ). ns ++ other.uid ∷ []) c.loop-place.invariant.uids ∙ ap (λ (n : ℕ). take i uids ++ n ∷ []) (c.in_ok-again.ensures.other.0 ∙ sym at) ∙ sym (take_more uids i 0 long);
       same = map-set_same (λ q. q.uid) xs i now queue (c.again.ensures.same.0 ∙ ap (λ q. q.uid) here) ∙ same;
+      catalog = c.loop-place.invariant.catalog;
+      keys = c.loop-place.invariant.keys;
     }
 
 -- lent once more, it keeps its uid and its name
@@ -32,5 +34,7 @@ invariant_of-self g c =
     let here : queue ≡ get_or xs i queue = search rules in
     record {
       uids = c.loop-place.self.uids ∙ sym (map-set_same (λ q. q.uid) xs i c.again.new.self queue (c.again.ensures.same.0 ∙ ap (λ q. q.uid) here));
+      once = c.loop-place.self.once;
+      entered = c.loop-place.self.entered;
       names = c.loop-place.self.names ∙ sym (map-set_same (λ q. q.name) xs i c.again.new.self queue (c.again.ensures.same.1 ∙ ap (λ q. q.name) here));
     }

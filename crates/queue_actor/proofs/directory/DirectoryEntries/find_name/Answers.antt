@@ -13,6 +13,8 @@ invariant_of-self g c =
     let queue = c.index_mut.result.now in
     record {
       uids = c.args.self.now.uids ∙ sym (map-set_same (λ q. q.uid) xs i c.again.new.self queue (c.again.ensures.same.0 ∙ ap (λ q. q.uid) c.index_mut.ensures.value));
+      once = c.args.self.now.once;
+      entered = c.args.self.now.entered;
       names = c.args.self.now.names ∙ sym (map-set_same (λ q. q.name) xs i c.again.new.self queue (c.again.ensures.same.1 ∙ ap (λ q. q.name) c.index_mut.ensures.value));
     }
 
