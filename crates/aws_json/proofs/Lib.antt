@@ -2,3 +2,4 @@ pub mod MemberLemmas
 pub mod EntryLemmas
 pub mod UrlLemmas
 pub mod ReplyLemmas
+pub mod ActionLemmas

@@ -1,6 +1,6 @@
 -- The request that an action and a body are, or the first fault (Amazon SQS API Reference; the faults and their order are this project's own choice).
 use Rattle.std.specs.Prelude.{ℕ, ◌==◌, Bool, ◌&&◌, unwrap_or, if◌then◌else◌, List, [], ◌∷◌, codes, Option, Some, None, option_map, Result, Ok, Err, ok_or}
-use Rattle.std.specs.List.{after_last}
+use Rattle.std.specs.List.{after_last, find, position, slice_get}
 use Rattle.std.specs.Str.{bytes_eq}
 use Rattle.message.specs.Name.{queue_name_of}
 use Rattle.message.specs.declared.fault.Fault.{Fault}
@@ -180,25 +180,43 @@ row actions.DeleteMessage = single (url ∷ handle_column ∷ []) delete_message
 row actions.ChangeMessageVisibility = single (url ∷ handle_column ∷ column (codes "VisibilityTimeout") Number ∷ []) change_message_visibility
 row (actions.Batch kind) = record { columns = url ∷ []; entries = Some kind; judge = batch kind }
 
+-- the actions that are served, by their names, each at the place at which it is counted
+abbrev pub served_actions : List (List ℕ × Action)
+served_actions =
+    (codes "CreateQueue", actions.CreateQueue)
+    ∷ (codes "DeleteQueue", actions.DeleteQueue)
+    ∷ (codes "GetQueueUrl", actions.GetQueueUrl)
+    ∷ (codes "ListQueues", actions.ListQueues)
+    ∷ (codes "ListDeadLetterSourceQueues", actions.ListDeadLetterSourceQueues)
+    ∷ (codes "GetQueueAttributes", actions.GetQueueAttributes)
+    ∷ (codes "SetQueueAttributes", actions.SetQueueAttributes)
+    ∷ (codes "PurgeQueue", actions.PurgeQueue)
+    ∷ (codes "SendMessage", actions.SendMessage)
+    ∷ (codes "SendMessageBatch", actions.Batch entries.Send)
+    ∷ (codes "ReceiveMessage", actions.ReceiveMessage)
+    ∷ (codes "DeleteMessage", actions.DeleteMessage)
+    ∷ (codes "DeleteMessageBatch", actions.Batch entries.Delete)
+    ∷ (codes "ChangeMessageVisibility", actions.ChangeMessageVisibility)
+    ∷ (codes "ChangeMessageVisibilityBatch", actions.Batch entries.Change) ∷ []
+
+-- the action of a name in a table, and the name at a place of it
+abbrev pub action_in : List (List ℕ × Action) → List ℕ → Option Action
+action_in table name = option_map (λ served. served.1) (find (λ served. bytes_eq name served.0) table)
+
+abbrev pub name_in : List (List ℕ × Action) → ℕ → Option (List ℕ)
+name_in table place = option_map (λ served. served.0) (slice_get table place)
+
 -- the action of a name, where it is served
 abbrev pub action_named : List ℕ → Option Action
-action_named name =
-    if bytes_eq name (codes "CreateQueue") then Some actions.CreateQueue
-    else if bytes_eq name (codes "SetQueueAttributes") then Some actions.SetQueueAttributes
-    else if bytes_eq name (codes "PurgeQueue") then Some actions.PurgeQueue
-    else if bytes_eq name (codes "DeleteQueue") then Some actions.DeleteQueue
-    else if bytes_eq name (codes "GetQueueUrl") then Some actions.GetQueueUrl
-    else if bytes_eq name (codes "ListQueues") then Some actions.ListQueues
-    else if bytes_eq name (codes "ListDeadLetterSourceQueues") then Some actions.ListDeadLetterSourceQueues
-    else if bytes_eq name (codes "GetQueueAttributes") then Some actions.GetQueueAttributes
-    else if bytes_eq name (codes "SendMessage") then Some actions.SendMessage
-    else if bytes_eq name (codes "ReceiveMessage") then Some actions.ReceiveMessage
-    else if bytes_eq name (codes "DeleteMessage") then Some actions.DeleteMessage
-    else if bytes_eq name (codes "ChangeMessageVisibility") then Some actions.ChangeMessageVisibility
-    else if bytes_eq name (codes "SendMessageBatch") then Some (actions.Batch entries.Send)
-    else if bytes_eq name (codes "DeleteMessageBatch") then Some (actions.Batch entries.Delete)
-    else if bytes_eq name (codes "ChangeMessageVisibilityBatch") then Some (actions.Batch entries.Change)
-    else None
+action_named name = action_in served_actions name
+
+-- the place of a name, where it is served
+abbrev pub action_place : List ℕ → Option ℕ
+action_place name = position (λ served. bytes_eq name served.0) served_actions
+
+-- the name at a place, where there is one
+abbrev pub action_at : ℕ → Option (List ℕ)
+action_at place = name_in served_actions place
 
 -- the row of the action of a name, where it is served
 abbrev pub action_row : List ℕ → Option ActionRow

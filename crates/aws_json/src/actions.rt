@@ -1,17 +1,19 @@
-//! The actions (Amazon SQS API Reference): each is a function that has the members of its row with
-//! their kinds, and judges them one after another, and a line of [`parse`]. Which fault is which,
-//! and the order in which they are judged, is this project's own choice.
+//! The actions (Amazon SQS API Reference): each is a line of [`ACTIONS`], has the members of its row
+//! with their kinds in [`columns_of`], and is a function that judges them one after another. Which
+//! fault is which, and the order in which they are judged, is this project's own choice.
 
-ghost use Rattle.std.specs.Prelude.{◌≡◌, Err, None};
+ghost use Rattle.std.specs.Prelude.{◌≡◌, ◌<◌, Err, Some, None, IfSome, is_some, option_map, map, length};
+ghost use Rattle.std.specs.List.{find, position};
+ghost use Rattle.std.specs.Str.{bytes_eq};
 ghost use Rattle.message.specs.Fault.{Meets};
 ghost use Rattle.serde_json.specs.View.{view};
-ghost use Rattle.aws_json.specs.Request.{row, action_named, has_kinds, asked_of_row, maximum_given, create_queue, set_queue_attributes, purge_queue, delete_queue, get_queue_url, list_queues, list_dead_letter_source_queues, send_message, receive_message, delete_message, change_message_visibility, get_queue_attributes, batch, action_row, request_of, queue_of_body};
+ghost use Rattle.aws_json.specs.Members.{column};
+ghost use Rattle.aws_json.specs.Request.{row, served_actions, action_in, name_in, action_named, action_place, action_at, has_kinds, asked_of_row, maximum_given, create_queue, set_queue_attributes, purge_queue, delete_queue, get_queue_url, list_queues, list_dead_letter_source_queues, send_message, receive_message, delete_message, change_message_visibility, get_queue_attributes, batch, action_row, request_of, queue_of_body};
 
 use crate::attribute_names::{asked_attribute_names, asked_names, asked_patterns};
 use crate::batch::{EntryKind, GivenMessage};
 use crate::entries::{
-    HANDLE, TIMEOUT, batch_of, entries_have_kinds, given_handle, has_message_kinds, message_given,
-    required_timeout, timeout_within,
+    batch_of, entries_have_kinds, given_handle, message_given, required_timeout, timeout_within,
 };
 use crate::members::{
     Kind, have_kinds, items_in, members_in, number_in, read_object, text_in, within,
@@ -24,12 +26,6 @@ use message::{Fault, QueueName};
 use queue_core::{MOST_OFFERS, Maximum};
 use serde_json::Value;
 use std::alloc::Global;
-
-/// The queue that most actions speak of.
-const URL: (&str, Kind) = ("QueueUrl", Kind::Text);
-
-/// The settings that a creation or a change of settings requests.
-const ATTRIBUTES: (&str, Kind) = ("Attributes", Kind::NamedTexts);
 
 /// The actions that are served.
 #[derive(Clone, Copy, Debug, PartialEq, Eq)]
@@ -49,6 +45,34 @@ pub(crate) enum Action {
     /// The action on several messages, each an entry of this kind.
     Batch(EntryKind),
 }
+
+/// The actions that are served, by their names, each at the place at which it is counted.
+const ACTIONS: &[(&str, Action)] = &[
+    ("CreateQueue", Action::CreateQueue),
+    ("DeleteQueue", Action::DeleteQueue),
+    ("GetQueueUrl", Action::GetQueueUrl),
+    ("ListQueues", Action::ListQueues),
+    (
+        "ListDeadLetterSourceQueues",
+        Action::ListDeadLetterSourceQueues,
+    ),
+    ("GetQueueAttributes", Action::GetQueueAttributes),
+    ("SetQueueAttributes", Action::SetQueueAttributes),
+    ("PurgeQueue", Action::PurgeQueue),
+    ("SendMessage", Action::SendMessage),
+    ("SendMessageBatch", Action::Batch(EntryKind::Send)),
+    ("ReceiveMessage", Action::ReceiveMessage),
+    ("DeleteMessage", Action::DeleteMessage),
+    ("DeleteMessageBatch", Action::Batch(EntryKind::Delete)),
+    ("ChangeMessageVisibility", Action::ChangeMessageVisibility),
+    (
+        "ChangeMessageVisibilityBatch",
+        Action::Batch(EntryKind::Change),
+    ),
+];
+
+/// How many actions are served.
+pub const ACTION_COUNT: usize = ACTIONS.len();
 
 /// Reads a creation: the name first, then the attributes.
 fn create_queue(alloc: Global, body: &Value) -> Result<Request, Fault>
@@ -196,27 +220,107 @@ fn batch(alloc: Global, kind: EntryKind, body: &Value) -> Result<Request, Fault>
     Ok(Request::Batch { queue, entries })
 }
 
+/// Whether a row has the name.
+fn has_name(row: &(&str, Action), name: &str) -> bool
+    ensures { result ≡ bytes_eq name.now row.now.0.now }
+{
+    name == row.0
+}
+
+/// The action of the first row that has the name.
+fn first_named(rows: &[(&str, Action)], name: &str) -> Option<Action>
+    ensures { result ≡ option_map (λ row. row.1) (find (λ row. bytes_eq name.now row.0.now) rows.now) }
+{
+    match rows.iter().find(|row| has_name(row, name)) {
+        Some(row) => Some(row.1),
+        None => None,
+    }
+}
+
+/// The same, where the rows are seen as the definitions have them.
+fn action_in(rows: &[(&str, Action)], name: &str) -> Option<Action>
+    ensures { result ≡ action_in (map (λ row. (row.0.now, row.1)) rows.now) name.now }
+{
+    first_named(rows, name)
+}
+
+/// The place of the first row that has the name.
+fn first_place(rows: &[(&str, Action)], name: &str) -> Option<usize>
+    ensures { result ≡ position (λ row. bytes_eq name.now row.0.now) rows.now }
+{
+    rows.iter().position(|row| has_name(row, name))
+}
+
 /// The action of a name, where it is served.
 pub(crate) fn action_named(name: &str) -> Option<Action>
     ensures { result ≡ action_named name.now }
 {
-    match name {
-        "CreateQueue" => Some(Action::CreateQueue),
-        "SetQueueAttributes" => Some(Action::SetQueueAttributes),
-        "PurgeQueue" => Some(Action::PurgeQueue),
-        "DeleteQueue" => Some(Action::DeleteQueue),
-        "GetQueueUrl" => Some(Action::GetQueueUrl),
-        "ListQueues" => Some(Action::ListQueues),
-        "ListDeadLetterSourceQueues" => Some(Action::ListDeadLetterSourceQueues),
-        "GetQueueAttributes" => Some(Action::GetQueueAttributes),
-        "SendMessage" => Some(Action::SendMessage),
-        "ReceiveMessage" => Some(Action::ReceiveMessage),
-        "DeleteMessage" => Some(Action::DeleteMessage),
-        "ChangeMessageVisibility" => Some(Action::ChangeMessageVisibility),
-        "SendMessageBatch" => Some(Action::Batch(EntryKind::Send)),
-        "DeleteMessageBatch" => Some(Action::Batch(EntryKind::Delete)),
-        "ChangeMessageVisibilityBatch" => Some(Action::Batch(EntryKind::Change)),
-        _ => None,
+    action_in(ACTIONS, name)
+}
+
+/// The place of an action in the table of those that are served, by its name; `None` where it is not served.
+pub fn action_place(name: &str) -> Option<usize>
+    ensures place { result ≡ action_place name.now }
+    ensures range { IfSome result (λ place. place < length served_actions) }
+    ensures named { IfSome result (λ place. action_at place ≡ Some name.now) }
+    ensures served { is_some result ≡ is_some (action_row name.now) }
+{
+    first_place(ACTIONS, name)
+}
+
+/// The name in the row at a place.
+fn name_in(rows: &[(&'static str, Action)], place: usize) -> Option<&'static str>
+    ensures { option_map (λ name. name.now) result ≡ name_in (map (λ row. (row.0.now, row.1)) rows.now) place }
+{
+    match rows.get(place) {
+        Some(row) => Some(row.0),
+        None => None,
+    }
+}
+
+/// The name of the action at a place of the table; `None` behind its last row.
+pub fn action_at(place: usize) -> Option<&'static str>
+    ensures { option_map (λ name. name.now) result ≡ action_at place }
+{
+    name_in(ACTIONS, place)
+}
+
+/// The members that an action knows, with their kinds; without the entries of a batch.
+pub(crate) fn columns_of(action: Action) -> &'static [(&'static str, Kind)]
+    ensures { map (λ c. column c.0.now c.1) result.now ≡ (row action).columns }
+{
+    match action {
+        Action::CreateQueue => &[("QueueName", Kind::Text), ("Attributes", Kind::NamedTexts)],
+        Action::SetQueueAttributes => {
+            &[("QueueUrl", Kind::Text), ("Attributes", Kind::NamedTexts)]
+        }
+        Action::GetQueueUrl => &[("QueueName", Kind::Text)],
+        Action::ListQueues => &[("QueueNamePrefix", Kind::Text)],
+        Action::GetQueueAttributes => {
+            &[("QueueUrl", Kind::Text), ("AttributeNames", Kind::Texts)]
+        }
+        Action::SendMessage => &[
+            ("QueueUrl", Kind::Text),
+            ("MessageBody", Kind::Text),
+            ("DelaySeconds", Kind::Number),
+            ("MessageAttributes", Kind::MessageAttributes),
+        ],
+        Action::ReceiveMessage => &[
+            ("QueueUrl", Kind::Text),
+            ("MaxNumberOfMessages", Kind::Number),
+            ("VisibilityTimeout", Kind::Number),
+            ("WaitTimeSeconds", Kind::Number),
+            ("AttributeNames", Kind::Texts),
+            ("MessageSystemAttributeNames", Kind::Texts),
+            ("MessageAttributeNames", Kind::Texts),
+        ],
+        Action::DeleteMessage => &[("QueueUrl", Kind::Text), ("ReceiptHandle", Kind::Text)],
+        Action::ChangeMessageVisibility => &[
+            ("QueueUrl", Kind::Text),
+            ("ReceiptHandle", Kind::Text),
+            ("VisibilityTimeout", Kind::Number),
+        ],
+        _ => &[("QueueUrl", Kind::Text)],
     }
 }
 
@@ -225,32 +329,11 @@ pub(crate) fn action_named(name: &str) -> Option<Action>
 fn has_kinds(action: Action, body: &Value) -> bool
     ensures { result ≡ has_kinds (row action) (view body.now) }
 {
-    match action {
-        Action::CreateQueue => have_kinds(body, &[("QueueName", Kind::Text), ATTRIBUTES]),
-        Action::SetQueueAttributes => have_kinds(body, &[URL, ATTRIBUTES]),
-        Action::PurgeQueue | Action::DeleteQueue | Action::ListDeadLetterSourceQueues => {
-            have_kinds(body, &[URL])
-        }
-        Action::GetQueueUrl => have_kinds(body, &[("QueueName", Kind::Text)]),
-        Action::ListQueues => have_kinds(body, &[("QueueNamePrefix", Kind::Text)]),
-        Action::GetQueueAttributes => have_kinds(body, &[URL, ("AttributeNames", Kind::Texts)]),
-        Action::SendMessage => have_kinds(body, &[URL]) && has_message_kinds(body),
-        Action::ReceiveMessage => have_kinds(
-            body,
-            &[
-                URL,
-                ("MaxNumberOfMessages", Kind::Number),
-                TIMEOUT,
-                ("WaitTimeSeconds", Kind::Number),
-                ("AttributeNames", Kind::Texts),
-                ("MessageSystemAttributeNames", Kind::Texts),
-                ("MessageAttributeNames", Kind::Texts),
-            ],
-        ),
-        Action::DeleteMessage => have_kinds(body, &[URL, HANDLE]),
-        Action::ChangeMessageVisibility => have_kinds(body, &[URL, HANDLE, TIMEOUT]),
-        Action::Batch(kind) => entries_have_kinds(kind, body) && have_kinds(body, &[URL]),
-    }
+    let entries_fit = match action {
+        Action::Batch(kind) => entries_have_kinds(kind, body),
+        _ => true,
+    };
+    entries_fit && have_kinds(body, columns_of(action))
 }
 
 /// The request that an action and the members of an object are, or the first fault of the members.
@@ -303,7 +386,7 @@ pub fn read_queue(alloc: Global, body: &[u8]) -> Result<Option<QueueName>, Fault
     ensures { Meets result (queue_of_body body.now) }
 {
     let body = read_object(alloc, body)?;
-    if have_kinds(&body, &[URL]) {
+    if have_kinds(&body, &[("QueueUrl", Kind::Text)]) {
         queue_given(text_in(&body, "QueueUrl"))
     } else {
         Err(Fault::SerializationException)

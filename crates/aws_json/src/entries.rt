@@ -30,10 +30,10 @@ pub(crate) const LONGEST_BATCH: u64 = 1_048_576;
 const ID: (&str, Kind) = ("Id", Kind::Text);
 
 /// The handle of a receive.
-pub(crate) const HANDLE: (&str, Kind) = ("ReceiptHandle", Kind::Text);
+const HANDLE: (&str, Kind) = ("ReceiptHandle", Kind::Text);
 
 /// How long a message stays in flight, in seconds.
-pub(crate) const TIMEOUT: (&str, Kind) = ("VisibilityTimeout", Kind::Number);
+const TIMEOUT: (&str, Kind) = ("VisibilityTimeout", Kind::Number);
 
 /// A member's text; one that is missing counts as empty.
 fn text_or_empty<'v>(name: &str, body: &'v Value) -> &'v str
@@ -163,7 +163,7 @@ pub(crate) fn message_given(alloc: Global, body: &Value) -> Result<GivenMessage,
 }
 
 /// Whether the members that tell of a message to be sent have their kinds.
-pub(crate) fn has_message_kinds(body: &Value) -> bool
+fn has_message_kinds(body: &Value) -> bool
     ensures { result ≡ have_kinds message_columns (view body.now) }
 {
     have_kinds(

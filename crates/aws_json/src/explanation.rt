@@ -11,7 +11,7 @@ ghost use Rattle.std.specs.Char.{is_control};
 ghost use Rattle.std.specs.Str.{NoCharPasses};
 
 mod batches;
-pub(crate) mod kinds;
+mod kinds;
 mod later;
 mod sent;
 mod settings;

@@ -11,6 +11,7 @@
 //!   [`Patterns`]: which message attributes a receive asks for.
 //! - [`Prefix`] and [`QueueNames`]: which queues a client lists, and which there are.
 //! - [`Listed`]: a list, which contracts see as such.
+//! - [`action_place`], [`action_at`], [`ACTION_COUNT`]: the actions that are served, each at its place in a table.
 //! - [`read_object`]: the JSON object that a body is. [`read_queue`]: the queue that it names.
 //!
 //! Each contract but that of [`explain`] is exact: it names the value, or the one refusal, that a
@@ -39,7 +40,7 @@ mod selection;
 mod tests;
 mod text;
 
-pub use actions::{parse, read_queue};
+pub use actions::{ACTION_COUNT, action_at, action_place, parse, read_queue};
 pub use attribute_names::{QueueAttribute, SystemAttribute};
 pub use batch::{BatchAnswer, BatchAnswers, BatchEntry, Entries, EntryReply};
 pub use explanation::explain;

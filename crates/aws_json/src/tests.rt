@@ -363,3 +363,13 @@ fn refusals(rt: HostRuntime) -> Result<(), Fail> {
     assert_eq!(rt; told.as_str(), REFUSALS);
     Ok(())
 }
+
+/// Each action that is served has a place of its own, and nothing else has one.
+#[test]
+fn places_of_actions(rt: HostRuntime) {
+    for place in 0..ACTION_COUNT {
+        assert!(rt; action_at(place).and_then(action_place) == Some(place));
+    }
+    assert!(rt; action_at(ACTION_COUNT).is_none());
+    assert!(rt; action_place("sendMessage").is_none());
+}

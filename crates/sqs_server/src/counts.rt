@@ -2,6 +2,7 @@
 
 ghost use Rattle.std.specs.Prelude.{◌≡◌, ◌<◌, IfErr};
 ghost use Rattle.message.specs.declared.fault.Fault.TheVariants.{OutOfMemory};
+ghost use Rattle.request_log.specs.Actions.{places};
 
 use message::Fault;
 use request_log::{PLACES, name_at};
@@ -47,7 +48,7 @@ impl RequestCounts {
 
     /// Counts a request.
     pub fn add(&self, place: usize, status: u16)
-        requires { place < 16 }
+        requires { place < places }
     {
         let place = place * STATUSES.len() + status_place(status);
         if let Some(number) = self.numbers.as_slice().get(place) {

@@ -3,9 +3,8 @@
 ghost use Rattle.std.specs.Prelude.{◌≡◌, map};
 ghost use Rattle.aws_json.specs.Entries.{entry_columns};
 ghost use Rattle.aws_json.specs.Members.{column};
-ghost use Rattle.aws_json.specs.Request.{row};
 
-use crate::actions::Action;
+use crate::actions::{Action, columns_of};
 use crate::batch::EntryKind;
 use crate::explanation::words::{Finding, Looked, found, inside, kind_of};
 use crate::members::{Kind, has_kind, is_attribute, may_be_text};
@@ -54,48 +53,6 @@ fn no_json<T>(
         Err(_) => "UTF-8",
     };
     found(format!(in alloc; "The body is no {what}: it{fault} line {line}, column {column}"))
-}
-
-/// The members that an action knows, with their kinds; without the entries of a batch.
-pub(crate) fn columns_of(action: Action) -> &'static [(&'static str, Kind)]
-    ensures { map (λ c. column c.0.now c.1) result.now ≡ (row action).columns }
-{
-    match action {
-        Action::CreateQueue => &[("QueueName", Kind::Text), ("Attributes", Kind::NamedTexts)],
-        Action::SetQueueAttributes => {
-            &[("QueueUrl", Kind::Text), ("Attributes", Kind::NamedTexts)]
-        }
-        Action::GetQueueUrl => &[("QueueName", Kind::Text)],
-        Action::ListQueues => &[("QueueNamePrefix", Kind::Text)],
-        Action::GetQueueAttributes => {
-            &[("QueueUrl", Kind::Text), ("AttributeNames", Kind::Texts)]
-        }
-        Action::SendMessage => &[
-            ("QueueUrl", Kind::Text),
-            ("MessageBody", Kind::Text),
-            ("DelaySeconds", Kind::Number),
-            ("MessageAttributes", Kind::MessageAttributes),
-        ],
-        Action::ReceiveMessage => &[
-            ("QueueUrl", Kind::Text),
-            ("MaxNumberOfMessages", Kind::Number),
-            ("VisibilityTimeout", Kind::Number),
-            ("WaitTimeSeconds", Kind::Number),
-            ("AttributeNames", Kind::Texts),
-            ("MessageSystemAttributeNames", Kind::Texts),
-            ("MessageAttributeNames", Kind::Texts),
-        ],
-        Action::DeleteMessage => &[("QueueUrl", Kind::Text), ("ReceiptHandle", Kind::Text)],
-        Action::ChangeMessageVisibility => &[
-            ("QueueUrl", Kind::Text),
-            ("ReceiptHandle", Kind::Text),
-            ("VisibilityTimeout", Kind::Number),
-        ],
-        Action::PurgeQueue
-        | Action::DeleteQueue
-        | Action::ListDeadLetterSourceQueues
-        | Action::Batch(_) => &[("QueueUrl", Kind::Text)],
-    }
 }
 
 /// The members that an entry of a batch knows, with their kinds.

@@ -1,8 +1,7 @@
 //! What is said of refused requests.
 
-use crate::actions::{Action, action_named, parse};
+use crate::actions::{ACTION_COUNT, Action, action_at, action_named, columns_of, parse};
 use crate::explain;
-use crate::explanation::kinds::columns_of;
 use crate::request::Request;
 use bodies::{BODIES, FRAMES, NAMES, VALUES};
 use cases::CASES;
@@ -37,10 +36,6 @@ const FAULTS: [Fault; 20] = [
     Fault::Spent,
     Fault::ActorGone,
 ];
-
-/// Every action.
-const ACTIONS: &str =
-    "CreateQueue SetQueueAttributes PurgeQueue DeleteQueue GetQueueUrl ListQueues ListDeadLetterSourceQueues GetQueueAttributes SendMessage ReceiveMessage DeleteMessage ChangeMessageVisibility SendMessageBatch DeleteMessageBatch ChangeMessageVisibilityBatch";
 
 /// The refusal of a name.
 fn fault_named(name: &str) -> Option<Fault> {
@@ -240,7 +235,8 @@ fn hold_values(
     name: &str,
     after: &str,
 ) -> Result<(), Fail> {
-    for action in ACTIONS.split(' ') {
+    for place in 0..ACTION_COUNT {
+        let action = action_at(place).ok_or("an action")?;
         if knows(action, before, name) {
             for value in VALUES.lines() {
                 let body = format!(in alloc; "{before}\"{name}\":{value}{after}")?;
@@ -256,7 +252,8 @@ fn hold_values(
 fn malformed(rt: HostRuntime) -> Result<(), Fail> {
     let alloc = rt.alloc();
     for body in BODIES.lines() {
-        for action in ACTIONS.split(' ') {
+        for place in 0..ACTION_COUNT {
+            let action = action_at(place).ok_or("an action")?;
             hold(&rt, alloc, action, body)?;
         }
     }
