@@ -1,12 +1,13 @@
 -- What a request is about: one queue, and the first command for it, or the directory of queues (Amazon SQS API Reference).
-use Rattle.std.specs.Prelude.{◌≡◌}
+use Rattle.std.specs.Prelude.{◌≡◌, ◌⊎◌, Bool, true, false, List, ℕ, Option, Some, None, Err}
+use Rattle.message.specs.declared.fault.Fault.TheVariants.{OutOfMemory}
 use Rattle.queue_core.specs.declared.command.Command.TheVariants as commands
 use Rattle.aws_json.specs.declared.request.Request.{Request}
 use Rattle.aws_json.specs.declared.request.Request.TheVariants as requests
-use Rattle.request_plan.specs.declared.plan.Step.{Step}
+use Rattle.request_plan.specs.declared.plan.Step.TheVariants as steps
 use Rattle.request_plan.specs.declared.task.Task.{Task}
 use Rattle.request_plan.specs.declared.task.Task.TheVariants.{Create, Delete, Set, Url, Urls, Sources, Ask}
-use Rattle.request_plan.specs.Plan.{done, attributes, receive, batch, Comes}
+use Rattle.request_plan.specs.Plan.{done, attributes, receive, batch}
 
 abbrev pub task_of : Request → Task
 task_of (requests.CreateQueue name wish) = Create name wish
@@ -24,7 +25,25 @@ task_of (requests.ChangeMessageVisibility queue handle timeout) = Ask queue (don
 task_of (requests.PurgeQueue queue) = Ask queue (done commands.Purge)
 task_of (requests.Batch queue entries) = Ask queue (batch entries)
 
+-- the queue that a task names by its URL, if it names one
+abbrev pub queue_of_task : Task → Option (List ℕ)
+queue_of_task (Create name wish) = None
+queue_of_task (Delete queue) = Some queue
+queue_of_task (Set queue wish) = Some queue
+queue_of_task (Url name) = None
+queue_of_task (Urls prefix) = None
+queue_of_task (Sources queue) = Some queue
+queue_of_task (Ask queue step) = Some queue
+
+abbrev pub is_batch : Request → Bool
+is_batch (requests.Batch queue entries) = true
+is_batch request = false
+
+-- a task whose first step found no memory: the same queue, and that answer
+abbrev pub task_without_memory : Task → Task
+task_without_memory (Ask queue step) = Ask queue (steps.Answer (Err OutOfMemory))
+task_without_memory task = task
+
 -- a request begins with its task; of a batch the first step may find no memory
 abbrev pub Begins : Request → Task → Type 0
-Begins (requests.Batch queue entries) task = (step : Step) × (task ≡ Ask queue step) × Comes step (batch entries)
-Begins request task = task ≡ task_of request
+Begins request task = (task ≡ task_of request) ⊎ ((is_batch request ≡ true) × (task ≡ task_without_memory (task_of request)))

@@ -1,7 +1,7 @@
 //! What a request asks, as a value that says what comes next.
 //!
 //! - [`task_of`]: what a request is about, as a [`Task`]: the directory of queues, or one queue and the first [`Step`] of what it
-//!   asks there.
+//!   asks there. [`queue_of_task`]: the queue that it names.
 //! - [`Step`]: a command that is asked of the queue, or the client's answer. [`after`]: what comes after a command, by what became
 //!   of it.
 //!
@@ -15,4 +15,4 @@ mod task;
 mod tests;
 
 pub use plan::{Outcome, Performed, ReceiveParts, Remaining, Step, Then, after};
-pub use task::{Task, task_of};
+pub use task::{Task, queue_of_task, task_of};

@@ -1,6 +1,7 @@
 //! What a request is about: one queue, and the commands for it, or the directory of queues.
 
-ghost use Rattle.request_plan.specs.Task.{Begins};
+ghost use Rattle.std.specs.Prelude.{◌≡◌};
+ghost use Rattle.request_plan.specs.Task.{Begins, queue_of_task};
 
 use crate::plan::{ReceiveParts, Step, attributes, batch, done, receive};
 use aws_json::{Prefix, Request};
@@ -82,5 +83,18 @@ pub fn task_of(alloc: Global, request: Request) -> Task
             queue,
             step: batch(alloc, entries),
         },
+    }
+}
+
+/// The queue that a task names by its URL, if it names one.
+pub fn queue_of_task(task: &Task) -> Option<QueueName>
+    ensures { result ≡ queue_of_task task.now }
+{
+    match task {
+        Task::Create { .. } | Task::Url { .. } | Task::Urls { .. } => None,
+        Task::Delete { queue }
+        | Task::Set { queue, .. }
+        | Task::Sources { queue }
+        | Task::Ask { queue, .. } => Some(*queue),
     }
 }

@@ -30,8 +30,6 @@ use Rattle.redrive.proofs.AnswerLemmas.{meets-itself, performed-done, confirmed-
 use Rattle.redrive.proofs.OpeningLemmas.{opened-more, next_name-new, next_name-place}
 use Rattle.redrive.proofs.RegistryLemmas.{IsRegistry-empty, IsRegistry-with_queue, IsRegistry-after_step, IsRegistry-at_moment, IsRegistry-without, IsRegistry-moved}
 use Rattle.redrive.proofs.RunLemmas.{AreAnswered, AreHouseAnswers-run, AreTold-run}
-use Rattle.aws_json.specs.declared.request.Request.{Request}
-use Rattle.aws_json.specs.declared.request.Request.TheVariants as requests
 use Rattle.request_plan.specs.declared.plan.Step.{Step}
 use Rattle.request_plan.specs.declared.plan.Step.TheVariants as plan
 use Rattle.request_plan.specs.declared.task.Task.{Task}
@@ -43,7 +41,7 @@ use Rattle.sqs_replay.specs.declared.answer.Timed.{Timed}
 use Rattle.sqs_replay.specs.Answers.{texts, state_after}
 use Rattle.sqs_replay.specs.Moves.{world_between, confirmed_world, world_after_move, goes_on, some_moves, message_count_in, all_moves}
 use Rattle.sqs_replay.specs.Served.{AnswerAndWorld, unchanged, step_served, played, most_commands, task_served, named_sheet_served, asked_of, queue_of_asked, asked_served, line_served, text_of_line, world_of_line}
-use Rattle.sqs_replay.specs.Steps.{AskNoDeletion, LineCourse, DeleteNone, IsOutputOf, asks_deletion, deletes_queue, is_deletion}
+use Rattle.sqs_replay.specs.Steps.{AskNoDeletion, LineCourse, DeleteNone, IsOutputOf, asks_deletion, deletes, deletes_queue, is_deletion}
 
 -- ---- steps one after another, each taken in a registry
 
@@ -88,26 +86,6 @@ opened-where true None false e = (refl, refl)
 opened-where true None true e = absurd cc
 opened-where true (Some q) full e = absurd cc
 opened-where false o full e = absurd cc
-
--- whether a task deletes a queue
-abbrev deletes : Task → Bool
-deletes (tasks.Delete queue) = true
-deletes task = false
-
-deletes-asked : (request : Request) → deletes (task_of request) ≡ deletes_queue (Client request)
-deletes-asked (requests.CreateQueue name wish) = refl
-deletes-asked (requests.DeleteQueue queue) = refl
-deletes-asked (requests.GetQueueUrl name) = refl
-deletes-asked (requests.ListQueues prefix) = refl
-deletes-asked (requests.ListDeadLetterSourceQueues queue) = refl
-deletes-asked (requests.GetQueueAttributes queue names) = refl
-deletes-asked (requests.ReceiveMessage queue maximum timeout wait names patterns) = refl
-deletes-asked (requests.SendMessage queue content delay) = refl
-deletes-asked (requests.DeleteMessage queue handle) = refl
-deletes-asked (requests.ChangeMessageVisibility queue handle timeout) = refl
-deletes-asked (requests.SetQueueAttributes queue wish) = refl
-deletes-asked (requests.PurgeQueue queue) = refl
-deletes-asked (requests.Batch queue entries) = refl
 
 module _ (may : Bool) where
   stays : (w : World) → IsRegistry w → Walk may w w
@@ -284,7 +262,7 @@ module _ (may : Bool) where
   look-walk w at queue h = in-queue-walk w _ (found_uid w queue) h (λ uid. command-walk w uid at commands.Look h)
 
   asked-walk : (w : World) (at : ℕ) (asked : Asked) → (may ≡ false → deletes_queue asked ≡ false) → IsRegistry w → Walk may w (asked_served w at asked).world
-  asked-walk w at (Client request) keeps h = task-walk w at (task_of request) (λ none. deletes-asked request ∙ keeps none) h
+  asked-walk w at (Client request) keeps h = task-walk w at (task_of request) keeps h
   asked-walk w at Tick keeps h = time-walk w at h
   asked-walk w at (Statistics None) keeps h = time-walk w at h
   asked-walk w at (Statistics (Some queue)) keeps h = look-walk w at queue h

@@ -1,5 +1,5 @@
 -- The steps of a request, one on and at their end.
-use Rattle.std.proofs.Common.{◌≡◌, ◌⊎◌, inl, inr, ℕ, zero, suc, ◌≤◌, Bool, true, false, List, [], ◌∷◌, ◌++◌, length, Option, Some, None, Result, Ok, Err, if◌then◌else◌, refl, sym, ap, subst, ◌∙◌, arith}
+use Rattle.std.proofs.Common.{◌≡◌, ◌⊎◌, inl, inr, ℕ, zero, suc, ◌≤◌, Bool, true, false, List, [], ◌∷◌, ◌++◌, length, Option, Some, None, Result, Ok, Err, if◌then◌else◌, refl, ap, subst, ◌∙◌, arith}
 use Rattle.std.specs.Option.{option_map_or}
 use Rattle.message.specs.declared.fault.Fault.{Fault}
 use Rattle.message.specs.declared.fault.Fault.TheVariants.{OutOfMemory, QueueDoesNotExist}
@@ -11,7 +11,7 @@ use Rattle.aws_json.specs.declared.batch.BatchAnswer.{BatchAnswer}
 use Rattle.aws_json.specs.declared.batch.BatchEntry.{BatchEntry}
 use Rattle.aws_json.specs.declared.reply.ReplyShape.{ReplyShape}
 use Rattle.aws_json.specs.declared.request.Request.{Request}
-use Rattle.aws_json.specs.declared.request.Request.TheVariants as requests
+use Rattle.aws_json.specs.Steps.{result_map}
 use Rattle.redrive.specs.World.{World, found_uid}
 use Rattle.request_plan.specs.declared.plan.Performed.{Performed}
 use Rattle.request_plan.specs.declared.plan.Step.{Step}
@@ -21,8 +21,10 @@ use Rattle.request_plan.specs.declared.plan.Then.TheVariants as thens
 use Rattle.request_plan.specs.declared.plan.ReceiveParts.{ReceiveParts}
 use Rattle.request_plan.specs.declared.task.Task.{Task}
 use Rattle.request_plan.specs.declared.task.Task.TheVariants as tasks
-use Rattle.request_plan.specs.Plan.{Comes, Follows, after, batch, by_case, next_entry, receive_looked}
-use Rattle.request_plan.specs.Task.{Begins, task_of}
+use Rattle.request_plan.specs.Plan.{Comes, Follows, after, by_case, next_entry, receive_looked}
+use Rattle.request_plan.specs.Task.{Begins, queue_of_task, task_of, task_without_memory}
+use Rattle.sqs_replay.specs.declared.shown.LineAnswer.{LineAnswer}
+use Rattle.sqs_replay.specs.declared.shown.LineAnswer.TheVariants as shown
 use Rattle.sqs_replay.specs.Served.{AnswerAndWorld, Leaves, most_behind, most_commands, played, step_served, steps_served, task_served, unchanged}
 use Rattle.sqs_replay.proofs.Memory.{memory_or_other, met}
 
@@ -109,25 +111,13 @@ enough-played (suc n) now uid at (steps.Ask command seconds purpose) (suc most) 
 
 -- ---- the task of a request; of a batch memory may have run out
 
-begun : (request : Request) (task : Task) → Begins request task → (task ≡ task_of request)
-    ⊎ ((queue : List ℕ) × (step : Step) × (task_of request ≡ tasks.Ask queue step) × (task ≡ tasks.Ask queue (steps.Answer (Err OutOfMemory))))
-begun (requests.CreateQueue name wish) task h = inl h
-begun (requests.DeleteQueue queue) task h = inl h
-begun (requests.GetQueueUrl name) task h = inl h
-begun (requests.ListQueues prefix) task h = inl h
-begun (requests.ListDeadLetterSourceQueues queue) task h = inl h
-begun (requests.GetQueueAttributes queue names) task h = inl h
-begun (requests.ReceiveMessage queue maximum timeout wait names patterns) task h = inl h
-begun (requests.SendMessage queue content delay) task h = inl h
-begun (requests.DeleteMessage queue handle) task h = inl h
-begun (requests.ChangeMessageVisibility queue handle timeout) task h = inl h
-begun (requests.SetQueueAttributes queue wish) task h = inl h
-begun (requests.PurgeQueue queue) task h = inl h
-begun (requests.Batch queue entries) task (step, is, comes) =
-    elim comes [
-      | inl wanted ↦ inl (is ∙ ap (tasks.Ask queue) wanted)
-      | inr memory ↦ inr (queue, batch entries, refl, is ∙ ap (tasks.Ask queue) memory)
-    ]
+same-queue : (task : Task) → queue_of_task (task_without_memory task) ≡ queue_of_task task
+same-queue (tasks.Ask queue step) = refl
+same-queue task = refl
+
+pub begun_queue : (request : Request) (task : Task) → Begins request task → queue_of_task task ≡ queue_of_task (task_of request)
+begun_queue request task (inl same) = ap queue_of_task same
+begun_queue request task (inr (batch, memory)) = ap queue_of_task memory ∙ same-queue (task_of request)
 
 meets_memory : {T : Type 0} (answer : Result T Fault) → Meets answer (Err OutOfMemory) → is_out_of_memory answer ≡ true
 meets_memory answer meets =
@@ -136,24 +126,23 @@ meets_memory answer meets =
       | inr other ↦ ap is_out_of_memory (met answer (Err OutOfMemory) other meets)
     ]
 
-module _ (w left : World) (result : Result ReplyShape Fault) where
+module _ (w left : World) (at : ℕ) (result : Result LineAnswer Fault) where
   abbrev IsMet : AnswerAndWorld (Result ReplyShape Fault) → Type 0
-  IsMet s = Meets result s.answer × Leaves result left s.world
+  IsMet s = Meets result (result_map shown.Reply s.answer) × Leaves result left s.world
 
-  begun_in : (found : Option ℕ) (serve : ℕ → AnswerAndWorld (Result ReplyShape Fault))
+  met_in : (found : Option ℕ) (serve : ℕ → AnswerAndWorld (Result ReplyShape Fault))
       → IsMet (option_map_or (λ uid. unchanged w (Err OutOfMemory)) found (unchanged w (Err QueueDoesNotExist)))
       → IsMet (option_map_or serve found (unchanged w (Err QueueDoesNotExist)))
-  begun_in None serve h = h
-  begun_in (Some uid) serve h = let no_memory : is_out_of_memory result ≡ true = meets_memory result h.0 in (rw no_memory tt, rw no_memory tt)
+  met_in None serve h = h
+  met_in (Some uid) serve h = let no_memory : is_out_of_memory result ≡ true = meets_memory result h.0 in (rw no_memory tt, rw no_memory tt)
 
-  pub begun_served : (at : ℕ) (request : Request) (task : Task) → Begins request task
-      → Meets result (task_served w at task).answer → Leaves result left (task_served w at task).world
-      → Meets result (task_served w at (task_of request)).answer × Leaves result left (task_served w at (task_of request)).world
-  begun_served at request task begins meets leaves =
-      elim (begun request task begins) [
-        | inl same ↦ subst (λ (t : Task). IsMet (task_served w at t)) same (meets, leaves)
-        | inr h ↦
-            let none : IsMet (task_served w at (tasks.Ask h.0 (steps.Answer (Err OutOfMemory)))) =
-            subst (λ (t : Task). IsMet (task_served w at t)) h.3 (meets, leaves) in
-            subst (λ (t : Task). IsMet (task_served w at t)) (sym h.2) (begun_in (found_uid w h.0) (λ uid. steps_served w uid at h.1) none)
-      ]
+  met_memory : (task : Task) → IsMet (task_served w at (task_without_memory task)) → IsMet (task_served w at task)
+  met_memory (tasks.Ask queue step) h = met_in (found_uid w queue) (λ uid. steps_served w uid at step) h
+  met_memory task h = h
+
+  pub begun_served : (request : Request) (task : Task) → Begins request task
+      → Meets result (result_map shown.Reply (task_served w at task).answer) → Leaves result left (task_served w at task).world
+      → Meets result (result_map shown.Reply (task_served w at (task_of request)).answer) × Leaves result left (task_served w at (task_of request)).world
+  begun_served request task (inl same) meets leaves = subst (λ (t : Task). IsMet (task_served w at t)) same (meets, leaves)
+  begun_served request task (inr (batch, memory)) meets leaves =
+      met_memory (task_of request) (subst (λ (t : Task). IsMet (task_served w at t)) memory (meets, leaves))

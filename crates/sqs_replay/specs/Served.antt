@@ -15,7 +15,6 @@ use Rattle.aws_json.specs.Request.{request_of, queue_of_body}
 use Rattle.aws_json.specs.Reply.{reply_data}
 use Rattle.aws_json.specs.FaultText.{fault_body, fault_status}
 use Rattle.aws_json.specs.declared.request.Request.{Request}
-use Rattle.aws_json.specs.declared.request.Request.TheVariants as requests
 use Rattle.aws_json.specs.declared.reply.ReplyShape.{ReplyShape}
 use Rattle.aws_json.specs.declared.reply.ReplyShape.TheVariants.{QueueUrl, QueueUrls, SourceQueueUrls, Nothing}
 use Rattle.request_plan.specs.declared.plan.Performed.{Performed}
@@ -26,7 +25,7 @@ use Rattle.request_plan.specs.declared.plan.Then.TheVariants as thens
 use Rattle.request_plan.specs.declared.task.Task.{Task}
 use Rattle.request_plan.specs.declared.task.Task.TheVariants as tasks
 use Rattle.request_plan.specs.Plan.{after}
-use Rattle.request_plan.specs.Task.{task_of}
+use Rattle.request_plan.specs.Task.{queue_of_task, task_of}
 use Rattle.sqs_replay.specs.declared.answer.Asked.{Asked}
 use Rattle.sqs_replay.specs.declared.answer.Asked.TheVariants.{Client, Tick, Statistics, Rows, Alarms}
 use Rattle.sqs_replay.specs.declared.answer.Timed.{Timed}
@@ -174,23 +173,8 @@ asked_served w at (Rows queue) = sheet_shown shown.Rows w at queue
 asked_served w at (Alarms queue) = sheet_shown shown.Alarms w at queue
 
 -- the queue that a line names by its URL, if it names one
-abbrev pub queue_of_request : Request → Option (List ℕ)
-queue_of_request (requests.CreateQueue name wish) = None
-queue_of_request (requests.DeleteQueue queue) = Some queue
-queue_of_request (requests.GetQueueUrl name) = None
-queue_of_request (requests.ListQueues prefix) = None
-queue_of_request (requests.ListDeadLetterSourceQueues queue) = Some queue
-queue_of_request (requests.GetQueueAttributes queue names) = Some queue
-queue_of_request (requests.ReceiveMessage queue maximum timeout wait names patterns) = Some queue
-queue_of_request (requests.SendMessage queue content delay) = Some queue
-queue_of_request (requests.DeleteMessage queue handle) = Some queue
-queue_of_request (requests.ChangeMessageVisibility queue handle timeout) = Some queue
-queue_of_request (requests.SetQueueAttributes queue wish) = Some queue
-queue_of_request (requests.PurgeQueue queue) = Some queue
-queue_of_request (requests.Batch queue entries) = Some queue
-
 abbrev pub queue_of_asked : Asked → Option (List ℕ)
-queue_of_asked (Client request) = queue_of_request request
+queue_of_asked (Client request) = queue_of_task (task_of request)
 queue_of_asked Tick = None
 queue_of_asked (Statistics queue) = queue
 queue_of_asked (Rows queue) = Some queue

@@ -2,7 +2,6 @@
 use Rattle.std.specs.Prelude.{◌≡◌, ℕ, ⊤, Bool, true, false, List, [], ◌∷◌, ◌++◌, map, Result, Ok, Err}
 use Rattle.message.specs.declared.fault.Fault.{Fault}
 use Rattle.queue_config.specs.Config.{Configuration}
-use Rattle.aws_json.specs.declared.request.Request.TheVariants as requests
 use Rattle.redrive.specs.declared.steps.HouseStep.{HouseStep}
 use Rattle.redrive.specs.declared.steps.HouseStep.TheVariants as steps
 use Rattle.redrive.specs.World.{World, new_world}
@@ -11,6 +10,9 @@ use Rattle.redrive.specs.History.{AllQueues}
 use Rattle.redrive.specs.HistorySteps.{Own}
 use Rattle.redrive.specs.WholeSteps.{whole_after_steps}
 use Rattle.redrive.specs.Places.{first_history, EachAcceptedOnce, EachHasItsFate, EachHasOnePlace, NoRelayDeleted}
+use Rattle.request_plan.specs.declared.task.Task.{Task}
+use Rattle.request_plan.specs.declared.task.Task.TheVariants as tasks
+use Rattle.request_plan.specs.Task.{task_of}
 use Rattle.sqs_replay.specs.declared.answer.Asked.{Asked}
 use Rattle.sqs_replay.specs.declared.answer.Asked.TheVariants.{Client}
 use Rattle.sqs_replay.specs.declared.answer.Timed.{Timed}
@@ -40,9 +42,14 @@ abbrev pub DeleteNone : List HouseStep → Type 0
 DeleteNone [] = ⊤
 DeleteNone (step ∷ steps) = (is_deletion step ≡ false) × DeleteNone steps
 
--- whether it is asked to delete a queue
+-- whether a task is to delete a queue
+abbrev pub deletes : Task → Bool
+deletes (tasks.Delete queue) = true
+deletes task = false
+
+-- whether what is asked is the deletion of a queue, so only of DeleteQueue
 abbrev pub deletes_queue : Asked → Bool
-deletes_queue (Client (requests.DeleteQueue queue)) = true
+deletes_queue (Client request) = deletes (task_of request)
 deletes_queue asked = false
 
 -- the same of a line, where it can be read

@@ -7,8 +7,10 @@ ghost use Rattle.aws_json.specs.declared.reply.ReplyShape.TheVariants.{QueueUrl,
 ghost use Rattle.aws_json.specs.Steps.{result_map};
 ghost use Rattle.aws_json.specs.Request.{request_of};
 ghost use Rattle.request_plan.specs.declared.task.Task.TheVariants.{Create, Delete, Set, Ask};
+ghost use Rattle.request_plan.specs.Task.{queue_of_task, task_of};
 ghost use Rattle.sqs_replay.specs.declared.answer.Asked.TheVariants.{Client};
-ghost use Rattle.sqs_replay.specs.Served.{asked_by, asked_of, unchanged, in_queue, delete_served, task_served, served, asked_served, queue_of_request, queue_of_asked, required_queue, timed_served, line_served, answer_text, text_of_line, world_of_line, Leaves};
+ghost use Rattle.sqs_replay.specs.declared.shown.LineAnswer.TheVariants.{Reply};
+ghost use Rattle.sqs_replay.specs.Served.{asked_by, asked_of, unchanged, in_queue, delete_served, task_served, served, asked_served, queue_of_asked, required_queue, timed_served, line_served, answer_text, text_of_line, world_of_line, Leaves};
 
 use crate::ReplayFault;
 use crate::input_line::{InputLine, read_line};
@@ -25,7 +27,7 @@ use message::{Fault, QueueName};
 use queue_config::Wish;
 use queue_core::Command;
 use redrive::House;
-use request_plan::{Step, Task, task_of};
+use request_plan::{Step, Task, queue_of_task, task_of};
 use std::alloc::Global;
 
 /// What a line asks.
@@ -245,6 +247,27 @@ fn serve_task(
     }
 }
 
+/// Does what a request is about, and shows what is replied.
+fn show_reply(
+    alloc: Global,
+    house: &mut House,
+    at: Moment,
+    task: Task,
+    ticks: &mut Ticks,
+) -> Result<LineAnswer, Fault>
+    ensures answer { Meets result (result_map Reply (task_served house.old at task).answer) }
+    ensures state { Leaves result house.new (task_served house.old at task).world }
+{
+    Ok(LineAnswer::Reply(serve_task(alloc, house, at, task, ticks)?))
+}
+
+/// An answer, and the queue whose dead letters then move.
+#[derive(Drop)]
+struct AskedAnswer {
+    answer: Result<LineAnswer, Fault>,
+    queue: Option<QueueName>,
+}
+
 /// Answers a client's request.
 fn serve(
     alloc: Global,
@@ -252,66 +275,48 @@ fn serve(
     at: Moment,
     request: Request,
     ticks: &mut Ticks,
-) -> Result<ReplyShape, Fault>
-    ensures answer { Meets result (served house.old at request).answer }
-    ensures state { Leaves result house.new (served house.old at request).world }
+) -> AskedAnswer
+    ensures queue { result.queue ≡ queue_of_task (task_of request) }
+    ensures answer { Meets result.answer (result_map Reply (served house.old at request).answer) }
+    ensures state { Leaves result.answer house.new (served house.old at request).world }
 {
-    serve_task(alloc, house, at, task_of(alloc, request), ticks)
+    let task = task_of(alloc, request);
+    let queue = queue_of_task(&task);
+    let answer = show_reply(alloc, house, at, task, ticks);
+    AskedAnswer { answer, queue }
 }
 
 /// Answers what a line asks.
-fn serve_asked(
-    alloc: Global,
-    house: &mut House,
-    timed: Timed,
-    ticks: &mut Ticks,
-) -> Result<LineAnswer, Fault>
-    ensures answer { Meets result (asked_served house.old timed.at timed.asked).answer }
-    ensures state { Leaves result house.new (asked_served house.old timed.at timed.asked).world }
+fn serve_asked(alloc: Global, house: &mut House, timed: Timed, ticks: &mut Ticks) -> AskedAnswer
+    ensures queue { result.queue ≡ queue_of_asked timed.asked }
+    ensures answer { Meets result.answer (asked_served house.old timed.at timed.asked).answer }
+    ensures state { Leaves result.answer house.new (asked_served house.old timed.at timed.asked).world }
 {
     let Timed { at, asked } = timed;
     match asked {
-        Asked::Client(request) => Ok(LineAnswer::Reply(serve(alloc, house, at, request, ticks)?)),
+        Asked::Client(request) => serve(alloc, house, at, request, ticks),
         Asked::Tick => {
             house.advance_all(at, ticks);
-            Ok(LineAnswer::Reply(ReplyShape::Nothing))
+            let answer = Ok(LineAnswer::Reply(ReplyShape::Nothing));
+            AskedAnswer {
+                answer,
+                queue: None,
+            }
         }
-        Asked::Statistics(queue) => show_statistics(alloc, house, at, queue, ticks),
-        Asked::Rows(queue) => show_rows(alloc, house, at, &queue, ticks),
-        Asked::Alarms(queue) => show_alarms(alloc, house, at, &queue, ticks),
-    }
-}
-
-/// The queue that a request names by its URL, if it names one.
-fn queue_of_request(request: &Request) -> Option<QueueName>
-    ensures { result ≡ queue_of_request request.now }
-{
-    match request {
-        Request::CreateQueue { .. } | Request::GetQueueUrl { .. } | Request::ListQueues { .. } => {
-            None
+        Asked::Statistics(queue) => {
+            let answer = show_statistics(alloc, house, at, &queue, ticks);
+            AskedAnswer { answer, queue }
         }
-        Request::DeleteQueue { queue }
-        | Request::ListDeadLetterSourceQueues { queue }
-        | Request::GetQueueAttributes { queue, .. }
-        | Request::ReceiveMessage { queue, .. }
-        | Request::SendMessage { queue, .. }
-        | Request::DeleteMessage { queue, .. }
-        | Request::ChangeMessageVisibility { queue, .. }
-        | Request::SetQueueAttributes { queue, .. }
-        | Request::PurgeQueue { queue }
-        | Request::Batch { queue, .. } => Some(*queue),
-    }
-}
-
-/// The queue that a line names by its URL, if it names one.
-fn queue_of_asked(asked: &Asked) -> Option<QueueName>
-    ensures { result ≡ queue_of_asked asked.now }
-{
-    match asked {
-        Asked::Client(request) => queue_of_request(request),
-        Asked::Tick => None,
-        Asked::Statistics(queue) => *queue,
-        Asked::Rows(queue) | Asked::Alarms(queue) => Some(*queue),
+        Asked::Rows(queue) => {
+            let answer = show_rows(alloc, house, at, &queue, ticks);
+            let queue = Some(queue);
+            AskedAnswer { answer, queue }
+        }
+        Asked::Alarms(queue) => {
+            let answer = show_alarms(alloc, house, at, &queue, ticks);
+            let queue = Some(queue);
+            AskedAnswer { answer, queue }
+        }
     }
 }
 
@@ -326,8 +331,7 @@ fn serve_timed(
     ensures state { Leaves result house.new (timed_served house.old timed).world }
 {
     let at = timed.at;
-    let queue = queue_of_asked(&timed.asked);
-    let answer = serve_asked(alloc, house, timed, ticks);
+    let AskedAnswer { answer, queue } = serve_asked(alloc, house, timed, ticks);
     if has_no_memory(&answer) {
         return answer;
     }

@@ -37,9 +37,11 @@ pub fn outputs_are_of_steps()
         → IsOutputOf (new_world config 0) (new_world config 0) (lines_of input) (replay_output config input) }
 {}
 
-/// Whatever the lines are: no dead letter is accepted twice, each departure has its fate, and each message is in one place
-/// at most, unless a queue was deleted while it relayed a message. All three hold of whole journals, the first and the last
-/// also of those that are there, which may begin with a checkpoint.
+/// After any steps of the registry that a configuration makes, each with an answer that it may have, looks and receives with
+/// what the journal gives: no dead letter is accepted twice, each departure has its fate, and each message is in one place at
+/// most, unless a queue was deleted while it relayed a message. All three hold of whole journals, the first and the last also
+/// of those that are there, which may begin with a checkpoint. No line is named here: [`lines_are_steps`] and [`outputs_are_of_steps`] say what lines have to
+/// do with such steps.
 pub fn lines_keep_dead_letters()
     ensures { (config : Configuration) (new : World) (course : LineCourse (new_world config 0) new) → KeepsDeadLetters config new course }
 {
@@ -66,8 +68,9 @@ pub fn steps_come_to_their_end()
         → played most w uid at step ≡ steps_served w uid at step }
 {}
 
-/// After steps none of which deletes a queue [courses], and after lines none of which asks for it [lines], each message is in
-/// one place at most, by whole journals and by those that are there.
+/// After any steps none of which deletes a queue, each message is in one place at most, by whole journals and by those that
+/// are there [courses]. Where no line asks to delete a queue, there are such steps that leave the registry which the lines
+/// leave, and this holds after them [lines]. That clause says nothing of what the lines are answered.
 pub fn lines_without_deletions_keep_one_place()
     ensures courses { (config : Configuration) (new : World) (course : LineCourse (new_world config 0) new) → DeleteNone course.steps
         → EachHasOnePlace (everything_after config new course) × EachHasOnePlace (kept_after config new course) }

@@ -108,14 +108,14 @@ pub(crate) fn show_statistics(
     alloc: Global,
     house: &mut House,
     at: Moment,
-    queue: Option<QueueName>,
+    queue: &Option<QueueName>,
     ticks: &mut Ticks,
 ) -> Result<LineAnswer, Fault>
-    ensures answer { Meets result (asked_served house.old at (Statistics queue)).answer }
-    ensures state { Leaves result house.new (asked_served house.old at (Statistics queue)).world }
+    ensures answer { Meets result (asked_served house.old at (Statistics queue.now)).answer }
+    ensures state { Leaves result house.new (asked_served house.old at (Statistics queue.now)).world }
 {
     match queue {
-        Some(name) => Ok(LineAnswer::Queue(named_sheet(alloc, house, at, &name, ticks)?)),
+        Some(name) => Ok(LineAnswer::Queue(named_sheet(alloc, house, at, name, ticks)?)),
         None => Ok(LineAnswer::Queues(all_sheets(alloc, house, at, ticks)?)),
     }
 }
