@@ -3,12 +3,12 @@
 ghost use Rattle.std.specs.Prelude.{◌≡◌, IfOk};
 ghost use Rattle.std.specs.Arc.{arc_value};
 
-use crate::types::{Client, Letter, Place};
+use crate::types::{Client, Place};
 use crossbeam_channel::unbounded;
 use desk::{Desk, NoPress, Pass};
 use journal::Moment;
 use message::{Fault, QueueName};
-use queue_actor::{Actor, Duties, Served};
+use queue_actor::{Actor, Duties, Envelope, Served};
 use queue_config::{Limits, Settings};
 use queue_core::QueueState;
 use std::alloc::Global;
@@ -41,7 +41,7 @@ pub(crate) fn served(
     settings: Settings,
     limits: Limits,
 ) -> Result<(Client, Place), Fault> {
-    let (mailbox, mails) = unbounded::<Letter, Global>(alloc)?;
+    let (mailbox, mails) = unbounded::<Envelope<NoPress>, Global>(alloc)?;
     let (desk, mut pass) = opened(rt, alloc, uid, name, settings, limits)?;
     let own = desk.pass(&mut pass);
     let duties = Arc::new(alloc, Duties::new())?;

@@ -4,14 +4,16 @@ use crate::callers::{begin, sends};
 use crate::fakes::{Barrier, MOST_LOOKS, Moments, Numbered, serve_all};
 use crate::opened::served;
 use crate::reading::told_in_a_turn;
-use crate::types::{Client, Letter, Place, Shared};
+use crate::types::{Client, Place, Shared};
 use crate::words::{command, moment, number, parts, policy, tell};
 use crossbeam_channel::Receiver;
 use desk::{Gate, NoGate, NoPress};
 use futures::task::Poll;
 use futures::test::MockTask;
 use message::{Fault, QueueName};
-use queue_actor::{Actor, Answer, Ask, AskFault, AskFuture, Mail, Served, ask_now, deadline_loop};
+use queue_actor::{
+    Actor, Answer, Ask, AskFault, AskFuture, Envelope, Mail, Outbox, Served, ask_now, deadline_loop,
+};
 use queue_config::{Limits, Settings};
 use std::alloc::{AllocGlobal, Global};
 use std::collections::VecDeque;
@@ -60,8 +62,8 @@ fn tell_given(text: &mut String, given: &[(u64, Answer<NoPress>)]) -> Result<(),
 }
 
 /// The moment of a mail, 0 where it has none.
-fn moment_of(letter: &Letter) -> u64 {
-    match letter {
+fn moment_of(letter: &Envelope<NoPress>) -> u64 {
+    match letter.mail() {
         Mail::Tick(at) => at.milliseconds(),
         Mail::Ask(ask) => ask.moment.milliseconds(),
         Mail::End => 0,
@@ -109,7 +111,7 @@ struct Service<R> {
     rt: R,
     alloc: Global,
     actor: Actor<NoPress>,
-    mails: Receiver<Letter>,
+    mails: Receiver<Envelope<NoPress>>,
     directory: Arc<Shared>,
     gate: Arc<Barrier>,
 }
@@ -306,7 +308,7 @@ impl Stage {
             "late" => self.serve_late(rt, who),
             "ask" => self.ask(rt, who, text),
             "end" => {
-                let _ = self.client(rt, who)?.mailbox.send(rt, Mail::End);
+                let _ = self.client(rt, who)?.mailbox.put(rt, Mail::End);
                 Ok(1)
             }
             "work" => Ok(work(

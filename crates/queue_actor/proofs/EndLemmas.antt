@@ -1,6 +1,7 @@
 -- The earliest end of the waits of polls, as polls come and are looked at.
 use Rattle.std.proofs.Common.{◌≡◌, ℕ, ◌<◌, ◌≤◌, Bool, true, false, cond, List, [], ◌∷◌, ◌++◌, refl, subst, sym, inl, inr, arith}
 use Rattle.std.specs.Prelude.{nat_lt}
+use Rattle.std.specs.List.{All}
 use Rattle.std.proofs.lemmas.Bool.{ltb-false, ltb-true}
 use Rattle.std.proofs.lemmas.List.Elements.{All-cons, All-head, All-nil, All-push, All-same, All-tail, All-weaker}
 use Rattle.desk.specs.Views.{Knowledge}
@@ -54,18 +55,36 @@ module _ {P S Told : Type 0} where
   ends_beyond soonest at asks less h =
       All-weaker (λ (r : Ask P S Told). soonest ≤ r.wait_until) (λ (r : Ask P S Told). at < r.wait_until) (λ r end. omega (arith, less, end)) asks h
 
-  kept_ends : (soonest : ℕ) (kept : Bool) (r : Ask P S Told) (others : List (Ask P S Told)) → soonest ≤ r.wait_until → EndFrom soonest others → EndFrom soonest (with_kept kept r others)
-  kept_ends soonest true r others first h = All-cons (λ (x : Ask P S Told). soonest ≤ x.wait_until) r others first h
-  kept_ends soonest false r others first h = h
+  kept_all : (Q : Ask P S Told → Type 0) (kept : Bool) (r : Ask P S Told) (others : List (Ask P S Told)) → Q r → All Q others → All Q (with_kept kept r others)
+  kept_all Q true r others first h = All-cons Q r others first h
+  kept_all Q false r others first h = h
 
-  -- those that go on waiting behind a look end no sooner
+  -- what holds of all polls holds of those that go on waiting behind a look
+  pub looked_all : (Q : Ask P S Told → Type 0) (limit at : ℕ) (quiet : Bool) (before after : Knowledge) (parked left : List (Ask P S Told)) (happened : List (MailboxEvent (Mail P S Told) S Answered))
+      → LooksOver limit at quiet before parked happened after left → All Q parked → All Q left
+  looked_all Q limit at quiet before after [] left happened looks h = All-same Q left [] looks.2 h
+  looked_all Q limit at quiet before after (r ∷ rs) left happened looks h =
+      All-same Q left (with_kept looks.0 r looks.4) looks.7
+      (kept_all Q looks.0 r looks.4 (All-head Q r rs h) (looked_all Q limit at looks.0 looks.3 after rs looks.4 looks.2 looks.8 (All-tail Q r rs h)))
+
+  -- so those that go on waiting behind a look end no sooner
   pub looked_ends : (soonest limit at : ℕ) (quiet : Bool) (before after : Knowledge) (parked left : List (Ask P S Told)) (happened : List (MailboxEvent (Mail P S Told) S Answered))
       → LooksOver limit at quiet before parked happened after left → EndFrom soonest parked → EndFrom soonest left
-  looked_ends soonest limit at quiet before after [] left happened looks h = All-same (λ (x : Ask P S Told). soonest ≤ x.wait_until) left [] looks.2 h
-  looked_ends soonest limit at quiet before after (r ∷ rs) left happened looks h =
-      All-same (λ (x : Ask P S Told). soonest ≤ x.wait_until) left (with_kept looks.0 r looks.4) looks.7
-      (kept_ends soonest looks.0 r looks.4 (All-head (λ (x : Ask P S Told). soonest ≤ x.wait_until) r rs h)
-      (looked_ends soonest limit at looks.0 looks.3 after rs looks.4 looks.2 looks.8 (All-tail (λ (x : Ask P S Told). soonest ≤ x.wait_until) r rs h)))
+  looked_ends soonest limit at quiet before after parked left happened looks h = looked_all (λ r. soonest ≤ r.wait_until) limit at quiet before after parked left happened looks h
+
+  admitted_may : (r : Ask P S Told) (parked left : List (Ask P S Told)) (happened : List (MailboxEvent (Mail P S Told) S Answered))
+      → Admits r parked happened left → All (λ r. may_wait r ≡ true) parked → All (λ r. may_wait r ≡ true) left
+  admitted_may r parked left happened (inl waits) h =
+      All-same (λ (x : Ask P S Told). may_wait x ≡ true) left (parked ++ r ∷ []) waits.2 (All-push (λ (x : Ask P S Told). may_wait x ≡ true) parked r h waits.0)
+  admitted_may r parked left happened (inr answered) h = All-same (λ (x : Ask P S Told). may_wait x ≡ true) left parked answered.0 h
+
+  -- whoever waits once a mail was taken in may wait
+  pub taken_may : (taken_out : ℕ → Type 0) (retargeted : ℕ → ℕ → Type 0) (uid : ℕ) (mail : Mail P S Told) (last : ℕ) (parked : List (Ask P S Told))
+      (happened : List (MailboxEvent (Mail P S Told) S Answered)) (left : List (Ask P S Told)) (at : ℕ) (ends : Bool)
+      → TakesIn taken_out retargeted uid mail last parked happened left at ends → All (λ r. may_wait r ≡ true) parked → All (λ r. may_wait r ≡ true) left
+  taken_may taken_out retargeted uid (mails.Ask r) last parked happened left at ends takes h = admitted_may r parked left happened takes.1 h
+  taken_may taken_out retargeted uid (mails.Tick t) last parked happened left at ends takes h = All-same (λ (x : Ask P S Told). may_wait x ≡ true) left parked takes.2 h
+  taken_may taken_out retargeted uid mails.End last parked happened left at ends takes h = All-same (λ (x : Ask P S Told). may_wait x ≡ true) left parked takes.2 h
 
   -- the time that counts once an ask has come is no later, and where the ask may wait no later than its end
   asked_parts : (soonest next : ℕ) (r : Ask P S Told) → next ≡ end_with (mails.Ask r) soonest → (next ≤ soonest) × (may_wait r ≡ true → next ≤ r.wait_until)

@@ -2,6 +2,7 @@ pub mod AnswerLemmas
 pub mod NowLemmas
 pub mod Sending
 pub mod ServingLemmas
+pub mod EnvelopeLemmas
 pub mod MovingLemmas
 pub mod ReaderLemmas
 pub mod ActorSending

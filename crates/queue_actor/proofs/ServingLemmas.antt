@@ -1,6 +1,7 @@
 -- How what an actor has done so far goes on, one step more at a time.
 use Rattle.std.proofs.Common.{◌≡◌, ℕ, ◌+◌, ◌<◌, Bool, true, false, MatchBool, List, [], ◌∷◌, ◌++◌, length, refl, sym, ◌∙◌, ap, subst, inl, inr, append_assoc, append-nil, length-append, arith}
 use Rattle.std.specs.Prelude.{nat_lt}
+use Rattle.std.specs.List.{All}
 use Rattle.std.proofs.lemmas.Bool.Decides.{nat_tests}
 use Rattle.std.proofs.lemmas.List.Elements.{All-head, All-tail}
 use Rattle.queue_core.specs.declared.parcel.Parcel.{Parcel}
@@ -10,7 +11,8 @@ use Rattle.queue_actor.specs.Answered.{Answered}
 use Rattle.queue_actor.specs.declared.parcels.Delivery.{Delivery}
 use Rattle.queue_actor.specs.Course.{MailboxEvent, GoesThrough}
 use Rattle.queue_actor.specs.declared.mail.Mail.{Mail}
-use Rattle.queue_actor.specs.Serving.{is_receive, is_tick, IsAnswerAt, IsAnsweredAt, IsServedAt, AreServedAt, LooksAt, with_kept, LooksOver, Admits, TakesIn, Goes, Ends, Serves}
+use Rattle.queue_actor.specs.Questions.{is_receive}
+use Rattle.queue_actor.specs.Serving.{is_tick, may_wait, IsAnswerAt, IsAnsweredAt, IsServedAt, AreServedAt, LooksAt, with_kept, LooksOver, Admits, TakesIn, Goes, Ends, Serves}
 use Rattle.queue_actor.specs.Waiting.{WaitsBehind, TakesAnswers, waiting_with, moment_with}
 use Rattle.queue_actor.specs.private.Ending.{WaitBeyond}
 
@@ -43,7 +45,7 @@ module _ {P S Told : Type 0} where
   waits_both asks last [] ys mid left between at first second =
       subst (λ a. WaitsBehind a last ys left at) first.0 (subst (λ t. WaitsBehind mid t ys left at) first.1 second)
   waits_both asks last (MailboxEvent.Brought mail ∷ xs) ys mid left between at first second =
-      waits_both (waiting_with asks mail) (moment_with last mail) xs ys mid left between at first second
+      (first.0, waits_both (waiting_with asks mail) (moment_with last mail) xs ys mid left between at first.1 second)
   waits_both asks last (MailboxEvent.Over ∷ xs) ys mid left between at first second = waits_both asks last xs ys mid left between at first second
   waits_both asks last (MailboxEvent.Gave slot answer ∷ xs) ys mid left between at first second =
       (first.0, first.1, waits_both first.0 last xs ys mid left between at first.2 second)
@@ -108,12 +110,12 @@ module _ {V P S Told : Type 0} (brings : V → Mail P S Told → V → Type 0) (
       → (answer : Answered) → IsAnswerAt at r answer → may_give now r.reply answer
   takes_now asks front back at now r takes same answer is = takes [] now front back at r answer refl (sym same, refl) is
 
-  -- a mail comes
+  -- a mail comes, where who waits may wait
   pub takes_brought : (asks : List (Ask P S Told)) (last : ℕ) (a b : V) (mail : Mail P S Told)
-      → TakesAnswers brings is_over may_give gives was_left asks last a → brings a mail b
+      → All (λ r. may_wait r ≡ true) asks → TakesAnswers brings is_over may_give gives was_left asks last a → brings a mail b
       → TakesAnswers brings is_over may_give gives was_left (waiting_with asks mail) (moment_with last mail) b
-  takes_brought asks last a b mail takes brought =
-      takes_behind asks (waiting_with asks mail) last (moment_with last mail) a b (MailboxEvent.Brought mail ∷ []) takes (b, brought, refl) (refl, refl)
+  takes_brought asks last a b mail may takes brought =
+      takes_behind asks (waiting_with asks mail) last (moment_with last mail) a b (MailboxEvent.Brought mail ∷ []) takes (b, brought, refl) (may, (refl, refl))
 
   -- no mail will come any more
   pub takes_over : (asks : List (Ask P S Told)) (last : ℕ) (a b : V)

@@ -2,34 +2,17 @@
 use Rattle.std.specs.Prelude.{◌≡◌, ℕ, ⊤, Bool, true, false, Option, Some, None, Result, IfOk, IfErr}
 use Rattle.std.specs.Arc.{arc_value}
 use Rattle.message.specs.declared.fault.Fault.TheVariants.{ActorGone}
-use Rattle.atomic_table.specs.Seated.{TableId}
 use Rattle.crossbeam_channel.specs.declared.err.SendError.{SendError}
 use Rattle.crossbeam_channel.specs.declared.err.SendError.TheVariants as Send
 use Rattle.futures.specs.Channel.{completed_source}
 use Rattle.queue_core.specs.declared.command.Command.{Command}
 use Rattle.queue_core.specs.declared.command.Command.TheVariants as commands
-use Rattle.desk.specs.Views.{Knowledge, HasCalled, IsKnown}
+use Rattle.desk.specs.Views.{Knowledge}
 use Rattle.queue_actor.specs.Answered.{Answered}
 use Rattle.queue_actor.specs.declared.fault.AskFault.{AskFault}
 use Rattle.queue_actor.specs.declared.future.Progress.{Progress}
 use Rattle.queue_actor.specs.declared.future.Progress.TheVariants as Far
-use Rattle.queue_actor.specs.declared.mail.Ask.{Ask}
-
--- what an ask asks: of which desk, with what its pass knows, at which moment, which command, and until when it may wait
-pub record Question : Type 0 where
-  pub desk : TableId
-  pub pass : Knowledge
-  pub moment : ℕ
-  pub command : Command
-  pub wait_until : ℕ
-
-abbrev pub question : TableId → Knowledge → ℕ → Command → ℕ → Question
-question desk pass moment command wait_until =
-    record { desk = desk; pass = pass; moment = moment; command = command; wait_until = wait_until }
-
--- the question of an ask
-abbrev pub question_of : {P S T : Type 0} → Ask P S T → Question
-question_of ask = question (arc_value ask.desk) ask.pass ask.moment ask.command ask.wait_until
+use Rattle.queue_actor.specs.Questions.{Question, IsMailedAnswer}
 
 -- whether a command is for the actor alone: what follows a close or new settings is the actor's, and a purge may take long (this project's own)
 abbrev pub is_for_actor : Command → Bool
@@ -38,12 +21,6 @@ is_for_actor (commands.Set wish target) = true
 is_for_actor commands.Purge = true
 is_for_actor _ = false
 
--- the answer to a question that was asked at its moment: of its desk, by a call with its pass and its command
-abbrev pub IsAnswerTo : Question → Answered → Type 0
-IsAnswerTo asked answer =
-    (answer.desk ≡ asked.desk) × (answer.command ≡ asked.command)
-    × HasCalled asked.pass asked.moment asked.command answer.reply answer.pass × IsKnown answer.pass
-
 -- The mail with this question was put, and its answer comes to the slot whose source has this number; or the mail never left, and the pass is kept; or what came was given
 pub data Asking : Type 0 where
   Sent : Question → ℕ → Asking
@@ -51,7 +28,7 @@ pub data Asking : Type 0 where
   Over : Asking
 
 abbrev pub asking_of : {P T : Type 0} → Progress P T → Asking
-asking_of (Far.Sent slot asked) = Asking.Sent (question_of asked.value) (completed_source slot)
+asking_of (Far.Sent place) = Asking.Sent (arc_value place.cell).value (completed_source place.told)
 asking_of (Far.Unsent pass) = Asking.Unsent pass
 asking_of Far.Over = Asking.Over
 
@@ -83,9 +60,11 @@ kept_pass (Asking.Sent asked source) = None
 kept_pass (Asking.Unsent pass) = Some pass
 kept_pass Asking.Over = None
 
--- an answer comes to a slot alone; the only fault that a future gives: the actor has ended, and the pass of a mail that never left comes back
+-- an answer comes only where the mail was put, and is the one to what was asked; the only fault that a future gives is ActorGone, and the pass of a mail that never left comes back
 abbrev pub MayGive : {P T : Type 0} → Asking → Result Answered (AskFault P T) → Type 0
-MayGive asking output = IfOk output (λ answer. (source : ℕ) × WaitsAt asking source) × IfErr output (λ e. (e.fault ≡ ActorGone) × (e.pass ≡ kept_pass asking))
+MayGive asking output =
+    IfOk output (λ answer. (asked : Question) × (source : ℕ) × (asking ≡ Asking.Sent asked source) × IsMailedAnswer asked answer)
+    × IfErr output (λ e. (e.fault ≡ ActorGone) × (e.pass ≡ kept_pass asking))
 
 -- nobody takes mail from the mailbox any more
 abbrev pub IfDisconnected : {M : Type 0} → SendError M → Type 0 → Type 0

@@ -1,4 +1,5 @@
 pub mod Answered
+pub mod Questions
 pub mod Asking
 pub mod Course
 pub mod Calling

@@ -1,6 +1,5 @@
 -- What an actor does with its mail: which asks it answers at once, which polls wait, how long, and what each is answered.
-use Rattle.std.specs.Prelude.{◌≡◌, ◌⊎◌, ℕ, ◌&&◌, nat_lt, Bool, true, false, MatchBool, Option, None, IfSome, Result, Ok, Err, List, [], ◌∷◌, ◌++◌, option_map}
-use Rattle.std.specs.Arc.{arc_value}
+use Rattle.std.specs.Prelude.{◌≡◌, ◌⊎◌, ℕ, Bool, true, false, MatchBool, Option, None, IfSome, Result, Ok, Err, List, [], ◌∷◌, ◌++◌, option_map}
 use Rattle.message.specs.declared.fault.Fault.{Fault}
 use Rattle.message.specs.declared.fault.Fault.TheVariants.{QueueDoesNotExist}
 use Rattle.queue_config.specs.Settings.{requested_target}
@@ -8,19 +7,15 @@ use Rattle.queue_core.specs.declared.command.Command.{Command}
 use Rattle.queue_core.specs.declared.command.Command.TheVariants as commands
 use Rattle.queue_core.specs.declared.parcel.Parcel.{Parcel}
 use Rattle.queue_core.specs.declared.reply.Reply.{Reply}
-use Rattle.desk.specs.Views.{Knowledge, IsKnown}
+use Rattle.desk.specs.Views.{Knowledge}
 use Rattle.queue_actor.specs.declared.mail.Ask.{Ask}
 use Rattle.queue_actor.specs.declared.mail.Mail.{Mail}
 use Rattle.queue_actor.specs.declared.mail.Mail.TheVariants as mails
 use Rattle.queue_actor.specs.declared.parcels.Delivery.{Delivery}
 use Rattle.queue_actor.specs.Answered.{Answered}
-use Rattle.queue_actor.specs.Calling.{HasAsked, KeepsWaiting, LooksAtTick, HasMoved}
+use Rattle.queue_actor.specs.Calling.{KeepsWaiting, LooksAtTick, HasMoved}
+use Rattle.queue_actor.specs.Questions.{question_of, is_receive, has_time, AnswersAt}
 use Rattle.queue_actor.specs.Course.{MailboxEvent, brought_in, given_in, HasOver}
-
--- whether a command is a receive
-abbrev pub is_receive : Command → Bool
-is_receive (commands.Receive maximum timeout) = true
-is_receive _ = false
 
 -- whether a reply to a command says that its queue is closed, now or from before
 abbrev pub has_closed : Command → Result Reply Fault → Bool
@@ -47,12 +42,11 @@ module _ {P S Told : Type 0} where
 
   -- a receive that has time to wait when it comes
   abbrev pub may_wait : Ask P S Told → Bool
-  may_wait r = is_receive r.command && nat_lt r.moment r.wait_until
+  may_wait r = has_time (question_of r)
 
   -- the answer to an ask that was asked at a moment: at its own desk, with its own pass and command
   abbrev pub IsAnswerAt : ℕ → Ask P S Told → Answered → Type 0
-  IsAnswerAt at r answer =
-      (answer.desk ≡ arc_value r.desk) × (answer.command ≡ r.command) × HasAsked r.pass at r.command answer.reply answer.pass × IsKnown answer.pass
+  IsAnswerAt at r answer = AnswersAt at (question_of r) answer
 
   -- an ask is answered at a moment
   abbrev pub IsAnsweredAt : ℕ → Ask P S Told → List (MailboxEvent (Mail P S Told) S Answered) → Type 0

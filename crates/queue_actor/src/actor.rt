@@ -8,7 +8,8 @@ ghost use Rattle.queue_actor.specs.Course.{MailboxEvent, GoesThrough};
 ghost use Rattle.queue_actor.specs.declared.mail.Mail.{Mail};
 ghost use Rattle.queue_actor.specs.Answered.{Answered};
 ghost use Rattle.queue_actor.specs.Calling.{HasAsked, Finds, KeepsWaiting, LooksAtTick, is_quiet};
-ghost use Rattle.queue_actor.specs.Serving.{is_receive, is_tick, may_wait, has_closed, Enters, IsAnswerAt, IsServedAt, AreServedAt, LooksAt, LooksOver, Admits, Leads, TakesIn, Ends, Serves};
+ghost use Rattle.queue_actor.specs.Questions.{is_receive};
+ghost use Rattle.queue_actor.specs.Serving.{is_tick, may_wait, has_closed, Enters, IsAnswerAt, IsServedAt, AreServedAt, LooksAt, LooksOver, Admits, Leads, TakesIn, Ends, Serves};
 ghost use Rattle.queue_actor.specs.Waiting.{TakesAnswers, waiting_with, moment_with};
 ghost use Rattle.queue_actor.specs.private.Ending.{EndFrom, WaitBeyond, earlier, earliest, end_with};
 

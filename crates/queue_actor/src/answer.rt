@@ -85,3 +85,7 @@ impl<P: Press> Answer<P> {
         (desk, pass, command, reply)
     }
 }
+
+// An answer lies where two threads reach it. Its pass holds no value of its press, only a seat of the table in which one
+// lies; so the press need not be shared. This is a mark for the type checker: each move to a thread is proved.
+unsafe impl<P: Press + Send> Sync for Answer<P> {}

@@ -52,7 +52,7 @@ pub(crate) fn tell<P: Press, S: Drop, O: Outbox<Mail<P, S>>, R: Wait>(
 /// The actors that have something to do are told first. Then each quiet queue is looked at here; behind a leap, where
 /// much may come due in each of them, their actors are told. Where there is no memory for the list of the queues, all
 /// get the next tick.
-impl<P: Press, S: Drop> Bells for Directory<P, S>
+impl<P: Press> Bells for Directory<P>
 where
     P::Told: Drop,
 {

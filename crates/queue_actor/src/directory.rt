@@ -18,7 +18,7 @@ ghost use Rattle.queue_actor.specs.Reading.{IsSheetUnder};
 use crate::answer::Answer;
 use crate::deadline::tell;
 use crate::duties::Duties;
-use crate::mail::Mail;
+use crate::envelope::Envelope;
 use crate::outbox::Outbox;
 use crate::readers::{Readers, Shown};
 use board::Sheet;
@@ -37,19 +37,19 @@ use std::sync::{Arc, Mutex, Wait};
 /// its actor.
 /// The pass in the directory is never called with: passes are split off from it.
 #[derive(Drop)]
-pub struct Served<P: Press, S: Drop> {
+pub struct Served<P: Press> {
     pub uid: u64,
     pub name: QueueName,
     pub desk: Arc<Desk<P>>,
     pub pass: Pass<P>,
-    pub mailbox: Sender<Mail<P, S>>,
+    pub mailbox: Sender<Envelope<P>>,
     pub duties: Arc<Duties>,
     pub ghost together: { pass.desk ≡ arc_value desk },
     pub ghost opened: { pass.start.uid ≡ uid },
     pub ghost named: { pass.start.name ≡ name },
 }
 
-impl<P: Press, S: Drop> Served<P, S> {
+impl<P: Press> Served<P> {
     /// A queue that is served at a desk, with a pass of that desk. Its uid and its name are those under which it
     /// was opened.
     pub fn new(
@@ -57,9 +57,9 @@ impl<P: Press, S: Drop> Served<P, S> {
         name: QueueName,
         desk: Arc<Desk<P>>,
         pass: Pass<P>,
-        mailbox: Sender<Mail<P, S>>,
+        mailbox: Sender<Envelope<P>>,
         duties: Arc<Duties>,
-    ) -> Served<P, S>
+    ) -> Served<P>
         requires desk { pass.desk ≡ arc_value desk }
         requires uid { pass.start.uid ≡ uid }
         requires name { pass.start.name ≡ name }
@@ -76,7 +76,7 @@ impl<P: Press, S: Drop> Served<P, S> {
     }
 
     /// The same queue once more, with a pass that is split off. `OutOfMemory` is the only refusal.
-    fn again(&mut self) -> Result<Served<P, S>, Fault>
+    fn again(&mut self) -> Result<Served<P>, Fault>
         ensures errors { IfErr result (λ fault. fault ≡ OutOfMemory) }
         ensures other { IfOk result (λ queue. (queue.uid ≡ self.old.uid) × (queue.name ≡ self.old.name) × (arc_value queue.desk ≡ arc_value self.old.desk) × IsNewPass self.old.pass queue.pass) }
         ensures same { (self.new.uid ≡ self.old.uid) × (self.new.name ≡ self.old.name) × (self.new.pass ≡ self.old.pass) }
@@ -164,9 +164,9 @@ impl<P: Press, S: Drop> Served<P, S> {
 
 /// What lies under the directory's lock: the names, and the queues that are served, each once and under the name to which its uid belongs.
 #[derive(Drop)]
-struct DirectoryEntries<P: Press, S: Drop> {
+struct DirectoryEntries<P: Press> {
     catalog: Catalog,
-    served: Vec<Served<P, S>>,
+    served: Vec<Served<P>>,
     /// The uids and names of those that are served, by which their places are found.
     keys: Keys,
     ghost uids: { keys.uids ≡ map (λ queue. queue.uid) served.items },
@@ -175,9 +175,9 @@ struct DirectoryEntries<P: Press, S: Drop> {
     ghost entered: { map (λ name. uid_of_name catalog name) keys.names ≡ map (λ uid. Some uid) keys.uids },
 }
 
-impl<P: Press, S: Drop> DirectoryEntries<P, S> {
+impl<P: Press> DirectoryEntries<P> {
     /// No names and no queues. `OutOfMemory` is the only refusal.
-    fn new(alloc: Global) -> Result<DirectoryEntries<P, S>, Fault>
+    fn new(alloc: Global) -> Result<DirectoryEntries<P>, Fault>
         ensures catalog { IfOk result (λ entries. entries.catalog ≡ empty_directory) }
         ensures served { IfOk result (λ entries. entries.served.items ≡ []) }
         ensures errors { IfErr result (λ fault. fault ≡ OutOfMemory) }
@@ -211,7 +211,7 @@ impl<P: Press, S: Drop> DirectoryEntries<P, S> {
     }
 
     /// The queue of a name once more, where it is served.
-    fn find_name(&mut self, name: &QueueName) -> Result<Option<Served<P, S>>, Fault>
+    fn find_name(&mut self, name: &QueueName) -> Result<Option<Served<P>>, Fault>
         ensures name { IfOk result (λ found. IfSome found (λ queue. queue.name ≡ name.now)) }
         ensures unserved { result ≡ Ok None → position (λ queue. bytes_eq queue.name name.now) self.old.served.items ≡ None }
         ensures same { (self.new.catalog ≡ self.old.catalog) × (self.new.keys ≡ self.old.keys) }
@@ -225,7 +225,7 @@ impl<P: Press, S: Drop> DirectoryEntries<P, S> {
 
     /// The queue of a uid once more: `None` where it has its name and is not served, and `QueueDoesNotExist`
     /// where no queue has the uid.
-    fn find(&mut self, uid: u64) -> Result<Option<Served<P, S>>, Fault>
+    fn find(&mut self, uid: u64) -> Result<Option<Served<P>>, Fault>
         ensures uid { IfOk result (λ found. IfSome found (λ queue. queue.uid ≡ uid)) }
         ensures unserved { result ≡ Ok None → (position (λ queue. queue.uid == uid) self.old.served.items ≡ None) × (has_uid self.old.catalog uid ≡ true) }
         ensures absent { result ≡ Err QueueDoesNotExist → has_uid self.old.catalog uid ≡ false }
@@ -257,7 +257,7 @@ impl<P: Press, S: Drop> DirectoryEntries<P, S> {
 
     /// Adds a queue under the name to which its uid belongs, and gives it its target. It is `QueueNameExists` where one is
     /// served under that uid or name, and `QueueDoesNotExist` where the name does not belong to the uid.
-    fn serve(&mut self, alloc: Global, queue: Served<P, S>, target: u64) -> Result<(), Fault>
+    fn serve(&mut self, alloc: Global, queue: Served<P>, target: u64) -> Result<(), Fault>
         ensures ok { OnOk result (self.new.served.items ≡ self.old.served.items ++ queue ∷ []) }
         ensures target { OnOk result (self.new.catalog ≡ with_target self.old.catalog queue.uid target) }
         ensures named { OnOk result (uid_of_name self.old.catalog queue.name ≡ Some queue.uid) }
@@ -295,7 +295,7 @@ impl<P: Press, S: Drop> DirectoryEntries<P, S> {
     }
 
     /// Takes the queue of a uid from those that are served. The others stay.
-    fn unserve(&mut self, uid: u64) -> Option<Served<P, S>>
+    fn unserve(&mut self, uid: u64) -> Option<Served<P>>
         ensures queue { result ≡ find (λ queue. queue.uid == uid) self.old.served.items }
         ensures left { self.new.served.items ≡ filter (λ queue. not (queue.uid == uid)) self.old.served.items }
         ensures catalog { self.new.catalog ≡ self.old.catalog }
@@ -307,7 +307,7 @@ impl<P: Press, S: Drop> DirectoryEntries<P, S> {
     }
 
     /// Takes out the queue of a uid: its name, and the queue where it is served. The others stay.
-    fn remove(&mut self, uid: u64) -> (bool, Option<Served<P, S>>)
+    fn remove(&mut self, uid: u64) -> (bool, Option<Served<P>>)
         ensures named { result.0 ≡ has_uid self.old.catalog uid }
         ensures catalog { self.new.catalog ≡ without_uid self.old.catalog uid }
         ensures queue { result.1 ≡ find (λ queue. queue.uid == uid) self.old.served.items }
@@ -318,7 +318,7 @@ impl<P: Press, S: Drop> DirectoryEntries<P, S> {
     }
 
     /// All queues that are served once more. `OutOfMemory` is the only refusal.
-    fn all(&mut self, alloc: Global) -> Result<Vec<Served<P, S>>, Fault>
+    fn all(&mut self, alloc: Global) -> Result<Vec<Served<P>>, Fault>
         ensures all { IfOk result (λ queues. map (λ queue. queue.uid) queues.items ≡ map (λ queue. queue.uid) self.old.served.items) }
         ensures same { (self.new.catalog ≡ self.old.catalog) × (self.new.keys ≡ self.old.keys) }
         ensures errors { IfErr result (λ fault. fault ≡ OutOfMemory) }
@@ -335,13 +335,13 @@ impl<P: Press, S: Drop> DirectoryEntries<P, S> {
 /// which lie under a lock of their own. Threads share it: each call takes one lock at a time, and has let go of it
 /// when it returns. Contracts see the limits of every queue.
 #[derive(Drop)]
-pub struct Directory<P: Press, S: Drop> {
+pub struct Directory<P: Press> {
     limits: Limits,
-    entries: Mutex<DirectoryEntries<P, S>>,
+    entries: Mutex<DirectoryEntries<P>>,
     readers: Mutex<Readers>,
 }
 
-impl<P: Press, S: Drop> Model for Directory<P, S> {
+impl<P: Press> Model for Directory<P> {
     ghost use Rattle.queue_config.specs.Limits.{QueueLimits};
 
     ghost Value = { QueueLimits };
@@ -349,9 +349,9 @@ impl<P: Press, S: Drop> Model for Directory<P, S> {
     ghost view = { λ d. d.limits };
 }
 
-impl<P: Press, S: Drop> Directory<P, S> {
+impl<P: Press> Directory<P> {
     /// A directory without queues.
-    pub fn new(alloc: Global, limits: Limits) -> Result<Directory<P, S>, Fault>
+    pub fn new(alloc: Global, limits: Limits) -> Result<Directory<P>, Fault>
         ensures ok { IfOk result (λ directory. directory ≡ limits) }
         ensures errors { IfErr result (λ fault. fault ≡ OutOfMemory) }
     {
@@ -385,7 +385,7 @@ impl<P: Press, S: Drop> Directory<P, S> {
         &self,
         rt: &R,
         alloc: Global,
-        queue: Served<P, S>,
+        queue: Served<P>,
         target: u64,
     ) -> Result<(), Fault>
         ensures errors { IfErr result (λ fault. (fault ≡ QueueDoesNotExist) ⊎ (fault ≡ QueueNameExists) ⊎ (fault ≡ OutOfMemory)) }
@@ -400,7 +400,7 @@ impl<P: Press, S: Drop> Directory<P, S> {
 
     /// The queue of a uid: its desk, its mailbox, and a pass of its own. `None` where it has its name and is not
     /// served yet; it is `QueueDoesNotExist` where no queue has the uid.
-    pub fn find_uid<R: Wait>(&self, rt: &R, uid: u64) -> Result<Option<Served<P, S>>, Fault>
+    pub fn find_uid<R: Wait>(&self, rt: &R, uid: u64) -> Result<Option<Served<P>>, Fault>
         ensures uid { IfOk result (λ found. IfSome found (λ queue. queue.uid ≡ uid)) }
         ensures errors { IfErr result (λ fault. (fault ≡ QueueDoesNotExist) ⊎ (fault ≡ OutOfMemory)) }
     {
@@ -408,7 +408,7 @@ impl<P: Press, S: Drop> Directory<P, S> {
     }
 
     /// The queue of a name, where it is served: its desk, its mailbox, and a pass of its own.
-    pub fn find<R: Wait>(&self, rt: &R, name: &QueueName) -> Result<Option<Served<P, S>>, Fault>
+    pub fn find<R: Wait>(&self, rt: &R, name: &QueueName) -> Result<Option<Served<P>>, Fault>
         ensures name { IfOk result (λ found. IfSome found (λ queue. queue.pass.start.name ≡ name.now)) }
         ensures errors { IfErr result (λ fault. fault ≡ OutOfMemory) }
     {
@@ -490,7 +490,7 @@ impl<P: Press, S: Drop> Directory<P, S> {
     }
 
     /// All queues that are served once more. `OutOfMemory` is the only refusal.
-    pub(crate) fn all<R: Wait>(&self, rt: &R, alloc: Global) -> Result<Vec<Served<P, S>>, Fault>
+    pub(crate) fn all<R: Wait>(&self, rt: &R, alloc: Global) -> Result<Vec<Served<P>>, Fault>
         ensures errors { IfErr result (λ fault. fault ≡ OutOfMemory) }
     {
         self.entries.lock(rt).all(alloc)

@@ -2,22 +2,21 @@
 
 ghost use Rattle.std.specs.Prelude.{◌≡◌, ◌≢◌, ℕ, Result, IfOk, IfErr, Some};
 ghost use Rattle.std.specs.Arc.{arc_value};
-ghost use Rattle.futures.specs.Channel.{canceled_source};
 ghost use Rattle.futures.specs.Poll.{IfReady, OnPending};
 ghost use Rattle.futures.specs.Task.{Covers, Hears, Keeps};
 ghost use Rattle.message.specs.declared.fault.Fault.TheVariants.{OutOfMemory};
 ghost use Rattle.queue_actor.specs.Answered.{Answered};
-ghost use Rattle.queue_actor.specs.Asking.{Asking, IfSent, IfUnsent, MayGive, WaitsAt, question, question_of, waiting_question};
+ghost use Rattle.queue_actor.specs.Asking.{Asking, IfSent, IfUnsent, MayGive, WaitsAt, waiting_question};
+ghost use Rattle.queue_actor.specs.Questions.{Awaited, question, question_of};
 
 use crate::answer::Answer;
 use crate::fault::AskFault;
 use crate::mail::{Ask, Mail};
 use crate::outbox::Outbox;
+use crate::slot::{AnswerPlace, AnswerSlot, Question, slot_and_place};
 use crossbeam_channel::SendError;
 use desk::{Desk, Pass, Press};
 use futures::Future;
-use futures::channel::oneshot;
-use futures::channel::oneshot::{Receiver, Sender};
 use futures::task::{Context, Poll};
 use journal::Moment;
 use message::Fault;
@@ -25,14 +24,13 @@ use queue_core::Command;
 use std::alloc::Global;
 use std::marker::Model;
 use std::mem;
-use std::snapshot::Snapshot;
 use std::sync::{Arc, Wait};
 
 /// How far an ask is.
 #[derive(Drop)]
 enum Progress<P: Press> {
-    /// The mail was put, and the answer comes here. What was asked contracts know.
-    Sent(Receiver<Answer<P>>, Snapshot<Ask<P, Sender<Answer<P>>>>),
+    /// The mail was put, and the answer to what was asked comes here.
+    Sent(AnswerPlace<P>),
     /// The mail never left.
     Unsent(Pass<P>),
     /// What came was given.
@@ -40,7 +38,7 @@ enum Progress<P: Press> {
 }
 
 /// The future of the answer to one ask. Contracts see how far it is: the mail was put, with what it asks and a
-/// slot for the answer; or it never left, and the pass is kept; or what came was given.
+/// slot for the answer to just that; or it never left, and the pass is kept; or what came was given.
 #[derive(Drop)]
 pub struct AskFuture<P: Press> {
     progress: Progress<P>,
@@ -57,7 +55,7 @@ impl<P: Press> Model for AskFuture<P> {
 impl<P: Press> AskFuture<P> {
     /// Puts an ask into a mailbox, which has to take an ask of these parts. `OutOfMemory` is the only refusal, and
     /// the pass comes back. Where nobody takes mail from the mailbox any more, the future has the pass.
-    pub fn new<R: Wait, O: Outbox<Mail<P, Sender<Answer<P>>>>>(
+    pub fn new<R: Wait, O: Outbox<Mail<P, AnswerSlot<P>>>>(
         rt: &R,
         alloc: Global,
         mailbox: &O,
@@ -68,25 +66,25 @@ impl<P: Press> AskFuture<P> {
         wait_until: Moment,
     ) -> Result<AskFuture<P>, AskFault<P>>
         requires desk { pass.desk ≡ arc_value desk }
-        requires may { (ask : Ask P (Sender Answered) P.Told) → question_of ask ≡ question (arc_value desk) pass moment command wait_until → O.may_put mailbox.now (Mail.Ask ask) }
+        requires may { (ask : Ask P Awaited P.Told) → question_of ask ≡ question (arc_value desk) pass moment command wait_until → ask.reply.asked ≡ question_of ask → O.may_put mailbox.now (Mail.Ask ask) }
         ensures sent { IfOk result (λ f. IfSent f (λ asked source.
             (asked ≡ question (arc_value desk) pass moment command wait_until)
-            × ((ask : Ask P (Sender Answered) P.Told) × (question_of ask ≡ asked) × (canceled_source ask.reply ≡ source) × O.was_put mailbox.now (Mail.Ask ask)))) }
+            × ((ask : Ask P Awaited P.Told) × (question_of ask ≡ asked) × (ask.reply.asked ≡ asked) × (ask.reply.source ≡ source) × O.was_put mailbox.now (Mail.Ask ask)))) }
         ensures unsent { IfOk result (λ f. IfUnsent f (λ kept. (kept ≡ pass) × O.is_closed mailbox.now)) }
         ensures begun { IfOk result (λ f. f ≢ Asking.Over) }
         ensures errors { IfErr result (λ e. (e.fault ≡ OutOfMemory) × (e.pass ≡ Some pass)) }
     {
-        let Ok((reply, slot)) = oneshot::channel(alloc) else {
+        let question = Question::new(desk, pass, moment, command, wait_until);
+        let Ok((slot, place)) = slot_and_place(alloc, &question) else {
             return Err(AskFault {
                 fault: Fault::OutOfMemory,
-                pass: Some(pass),
+                pass: Some(question.into_pass()),
             });
         };
-        let ask = Ask::new(desk, pass, moment, command, wait_until, reply);
-        let asked = Snapshot::of(&ask);
+        let ask = question.into_ask(slot);
         match mailbox.put(rt, Mail::Ask(ask)) {
             Ok(()) => Ok(AskFuture {
-                progress: Progress::Sent(slot, asked),
+                progress: Progress::Sent(place),
             }),
             Err(SendError::Disconnected(Mail::Ask(ask))) => Ok(AskFuture {
                 progress: Progress::Unsent(ask.pass),
@@ -107,7 +105,7 @@ impl<P: Press> Future for AskFuture<P> {
 
     ghost gives = { MayGive };
 
-    /// Looks at the slot at once. Where the answer has not come, the task was registered there.
+    /// Looks at once whether the answer came. Where it has not, the task was registered for it.
     fn poll(&mut self, cx: &mut Context<'_>) -> Poll<Result<Answer<P>, AskFault<P>>>
         ensures value { IfReady result (MayGive self.old) }
         ensures same { OnPending result ((output : Result Answered (AskFault P P.Told)) → MayGive self.new output → MayGive self.old output) }
@@ -119,9 +117,10 @@ impl<P: Press> Future for AskFuture<P> {
         ensures over { IfReady result (λ _. self.new ≡ Asking.Over) }
     {
         let answer = match &mut self.progress {
-            Progress::Sent(slot, _) => match slot.poll(cx) {
+            Progress::Sent(place) => match place.told.poll(cx) {
                 Poll::Pending => return Poll::Pending,
-                Poll::Ready(answer) => answer.ok(),
+                Poll::Ready(Ok(())) => place.take(),
+                Poll::Ready(Err(_ended)) => None,
             },
             _ => None,
         };

@@ -2,8 +2,12 @@
 
 ghost use Rattle.std.specs.Prelude.{IfSome, IfNone, MatchBool};
 
+use crate::answer::Answer;
+use crate::envelope::Envelope;
+use crate::mail::Mail;
+use crate::slot::AnswerSlot;
 use crossbeam_channel::Receiver;
-use futures::channel::oneshot::Sender;
+use desk::Press;
 use std::sync::Wait;
 
 /// A mailbox, as the actor sees it that takes mail from it, and gives each answer to the slot that came
@@ -39,29 +43,34 @@ pub trait Inbox<M, S, T> {
         ensures { MatchBool result (was_left self.now slot.now) (Unit {0}) };
 }
 
-/// Mail comes through a channel, and answers go through channels that carry one value each. An answer that
-/// nobody waits for any more is let go.
-impl<M: Drop, T: Drop> Inbox<M, Sender<T>, T> for Receiver<M> {
-    // Of what comes from another thread, or becomes of it there, no contract knows anything but its type.
-    ghost brings = { λ _ _ _. Unit {0} };
+/// Mail comes through a channel, and each answer goes to who asked. An answer that nobody waits for any more is let go.
+impl<P: Press> Inbox<Mail<P, AnswerSlot<P>>, AnswerSlot<P>, Answer<P>> for Receiver<Envelope<P>> {
+    ghost use Rattle.queue_actor.specs.Questions.{HasOwnSlot, IsMailedAnswer};
+
+    // Of what comes from another thread, or becomes of it there, no contract knows anything but its type. An envelope's
+    // says that its slot was made for its question.
+    ghost brings = { λ _ mail _. HasOwnSlot mail };
 
     ghost is_over = { λ _ _. Unit {0} };
 
-    ghost may_give = { λ _ _ _. Unit {0} };
+    ghost may_give = { λ _ slot answer. IsMailedAnswer slot.asked answer };
 
     ghost gives = { λ _ _ _ _. Unit {0} };
 
     ghost was_left = { λ _ _. Unit {0} };
 
-    fn next<R: Wait>(&mut self, rt: &R) -> Option<M> {
-        self.recv(rt).ok()
+    fn next<R: Wait>(&mut self, rt: &R) -> Option<Mail<P, AnswerSlot<P>>> {
+        match self.recv(rt) {
+            Ok(envelope) => Some(envelope.into_mail()),
+            Err(_ended) => None,
+        }
     }
 
-    fn give(&mut self, slot: Sender<T>, answer: T) {
-        let _ = slot.send(answer);
+    fn give(&mut self, slot: AnswerSlot<P>, answer: Answer<P>) {
+        slot.give(answer);
     }
 
-    fn is_left(&self, slot: &Sender<T>) -> bool {
-        slot.is_canceled()
+    fn is_left(&self, slot: &AnswerSlot<P>) -> bool {
+        slot.is_left()
     }
 }

@@ -2,10 +2,12 @@
 //!
 //! - [`Mail`], [`Ask`]: what an actor finds in its mailbox: a command with a pass of a desk, a tick of the
 //!   clock, or its end.
+//! - [`Envelope`]: mail as it goes through a channel, where the slot of an ask is the one for its question.
 //! - [`AskFuture`]: sends an ask, and is the future of its answer. [`AskFault`] is why there is none.
 //! - [`ask_now`]: asks a queue's desk without its actor, where the turn is free; [`Duties`] is what the actor has to
 //!   do behind that.
-//! - [`Answer`]: the pass, behind the call that was made with it, beside the command and the reply.
+//! - [`Answer`]: the pass, behind the call that was made with it, beside the command and the reply. [`AnswerSlot`] is
+//!   where the one to a question goes.
 //! - [`Outbox`]: a mailbox, as those who send see it.
 //! - [`Actor`]: serves the mails of one queue, keeps polls that wait, and moves the queue's dead letters.
 //! - [`Inbox`]: where its mail comes from, and where its answers go.
@@ -19,7 +21,8 @@
 //! future that waits has registered with a slot, or asked to be polled again. `Serving` relates what happens
 //! at a mailbox: which mails come, and which answers are given between them. None of these answers is
 //! swapped, lost, given twice, given early or of another moment, as far as the mailbox tells what happened.
-//! One of channels tells the types alone; a mailbox in memory tells all of it.
+//! A mailbox in memory tells all of it. One of channels tells the types alone: by these a future gives no answer
+//! but the one to its own question (`Questions`).
 #![tactic(auto)]
 
 mod actor;
@@ -27,6 +30,7 @@ mod answer;
 mod deadline;
 mod directory;
 mod duties;
+mod envelope;
 mod fault;
 mod future;
 mod inbox;
@@ -35,6 +39,7 @@ mod now;
 mod outbox;
 mod parcels;
 mod readers;
+mod slot;
 #[cfg(test)]
 mod tests;
 
@@ -43,6 +48,7 @@ pub use answer::Answer;
 pub use deadline::{Beat, Bells, TICK_MILLISECONDS, deadline_loop};
 pub use directory::{Directory, Served};
 pub use duties::Duties;
+pub use envelope::Envelope;
 pub use fault::AskFault;
 pub use future::AskFuture;
 pub use inbox::Inbox;
@@ -51,3 +57,4 @@ pub use now::{Unasked, ask_now, is_for_actor};
 pub use outbox::Outbox;
 pub use parcels::{Delivery, Targets};
 pub use readers::Shown;
+pub use slot::AnswerSlot;

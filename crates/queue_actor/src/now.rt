@@ -3,7 +3,8 @@
 ghost use Rattle.std.specs.Prelude.{◌≡◌, IfOk, IfErr, IfSome, IfNone};
 ghost use Rattle.std.specs.Arc.{arc_value};
 ghost use Rattle.desk.specs.Views.{HasCalled, IsKnown, SeesMore};
-ghost use Rattle.queue_actor.specs.Asking.{IsAnswerTo, is_for_actor, question};
+ghost use Rattle.queue_actor.specs.Asking.{is_for_actor};
+ghost use Rattle.queue_actor.specs.Questions.{IsAnswerTo, question};
 
 use crate::answer::Answer;
 use crate::deadline::tell;

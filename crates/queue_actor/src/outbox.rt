@@ -4,7 +4,11 @@ ghost use Rattle.std.specs.Prelude.{◌≡◌, IfOk, IfErr, MatchBool};
 ghost use Rattle.crossbeam_channel.specs.Err.{send_message};
 ghost use Rattle.queue_actor.specs.Asking.{IfDisconnected};
 
+use crate::envelope::Envelope;
+use crate::mail::Mail;
+use crate::slot::AnswerSlot;
 use crossbeam_channel::{SendError, Sender};
+use desk::Press;
 use std::sync::Wait;
 
 /// A mailbox, as those who put mail into it see it.
@@ -34,10 +38,23 @@ pub trait Outbox<M> {
         ensures closed { IfErr result (λ error. IfDisconnected error (is_closed self.now)) };
 }
 
-impl<M: Drop> Outbox<M> for Sender<M> {
-    // Of a channel no contract knows more than the type of its messages.
-    ghost may_put = { λ _ _. Unit {0} };
+/// What could not be sent, as a mail.
+fn unsent<P: Press>(error: SendError<Envelope<P>>) -> SendError<Mail<P, AnswerSlot<P>>>
+    ensures { result ≡ error }
+{
+    match error {
+        SendError::Disconnected(envelope) => SendError::Disconnected(envelope.into_mail()),
+        SendError::OutOfMemory(envelope) => SendError::OutOfMemory(envelope.into_mail()),
+    }
+}
 
+impl<P: Press> Outbox<Mail<P, AnswerSlot<P>>> for Sender<Envelope<P>> {
+    ghost use Rattle.queue_actor.specs.Questions.{HasOwnSlot};
+
+    // An ask goes with the slot that was made for its question.
+    ghost may_put = { λ _ mail. HasOwnSlot mail };
+
+    // Of a channel no contract knows more than the type of its messages.
     ghost was_put = { λ _ _. Unit {0} };
 
     ghost is_closed = { λ _. Unit {0} };
@@ -48,7 +65,14 @@ impl<M: Drop> Outbox<M> for Sender<M> {
         self.len() == 0
     }
 
-    fn put<R: Wait>(&self, rt: &R, message: M) -> Result<(), SendError<M>> {
-        self.send(rt, message)
+    fn put<R: Wait>(
+        &self,
+        rt: &R,
+        message: Mail<P, AnswerSlot<P>>,
+    ) -> Result<(), SendError<Mail<P, AnswerSlot<P>>>> {
+        match self.send(rt, Envelope::new(message)) {
+            Ok(()) => Ok(()),
+            Err(error) => Err(unsent(error)),
+        }
     }
 }

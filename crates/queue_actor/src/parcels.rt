@@ -93,12 +93,12 @@ pub(crate) fn enter<D: Targets, R: Wait>(
 
 /// Hands a parcel to the queue that was found for it. The queue is gone where none was found that has the uid, or
 /// where it answers that it is closed. One that has its name will be served, and its parcels wait.
-fn hand_over<P: Press, S: Drop, R: Wait, G: Gate>(
+fn hand_over<P: Press, R: Wait, G: Gate>(
     rt: &R,
     alloc: Global,
     at: Moment,
     parcel: Parcel,
-    found: Result<Option<Served<P, S>>, Fault>,
+    found: Result<Option<Served<P>>, Fault>,
     gate: &G,
 ) -> Delivery<Answer<P>>
 where
@@ -123,7 +123,7 @@ where
 
 /// The directory is asked for the queue of a parcel, and its lock is let go before the queue's desk is
 /// asked.
-impl<P: Press, S: Drop> Targets for Directory<P, S>
+impl<P: Press> Targets for Directory<P>
 where
     P::Told: Drop,
 {

@@ -7,7 +7,6 @@ ghost use Rattle.std.specs.Arc.{arc_value};
 use super::*;
 use crossbeam_channel::{Receiver, unbounded};
 use desk::{Desk, NoGate, NoPress, Pass};
-use futures::channel::oneshot;
 use futures::task::Poll;
 use futures::test::MockTask;
 use journal::Moment;
@@ -18,17 +17,14 @@ use std::alloc::Global;
 use std::sync::{Arc, Wait};
 use std::test::Fail;
 
-/// A mail to an actor in these tests.
-type Letter = Mail<NoPress, oneshot::Sender<Answer<NoPress>>>;
-
-/// A directory whose actors answer through channels.
-type Shared = Directory<NoPress, oneshot::Sender<Answer<NoPress>>>;
+/// A directory whose desks print nothing.
+type Shared = Directory<NoPress>;
 
 /// A queue that is served, as its callers have it.
-type Client = Served<NoPress, oneshot::Sender<Answer<NoPress>>>;
+type Client = Served<NoPress>;
 
 /// The actor of a queue that is served, and what it takes its mail from.
-type Place = (Actor<NoPress>, Receiver<Letter>);
+type Place = (Actor<NoPress>, Receiver<Envelope<NoPress>>);
 
 /// A desk of a queue that was opened at 0 under a uid and a name, to be shared, and its first pass.
 fn opened(
@@ -55,7 +51,7 @@ fn served(
     name: QueueName,
     limits: Limits,
 ) -> Result<(Client, Place), Fault> {
-    let (mailbox, mails) = unbounded::<Letter, Global>(alloc)?;
+    let (mailbox, mails) = unbounded::<Envelope<NoPress>, Global>(alloc)?;
     let (desk, mut pass) = opened(rt, alloc, uid, name, limits)?;
     let own = desk.pass(&mut pass);
     let duties = Arc::new(alloc, Duties::new())?;
@@ -92,7 +88,7 @@ fn put_end<R: Wait>(rt: &R, queues: &Shared, uid: u64) -> Result<(), Fault> {
     let queue = queues.find_uid(rt, uid)?.ok_or(Fault::QueueDoesNotExist)?;
     queue
         .mailbox
-        .send(rt, Mail::End)
+        .put(rt, Mail::End)
         .map_err(|_| Fault::OutOfMemory)
 }
 

@@ -20,15 +20,13 @@ use Rattle.desk.proofs.Sending.{pass_sends, desk_sends, desk_syncs}
 use Rattle.desk.specs.contracts.desk.Desk as desk
 use Rattle.desk.specs.contracts.pass.Pass as pass
 use Rattle.desk.specs.declared.printing.Press.{Ghosts}
-use Rattle.futures.specs.contracts.channel.oneshot.Sender as slot
 use Rattle.futures.specs.contracts.future.made.ready.Ready as ready
-use Rattle.queue_actor.proofs.Sending.{future_sends, mail_sends}
+use Rattle.queue_actor.proofs.Sending.{future_sends, envelope_sends}
 use Rattle.queue_actor.proofs.ActorSending.{directory_sends, directory_syncs}
 use Rattle.queue_actor.specs.contracts.actor.Actor as actor
-use Rattle.queue_actor.specs.contracts.answer.Answer as answer
 use Rattle.queue_actor.specs.contracts.directory.Directory as directory
 use Rattle.queue_actor.specs.contracts.future.AskFuture as future
-use Rattle.queue_actor.specs.contracts.mail.Mail as mail
+use Rattle.queue_actor.specs.contracts.envelope.Envelope as envelope
 use Rattle.bytes.proofs.shared.Bytes.TheSendSync as bytes
 use Rattle.bytes.specs.contracts.shared.Bytes as shared_bytes
 use Rattle.http.specs.contracts.response.Response as response
@@ -86,9 +84,6 @@ module _ (T : RattleType) (w : wait.Ghosts T.Denot) (s : IsSend T) where
   abbrev g : Ghosts Prints.Denot told.the_row.Denot
   g = impl.ghosts T w impl.no_dict impl.no_dict
 
-  abbrev Slots : RattleType
-  Slots = slot.the_row (answer.the_row Prints told.the_row g)
-
   prints_send : IsSend Prints
   prints_send = publisher_send T s
 
@@ -101,8 +96,8 @@ module _ (T : RattleType) (w : wait.Ghosts T.Denot) (s : IsSend T) where
   pass_send : IsSend (pass.the_row Prints told.the_row g)
   pass_send = pass_sends Prints told.the_row g prints_send
 
-  mail_send : IsSend (mail.the_row Prints Slots told.the_row g)
-  mail_send = mail_sends Prints told.the_row g prints_send
+  envelope_send : IsSend (envelope.the_row Prints told.the_row g)
+  envelope_send = envelope_sends Prints told.the_row g prints_send
 
   future_send : IsSend (future.the_row Prints told.the_row g)
   future_send = future_sends Prints told.the_row g prints_send
@@ -111,10 +106,10 @@ module _ (T : RattleType) (w : wait.Ghosts T.Denot) (s : IsSend T) where
   actor_field_send : IsSend (actor.the_field Prints told.the_row g).row
   actor_field_send = search (desk_send, desk_sync, pass_send, sendable, crosses) depth 40 fits 100000
 
-  pub directory_send : IsSend (directory.the_row Prints Slots told.the_row g)
+  pub directory_send : IsSend (directory.the_row Prints told.the_row g)
   directory_send = directory_sends Prints told.the_row g prints_send
 
-  pub directory_sync : IsSync (directory.the_row Prints Slots told.the_row g)
+  pub directory_sync : IsSync (directory.the_row Prints told.the_row g)
   directory_sync = directory_syncs Prints told.the_row g prints_send
 
 pub hall_send : (T : RattleType) (w : wait.Ghosts T.Denot) → IsSend T → IsSend (hall.the_row T w)
@@ -156,7 +151,7 @@ serving_send T w s =
         (
           actor_field_send T w s,
           (
-            (let one = mail_send T w s in search (channel.the_send, sendable, crosses) depth 40 fits 100000),
+            (let one = envelope_send T w s in search (channel.the_send, sendable, crosses) depth 40 fits 100000),
             ((let one = directory_send T w s in let both = directory_sync T w s in search (sendable, crosses) depth 40 fits 100000), tt),
           ),
         ),

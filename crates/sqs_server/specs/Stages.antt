@@ -29,7 +29,8 @@ use Rattle.message.specs.Fault.{Meets}
 use Rattle.message.specs.declared.fault.Fault.{Fault}
 use Rattle.message.specs.declared.fault.Fault.TheVariants.{OutOfMemory, QueueDoesNotExist, QueueNameExists, InvalidAttributeValue, ActorGone}
 use Rattle.queue_actor.specs.Answered.{Answered}
-use Rattle.queue_actor.specs.Asking.{Asking, IfSent, IfUnsent, IsAnswerTo, MayGive, is_for_actor, question, waiting_question}
+use Rattle.queue_actor.specs.Asking.{Asking, IfSent, IfUnsent, MayGive, is_for_actor, waiting_question}
+use Rattle.queue_actor.specs.Questions.{IsAnswerTo, question}
 use Rattle.queue_actor.specs.declared.fault.AskFault.{AskFault}
 use Rattle.queue_config.specs.Settings.{QueueSettings, RequestedAttributes, default_settings, requested_target, same_settings, settings_with}
 use Rattle.queue_core.specs.declared.command.Command.{Command}

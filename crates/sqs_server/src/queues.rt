@@ -7,6 +7,7 @@ ghost use Rattle.board.specs.Printed.{place_of};
 ghost use Rattle.board.specs.Queue.{sheet_of};
 ghost use Rattle.desk.specs.Views.{first_knowledge};
 ghost use Rattle.message.specs.declared.fault.Fault.TheVariants.{OutOfMemory};
+ghost use Rattle.queue_config.specs.Config.{rules_of};
 ghost use Rattle.queue_core.specs.Kept.{opened_queue};
 
 use crate::clock::Day;
@@ -17,7 +18,7 @@ use futures::channel::oneshot;
 use journal::Moment;
 use message::{Fault, QueueName};
 use queue_actor::{
-    Actor, Answer, Beat, Directory, Duties, Mail, Served, Shown, TICK_MILLISECONDS, deadline_loop,
+    Actor, Beat, Directory, Duties, Envelope, Served, Shown, TICK_MILLISECONDS, deadline_loop,
 };
 use queue_config::{AlarmRule, Config, ConfiguredAlarm, Limits, Settings};
 use queue_core::QueueState;
@@ -31,14 +32,8 @@ use std::time::{Clock, Duration};
 /// What prints the turns of a queue, for the readers of its statistics.
 pub type Printer<R> = Publisher<R>;
 
-/// Where an answer goes.
-pub type Slot<R> = oneshot::Sender<Answer<Printer<R>>>;
-
-/// What an actor finds in its mailbox.
-pub type Letter<R> = Mail<Printer<R>, Slot<R>>;
-
 /// Where mail for an actor is put.
-pub type Mailbox<R> = Sender<Letter<R>>;
+pub type Mailbox<R> = Sender<Envelope<Printer<R>>>;
 
 /// A queue as a request has it at hand: its desk, a pass of that desk, and the mailbox and the duties of its actor.
 #[derive(Drop)]
@@ -73,7 +68,7 @@ impl<R: Wait + Drop> Queue<R> {
     }
 
     /// A queue that was found in the directory.
-    pub fn of(served: Served<Printer<R>, Slot<R>>) -> Queue<R>
+    pub fn of(served: Served<Printer<R>>) -> Queue<R>
         ensures { (result.uid ≡ served.uid) × (result.desk ≡ served.desk) × (result.pass ≡ served.pass) }
     {
         let Served {
@@ -100,7 +95,7 @@ pub(crate) fn is_full(waiting: usize) -> bool
 }
 
 /// The queues that are served.
-pub type Queues<R> = Directory<Printer<R>, Slot<R>>;
+pub type Queues<R> = Directory<Printer<R>>;
 
 /// The time of day, looked at every so often.
 #[derive(Drop)]
@@ -169,7 +164,7 @@ pub struct Serving<R: Wait + Drop> {
     rt: R,
     alloc: Global,
     actor: Actor<Printer<R>>,
-    mails: Receiver<Letter<R>>,
+    mails: Receiver<Envelope<Printer<R>>>,
     queues: Arc<Queues<R>>,
 }
 
@@ -200,7 +195,7 @@ fn start_actor<R: Wait + Threads + Clock + Copy + Send + Drop + 'static>(
     rt: &R,
     alloc: Global,
     actor: Actor<Printer<R>>,
-    mails: Receiver<Letter<R>>,
+    mails: Receiver<Envelope<Printer<R>>>,
     queues: Arc<Queues<R>>,
 ) -> Result<(), Fault> {
     let serving = Serving {
@@ -285,7 +280,7 @@ fn start_queue<R: Wait + Threads + Clock + Copy + Send + Drop + 'static>(
     let (desk, mut pass, reader, opened) = open_desk(rt, host, alloc, uid, new, limits, at)?;
     let own = desk.pass(&mut pass);
     let desk = Arc::new(alloc, desk)?;
-    let (mailbox, mails) = unbounded::<Letter<R>, Global>(alloc)?;
+    let (mailbox, mails) = unbounded::<Envelope<Printer<R>>, Global>(alloc)?;
     let duties = Arc::new(alloc, Duties::new())?;
     let shared = Arc::try_clone(&duties)?;
     let actor = Actor::new(Arc::try_clone(&desk)?, own, uid, limits, shared);
@@ -314,8 +309,12 @@ fn make_queue<R: Wait + Threads + Clock + Copy + Send + Drop + 'static>(
     started
 }
 
-/// The rules of the alarms of the queue of a uid, in their order.
-fn rules_of(alloc: Global, alarms: &[ConfiguredAlarm], uid: u64) -> Result<Vec<AlarmRule>, Fault> {
+/// The rules of the alarms of the configured queue of a uid, in the order of the configuration. `OutOfMemory` is the only
+/// refusal.
+fn rules_of(alloc: Global, alarms: &[ConfiguredAlarm], uid: u64) -> Result<Vec<AlarmRule>, Fault>
+    ensures ok { IfOk result (λ rules. rules.items ≡ rules_of alarms.now uid) }
+    ensures errors { IfErr result (λ fault. fault ≡ OutOfMemory) }
+{
     let mut rules = Vec::new(alloc);
     for alarm in alarms {
         if alarm.queue == uid {

@@ -8,7 +8,7 @@ use Rattle.crossbeam_channel.proofs.channel.Receiver.TheSendSync as channel
 use Rattle.desk.proofs.Sending.{pass_send, desk_send, desk_sync}
 use Rattle.desk.specs.contracts.printing.NoPress as nopress
 use Rattle.desk.specs.contracts.printing.NoPressPress.TheImpl as impl
-use Rattle.queue_actor.proofs.Sending.{mail_send}
+use Rattle.queue_actor.proofs.Sending.{envelope_send}
 use Rattle.queue_actor.proofs.ActorSending.{directory_send, directory_sync}
 use Rattle.queue_actor.specs.contracts.actor.Actor as actor
 use Rattle.actor_script.specs.contracts.stage.Service as service
@@ -34,7 +34,7 @@ service_send T s =
         (
           actor_field_send,
           (
-            search (channel.the_send, mail_send, sendable, crosses) depth 40 fits 100000,
+            search (channel.the_send, envelope_send, sendable, crosses) depth 40 fits 100000,
             (
               search (directory_send, directory_sync, sendable, crosses) depth 40 fits 100000,
               (search (sendable, crosses) depth 40 fits 100000, tt),

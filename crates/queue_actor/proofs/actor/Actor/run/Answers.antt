@@ -1,8 +1,9 @@
-use Rattle.std.proofs.Common.{◌≡◌, [], subst, sym, ap}
+use Rattle.std.proofs.Common.{◌≡◌, true, [], subst, sym, ap}
+use Rattle.std.proofs.lemmas.List.Elements.{All-nil, All-same}
 use Rattle.queue_actor.specs.Calling.{LooksAtTick}
-use Rattle.queue_actor.specs.Serving.{TakesIn, Serves}
+use Rattle.queue_actor.specs.Serving.{TakesIn, Serves, may_wait}
 use Rattle.queue_actor.specs.Waiting.{TakesAnswers}
-use Rattle.queue_actor.proofs.EndLemmas.{none_ends, taken_ends}
+use Rattle.queue_actor.proofs.EndLemmas.{looked_all, none_ends, taken_ends, taken_may}
 use Rattle.queue_actor.proofs.ServingLemmas.{Serving, serving_begins, serving_goes, serving_ends, serving_is_ended, takes_brought, takes_over}
 use Rattle.queue_actor.proofs.actor.Actor.run.Goals as goal
 
@@ -16,6 +17,7 @@ loop-init g c = (
   subst (λ last. TakesAnswers g.I.Inbox.brings g.I.Inbox.is_over g.I.Inbox.may_give g.I.Inbox.gives g.I.Inbox.was_left c.new-parked.result.items last c.args.mailbox.now) (sym c.zero-last.ensures)
       (subst (λ asks. TakesAnswers g.I.Inbox.brings g.I.Inbox.is_over g.I.Inbox.may_give g.I.Inbox.gives g.I.Inbox.was_left asks 0 c.args.mailbox.now) (sym c.new-parked.ensures.items) c.requires.may),
   none_ends _ c.new-parked.result.items c.new-parked.ensures.items,
+  All-same (λ r. may_wait r ≡ true) c.new-parked.result.items [] c.new-parked.ensures.items (All-nil (λ r. may_wait r ≡ true)),
 )
 
 pub end-requires : goal.end-requires
@@ -39,7 +41,7 @@ returns-in_default-clause-served g c =
 pub take_in-at-requires : goal.take_in-at-requires
 take_in-at-requires g c = record {
   may = takes_brought g.I.Inbox.brings g.I.Inbox.is_over g.I.Inbox.may_give g.I.Inbox.gives g.I.Inbox.was_left c.loop.parked.items c.loop.last c.loop.mailbox c.next-in-loop.new.self c.in-Some-next.mail
-      c.loop.invariant.3 c.in-Some-next.ensures.some;
+      c.loop.invariant.5 c.loop.invariant.3 c.in-Some-next.ensures.some;
 }
 
 pub returns-then-is_last-clause-served : goal.returns-then-is_last-clause-served
@@ -76,6 +78,8 @@ loop-preserved g c =
           (c.look_at_tick-quiet.result, c.look_at_tick-quiet.new.self.pass, c.look_over-soonest.new.self.pass, at_tick, looked.1, c.move_parcels.ensures.moved) looked.2,
       c.look_over-soonest.ensures.may,
       c.look_over-soonest.ensures.ends,
+      looked_all (λ r. may_wait r ≡ true) c.limits.inside.in_flight at c.look_at_tick-quiet.result c.look_at_tick-quiet.new.self.pass c.look_over-soonest.new.self.pass c.take_in-at.new.parked.items c.look_over-soonest.new.parked.items looked.0 looked.1
+          (taken_may (g.D.Targets.was_taken_out c.args.directory.now) (g.D.Targets.was_retargeted c.args.directory.now) c.args.self.now.uid c.in-Some-next.mail c.loop.last c.loop.parked.items taken.0 c.take_in-at.new.parked.items at c.take_in-at.result.1 taken.1 c.loop.invariant.5),
     )
 
 pub look_over-soonest-requires-clause-ends : goal.look_over-soonest-requires-clause-ends

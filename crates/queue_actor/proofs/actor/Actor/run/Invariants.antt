@@ -1,3 +1,6 @@
+use Rattle.std.specs.Prelude.{◌≡◌, true}
+use Rattle.std.specs.List.{All}
+use Rattle.queue_actor.specs.Serving.{may_wait}
 use Rattle.queue_actor.specs.Waiting.{TakesAnswers}
 use Rattle.queue_actor.specs.private.Ending.{EndFrom}
 use Rattle.queue_actor.proofs.ServingLemmas.{Serving}
@@ -10,3 +13,4 @@ invariant-loop g l =
     g.I.Inbox.brings g.I.Inbox.is_over g.I.Inbox.gives g.I.Inbox.was_left l.uid l.limit l.fn.self.pass l.fn.mailbox l.self.pass l.parked.items l.last l.mailbox
     × TakesAnswers g.I.Inbox.brings g.I.Inbox.is_over g.I.Inbox.may_give g.I.Inbox.gives g.I.Inbox.was_left l.parked.items l.last l.mailbox
     × EndFrom l.soonest l.parked.items
+    × All (λ r. may_wait r ≡ true) l.parked.items

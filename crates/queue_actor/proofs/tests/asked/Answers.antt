@@ -1,0 +1,5 @@
+use Rattle.queue_actor.proofs.EnvelopeLemmas.{envelopes_take}
+use Rattle.queue_actor.proofs.tests.asked.Goals as goal
+
+pub run-requires : goal.run-requires
+run-requires g c = record { may = envelopes_take _ }
