@@ -7,7 +7,7 @@
 
 local threads = {}
 local kinds = {}
-local next_request, is_wanted
+local next_request, is_wanted, wanted_status
 
 -- What one thread of wrk has found: replies that were not as wanted, the first of them, replies with messages, and those with too few.
 wrong, example, offers, short = 0, "", 0, 0
@@ -39,6 +39,13 @@ function kinds.send(path, queue, text, digest, seconds)
    end
    local asked = call(path, "SendMessage", body)
    return function() return asked end, function(reply) return has(reply, digest) end
+end
+
+-- A send with the header of a web page, which is refused by its head.
+function kinds.page(path, queue, text)
+   wrk.headers["Origin"] = "http://localhost"
+   local asked = call(path, "SendMessage", string.format('{"QueueUrl":"%s","MessageBody":"%s"}', queue, text))
+   return function() return asked end, function(reply) return has(reply, "requests of web pages are not answered") end, 403
 end
 
 -- Ten messages a request.
@@ -114,7 +121,7 @@ function setup(thread)
 end
 
 function init(args)
-   next_request, is_wanted = kinds[args[2]](args[1], args[3], args[4], args[5], tonumber(args[6] or 0))
+   next_request, is_wanted, wanted_status = kinds[args[2]](args[1], args[3], args[4], args[5], tonumber(args[6] or 0))
 end
 
 function request()
@@ -122,7 +129,7 @@ function request()
 end
 
 function response(status, _, body)
-   if status ~= 200 or not is_wanted(body) then
+   if status ~= (wanted_status or 200) or not is_wanted(body) then
       wrong = wrong + 1
       example = example == "" and string.format("%d %s", status, string.sub(body, 1, 300)) or example
    end

@@ -28,6 +28,7 @@ How it keeps from flattering:
   - nginx has a worker for each processor and reads a request at once, and its replies are the server's own, to the byte.
   - Runs take turns: nginx, the server, nginx, the server. A part of nginx's rate is that of a run and of the run of nginx just before it.
     The table has the middle of all runs, with the slowest and the fastest, and the middle of their p50 and p99.
+  - Sends that are refused by their heads ask no queue: their reply is a constant here too, so they show what HTTP alone takes.
   - Each run has a new queue, so that none profits from what another left.
   - Each reply has to have status 200, and the MD5 of what was sent or an empty list of failures. Behind each run the statistics of the queue
     have to tell as many messages sent, received and deleted as wrk has replies to, and neither a refusal nor an empty receive. Polls that are
@@ -75,9 +76,12 @@ class Kind(NamedTuple):
     seconds: int = 0
 
 
+# Requests at which no queue is asked: what they take is what HTTP takes here.
+REFUSED = "sends of 1 letter, refused by their heads"
 # The kinds of a line take turns with one run of nginx.
 KINDS = (
     (Kind("sends of 1 letter", "/send/", "send"),),
+    (Kind(REFUSED, "/page/", "page"),),
     (Kind("sends of 1 KB", "/kilobyte/", "send", text="x" * 1024),),
     (Kind("receives and deletes", "/receive/", "receive", "filled"),),
     (Kind("batches of ten sends", "/batch/", "batch"),),
@@ -107,6 +111,10 @@ def verify(told, wrk, kind, connections):
     each = 10 if kind.shape in ("batch", "ten") else 1
     if told["refused"]:
         raise Void(f"{told['refused']} commands were refused")
+    if kind.shape == "page":
+        if told["sent"]:
+            raise Void("a request that was to be refused was done")
+        return
     if kind.beside == "aged" and told["rows"] != 180:
         raise Void(f"there are {told['rows']} rows")
     if kind.beside == "filled" and told["emptyReceives"] + wrk["short"]:
@@ -295,12 +303,13 @@ def timed(program, room, options, is_proved):
         if found:
             print(f"What was found before, and is not written:\n{table(found)}", file=sys.stderr)
         raise
-    lines = notes(found) + ([moto_note(room, options.seconds)] if shutil.which("moto_server") and not options.only else [])
+    lines = [f"- {REFUSED}: the server answers them with a constant, so what they take is what HTTP takes here."] if (REFUSED, options.connections[0]) in found else []
+    lines += notes(found) + ([moto_note(room, options.seconds)] if shutil.which("moto_server") and not options.only else [])
     named = "The proved server" if is_proved else "A server that was named, and not the proved one,"
     head = f"{named} beside nginx {version(['nginx', '-v'])}, asked by wrk {version(['wrk', '-v'])}, on {os.cpu_count()} processors, whose load was {load:.1f} before:\n"
     head += f"the middle of {options.runs} runs of {options.seconds} s each, with the slowest and the fastest. Rates are requests a second;"
     head += f" of polls there are {options.polls:,}."
-    text = "\n".join([head, "", table(found), *lines]).rstrip("\n") + "\n"
+    text = "\n".join([head, "", table(found), *lines]).rstrip("\n") + "\n\n![Requests a second, as a part of nginx's, over 1, 8 and 64 connections](rate.svg)\n"
     os.makedirs(options.to, exist_ok=True)
     for name, it in (("rate.md", text), ("rate.svg", picture(found))):
         with open(f"{options.to}/{name}", "w", encoding="utf-8") as to:

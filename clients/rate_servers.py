@@ -19,6 +19,8 @@ THREADS = 2
 SIGNED = "AWS4-HMAC-SHA256 Credential=x/20240101/us-east-1/sqs/aws4_request, SignedHeaders=host, Signature=x"
 # Minutes that a queue's rows go back, and one more.
 AGE = 181
+# The statuses of replies that are no success, by the path that rate.lua asks.
+STATUSES = {"/page/SendMessage": 403}
 
 
 class Void(Exception):
@@ -38,19 +40,22 @@ def free_port():
         return it.getsockname()[1]
 
 
-def fetched(request):
-    """Returns the text of the reply to a request. One that is no success makes the run void."""
+def fetched(request, status=200):
+    """Returns the text of the reply to a request. One of another status makes the run void."""
     try:
         with urllib.request.urlopen(request, timeout=60) as it:
-            return it.read().decode()
+            found, text = it.status, it.read().decode()
     except urllib.error.HTTPError as error:
-        raise Void(f"{request.full_url}: {error.code} {error.read().decode(errors='replace')[:300]}") from None
+        found, text = error.code, error.read().decode(errors="replace")
+    if found != status:
+        raise Void(f"{request.full_url}: {found} {text[:300]}")
+    return text
 
 
-def asked(port, action, members, path="/"):
-    """Asks for an action, and returns the text of its reply."""
-    headers = {"X-Amz-Target": f"AmazonSQS.{action}", "Content-Type": "application/x-amz-json-1.0", "Authorization": SIGNED}
-    return fetched(urllib.request.Request(f"http://127.0.0.1:{port}{path}", json.dumps(members).encode(), headers))
+def asked(port, action, members, path="/", status=200, **more):
+    """Asks for an action, with more headers than each request has, and returns the text of its reply."""
+    headers = {"X-Amz-Target": f"AmazonSQS.{action}", "Content-Type": "application/x-amz-json-1.0", "Authorization": SIGNED, **more}
+    return fetched(urllib.request.Request(f"http://127.0.0.1:{port}{path}", json.dumps(members).encode(), headers), status)
 
 
 def unread(port):
@@ -177,6 +182,7 @@ class Server(Started):
         found = {"/send/SendMessage": text("/send/SendMessage", MessageBody="a")}
         found["/receive/ReceiveMessage"] = text("/receive/ReceiveMessage")
         found["/receive/DeleteMessage"] = text("/receive/DeleteMessage", ReceiptHandle=handles("/receive/ReceiveMessage")[0])
+        found["/page/SendMessage"] = asked(self.port, "SendMessage", {"QueueUrl": url, "MessageBody": "a"}, status=403, Origin="http://localhost")
         found["/kilobyte/SendMessage"] = text("/kilobyte/SendMessage", MessageBody="x" * 1024)
         self.ask("PurgeQueue", QueueUrl=url)
         found["/batch/SendMessageBatch"] = text("/batch/SendMessageBatch", Entries=[{"Id": it, "MessageBody": "a"} for it in ids])
@@ -193,7 +199,7 @@ class Nginx(Started):
     def __init__(self, room, replies):
         self.port, self.replies = free_port(), replies
         folders = "".join(f"{it}_temp_path {room}/{it};\n" for it in ("client_body", "proxy", "fastcgi", "uwsgi", "scgi"))
-        places = "".join(f"location = {path} {{ return 200 '{text}'; }}\n" for path, text in replies.items())
+        places = "".join(f"location = {path} {{ return {STATUSES.get(path, 200)} '{text}'; }}\n" for path, text in replies.items())
         config = write(
             f"{room}/nginx.conf",
             f"worker_processes auto; daemon off; pid {room}/nginx.pid;\nevents {{ worker_connections 4096; }}\n"
@@ -205,7 +211,7 @@ class Nginx(Started):
     def begin(self):
         self.listens(self.port)
         for path, text in self.replies.items():
-            if asked(self.port, "Any", {}, path) != text:
+            if asked(self.port, "Any", {}, path, STATUSES.get(path, 200)) != text:
                 self.fails(f"does not reply as told at {path}")
 
 
