@@ -1,16 +1,17 @@
 #!/usr/bin/env python3
-"""Shows what the server does with heads that it does not take, and where the system gives it no descriptor, no thread or no standard error. Ends with one
-line 'N passed, M failed'.
+"""Shows what the server does with heads that it does not take, with more requests than may wait for a queue, and where the system gives it no descriptor, no
+thread or no standard error. Ends with one line 'N passed, M failed'.
 
 usage: clients/hostile.py [PROGRAM]     by default the one that `make run` starts
 
-What is wanted stands in docs/PROFILE.md, sections 7 and 25, and in RFC 9112 (two lengths, and a length beside chunks), RFC 9110 (414) and RFC 6585 (431). It
-needs Linux. Each part has a server of its own, at free ports.
+What is wanted stands in docs/PROFILE.md, sections 7, 16, 20 and 25, and in RFC 9112 (two lengths, and a length beside chunks), RFC 9110 (414) and RFC 6585
+(431). It needs Linux. Each part has a server of its own, at free ports.
 """
 import contextlib
 import glob
 import http.client
 import json
+import math
 import os
 import re
 import resource
@@ -22,6 +23,9 @@ import sys
 import tempfile
 import time
 
+sys.dont_write_bytecode = True
+from rate_servers import unread
+
 ROOT = os.path.dirname(os.path.dirname(os.path.abspath(__file__)))
 # How long an answer may take, how long none must come before none is waited for, and when a connection counts as open behind one, in seconds.
 LIMIT, QUIET, SHORT = 30, 2, 0.5
@@ -31,8 +35,15 @@ HEAD, FIELDS = 64 * 1024, 100
 DESCRIPTORS, CONNECTIONS, STAYING, PROCESSORS = 64, 300, 5, 4
 # Threads that the server may have besides those of its queues, and some queues.
 THREADS = 16
+# How many requests may wait for a queue. One is held up that has so many messages, by at most so many changes, for some seconds, and for more where that is
+# too short.
+WAITING, HELD, CHANGES, HELD_UP = 1_000, 20_000, 500, (3, 10, 20)
+CHANGE = {"QueueUrl": "jobs", "Attributes": {"VisibilityTimeout": "77"}}
+LOOK = {"QueueUrl": "jobs", "AttributeNames": ["VisibilityTimeout", "ApproximateNumberOfMessages"]}
 SERIALIZATION = '{"__type":"com.amazonaws.sqs#SerializationException","message":"The request cannot be read."}'
 MEMORY = '{"__type":"com.amazonaws.sqs#OutOfMemory","message":"Out of memory."}'
+ATTRIBUTES = '{"Attributes":{"ApproximateNumberOfMessages":"20000","VisibilityTimeout":"77"}}'
+BUSY = '{"__type":"com.amazonaws.sqs#ServiceUnavailable","message":"Too many requests wait for the queue."}'
 ABSENT = '{"__type":"com.amazonaws.sqs#QueueDoesNotExist","message":"The specified queue does not exist."}'
 
 
@@ -50,13 +61,15 @@ class Checks:
 
 
 class Server:
-    """The server at free ports, without a queue, and what it tells on standard error."""
+    """The server at free ports, without a queue, and what it tells on standard error. `text` is its configuration."""
 
-    def __init__(self, program, room, begin=lambda: None, **how):
+    def __init__(self, program, room, begin=lambda: None, text="", **how):
         self.log = f"{room}/log"
-        with open(f"{room}/empty.toml", "w", encoding="utf-8"), open(self.log, "w", encoding="utf-8") as log:
+        with open(f"{room}/config.toml", "w", encoding="utf-8") as config:
+            config.write(text)
+        with open(self.log, "w", encoding="utf-8") as log:
             way = {"JUTKARIQ_PORT": "0", "JUTKARIQ_STATISTICS_PORT": "0", "JUTKARIQ_LOG": "all"}
-            self.process = subprocess.Popen([program, f"{room}/empty.toml"], stdout=subprocess.PIPE, stderr=log, env=way, text=True, preexec_fn=begin, **how)
+            self.process = subprocess.Popen([program, f"{room}/config.toml"], stdout=subprocess.PIPE, stderr=log, env=way, text=True, preexec_fn=begin, **how)
         line = self.process.stdout.readline()
         ports = [int(it) for it in re.findall(r"http://localhost:(\d+)", line)]
         if len(ports) != 2:
@@ -86,6 +99,10 @@ class Server:
             return 0, repr(error)
         finally:
             it.close()
+
+    def connect(self, port):
+        """Returns a connection to a port."""
+        return socket.create_connection(("127.0.0.1", port), LIMIT)
 
     def health(self):
         return self.reply("GET", self.statistics, path="/health")
@@ -117,20 +134,34 @@ def told(port, sent):
     with socket.create_connection(("127.0.0.1", port), LIMIT) as line:
         with contextlib.suppress(ConnectionError):
             line.sendall(sent)
-        reply, closes = b"", False
-        with contextlib.suppress(ConnectionError):
-            while not closes and not whole(reply):
-                piece = line.recv(1 << 16)
-                reply, closes = reply + piece, not piece
+        reply = received(line)
         line.settimeout(SHORT if whole(reply) and b"connection: close" not in reply else LIMIT)
-        try:
-            closes = closes or line.recv(1 << 16) == b""
-        except ConnectionError:
-            closes = True
-        except TimeoutError:
-            closes = False
+        return *answer_of(reply), is_cut(line)
+
+
+def received(line):
+    """Returns what comes over a connection, until that is an answer or the connection closes."""
+    reply = b""
+    with contextlib.suppress(ConnectionError):
+        while not whole(reply) and (piece := line.recv(1 << 16)):
+            reply += piece
+    return reply
+
+
+def answer_of(reply):
+    """Returns the status and the text of an answer; the status is 0 where it is none."""
     status, _, body = reply.partition(b"\r\n\r\n")
-    return int(status.split()[1]) if status.startswith(b"HTTP/1.1 ") else 0, body.decode(), closes
+    return int(status.split()[1]) if status.startswith(b"HTTP/1.1 ") else 0, body.decode()
+
+
+def is_cut(line):
+    """Returns whether a connection closes while nothing comes over it."""
+    try:
+        return line.recv(1 << 16) == b""
+    except ConnectionError:
+        return True
+    except TimeoutError:
+        return False
 
 
 def whole(reply):
@@ -183,6 +214,74 @@ def answers(lines, sent, quiet=LIMIT):
             with contextlib.suppress(ConnectionError):
                 found += waiting.pop(number).recv(1 << 16).startswith(b"HTTP/1.1 200 ")
     return found
+
+
+def request_for(action, **members):
+    """Returns a request for an action."""
+    body = json.dumps(members).encode()
+    return b"POST / HTTP/1.1\r\nHost: localhost\r\nX-Amz-Target: AmazonSQS.%b\r\nContent-Length: %d\r\n\r\n%b" % (action.encode(), len(body), body)
+
+
+def sends(server, lines, sent):
+    """Sends the same over connections, and waits until the server has read it, and a moment more, in which it comes to the queue."""
+    end = time.monotonic() + LIMIT
+    for line in lines:
+        line.sendall(sent)
+    while unread(server.port) and time.monotonic() < end:
+        time.sleep(0.01)
+    time.sleep(0.1)
+
+
+def filled(server):
+    """Makes a queue whose journal has room for one entry: so each change of its settings first copies what it holds. Returns how long one takes."""
+    server.ask("CreateQueue", QueueName="jobs")
+    batch = request_for("SendMessageBatch", QueueUrl="jobs", Entries=[{"Id": str(number), "MessageBody": "a"} for number in range(10)])
+    with contextlib.ExitStack() as stack:
+        lines = [stack.enter_context(server.connect(server.port)) for _ in range(20)]
+        for _ in range(HELD // 200):
+            answers(lines, batch)
+    begun = time.monotonic()
+    for _ in range(10):
+        server.ask("SetQueueAttributes", **CHANGE)
+    return (time.monotonic() - begun) / 10
+
+
+def crowded(server, seconds):
+    """Has changes hold up a queue, 1,000 requests for its attributes wait behind them, and then others come. Returns how many of the 1,000 were answered before
+    the last of these was, and all answers: to two purges, before and behind a deletion, to the changes, to requests for attributes, and to the deletion."""
+    changes = min(CHANGES, math.ceil(seconds / filled(server)))
+    with contextlib.ExitStack() as stack:
+        lines, ready = [stack.enter_context(server.connect(server.port)) for _ in range(changes + WAITING + 2)], select.poll()
+        changing, asking, last, deleting = lines[:changes], lines[changes:-2], lines[-2], lines[-1]
+        for line in asking:
+            ready.register(line, select.POLLIN)
+        sends(server, changing, request_for("SetQueueAttributes", **CHANGE))
+        sends(server, asking, request_for("GetQueueAttributes", **LOOK))
+        purges = [server.ask("PurgeQueue", QueueUrl="jobs")]
+        sends(server, [last], request_for("GetQueueAttributes", **LOOK))
+        sends(server, [deleting], request_for("DeleteQueue", QueueUrl="jobs"))
+        purges.append(server.ask("PurgeQueue", QueueUrl="jobs"))
+        early = len(ready.poll(0))
+        said = [answer_of(received(line)) for line in lines]
+    return early, purges, {*said[:changes]}, {*said[changes:-1]}, said[-1]
+
+
+def behind(it, program, room):
+    """While 1,000 requests wait for a queue one more is turned away, and is not done. But the queue's attributes are told, and it is deleted, in its turn."""
+    few, most = resource.getrlimit(resource.RLIMIT_NOFILE)
+    resource.setrlimit(resource.RLIMIT_NOFILE, (max(few, min(4_096, most)), most))
+    for seconds in HELD_UP:
+        with Server(program, room, text=f"[limits]\nmax_lines = {HELD + 2}\n") as server:
+            early, purges, changes, attributes, deletion = crowded(server, seconds)
+            queues = server.ask("ListQueues")
+        if not early:
+            break
+    it.equal("how many of 1,000 requests that are to wait are answered too early", early, 0)
+    it.equal("a PurgeQueue while they wait, and one behind a DeleteQueue", purges, [(500, BUSY)] * 2)
+    it.equal("the changes before them", changes, {(200, "{}")})
+    it.equal("attributes, while they wait and behind the first PurgeQueue", attributes, {(200, ATTRIBUTES)})
+    it.equal("the DeleteQueue", deletion, (200, "{}"))
+    it.equal("the queues then", queues, (200, '{"QueueUrls":[]}'))
 
 
 def descriptors(it, program, room):
@@ -291,7 +390,7 @@ def main(words):
         return 2
     program = words[0] if words else subprocess.check_output([f"{ROOT}/tools/run", "--which", "sqs_server"], text=True).strip()
     it = Checks()
-    for part in (heads, descriptors, threads, silence):
+    for part in (heads, behind, descriptors, threads, silence):
         with tempfile.TemporaryDirectory(prefix="hostile-") as room:
             part(it, os.path.abspath(program), room)
     print(f"{it.passed} passed, {it.failed} failed")
