@@ -1,6 +1,6 @@
 #!/usr/bin/env python3
 """Shows what the server does with heads that it does not take, with more requests than may wait for a queue, and where the system gives it no descriptor, no
-thread or no standard error. Ends with one line 'N passed, M failed'.
+thread, no standard error or no more connections for statistics. Ends with one line 'N passed, M failed'.
 
 usage: clients/hostile.py [PROGRAM]     by default the one that `make run` starts
 
@@ -8,6 +8,8 @@ What is wanted stands in docs/PROFILE.md, sections 7, 16, 20 and 25, and in RFC 
 (431). It needs Linux. Each part has a server of its own, at free ports.
 """
 import contextlib
+import ctypes
+import errno
 import glob
 import http.client
 import json
@@ -40,6 +42,9 @@ THREADS = 16
 WAITING, HELD, CHANGES, HELD_UP = 1_000, 20_000, 500, (3, 10, 20)
 CHANGE = {"QueueUrl": "jobs", "Attributes": {"VisibilityTimeout": "77"}}
 LOOK = {"QueueUrl": "jobs", "AttributeNames": ["VisibilityTimeout", "ApproximateNumberOfMessages"]}
+# The call of Linux by which a program gets a descriptor of another one, and how long the port for statistics is closed behind its eleventh failure, with the
+# ten pauses between these, in seconds; a tenth less, since timers are not exact.
+PIDFD_GETFD, CLOSED = 438, 10 * 0.05 + 1 - 0.1
 SERIALIZATION = '{"__type":"com.amazonaws.sqs#SerializationException","message":"The request cannot be read."}'
 MEMORY = '{"__type":"com.amazonaws.sqs#OutOfMemory","message":"Out of memory."}'
 ATTRIBUTES = '{"Attributes":{"ApproximateNumberOfMessages":"20000","VisibilityTimeout":"77"}}'
@@ -318,6 +323,64 @@ def descriptors(it, program, room):
             it.equal("what it tells", "sqs_server: accept: Too many open files (os error 24)\n" in log.readlines(), True)
 
 
+def files(server):
+    """Returns what the descriptors of the server are, by their numbers."""
+    found = {}
+    for number in os.listdir(f"/proc/{server.process.pid}/fd"):
+        with contextlib.suppress(FileNotFoundError):
+            found[int(number)] = os.readlink(f"/proc/{server.process.pid}/fd/{number}")
+    return found
+
+
+def shut(server):
+    """Has the socket by which the server listens for statistics listen no more, as where the system ends it, and returns its name among its descriptors."""
+    with open("/proc/net/tcp", encoding="utf-8") as table:
+        lines = [line.split() for line in table]
+    # the address, the state of one that listens, and the inode
+    name = next(f"socket:[{words[9]}]" for words in lines if words[1] == f"0100007F:{server.statistics:04X}" and words[3] == "0A")
+    process = os.pidfd_open(server.process.pid)
+    own = ctypes.CDLL(None, use_errno=True).syscall(PIDFD_GETFD, process, next(it for it, one in files(server).items() if one == name), 0)
+    why = ctypes.get_errno()
+    os.close(process)
+    if own < 0:
+        raise OSError(why, os.strerror(why))
+    with socket.socket(fileno=own) as it:
+        it.shutdown(socket.SHUT_RDWR)
+    return name
+
+
+def reopened(it, program, room):
+    """Where nothing can be accepted any more at the port for statistics, that is told, its connections are cut, and it is closed, and opened again a second
+    later. What is asked at the other port is answered all the while."""
+    cause, found, kept, health = "Invalid argument (os error 22)", set(), set(), None
+    with Server(program, room) as server, server.connect(server.statistics) as watcher, server.connect(server.port) as other:
+        it.equal("the health, before the port fails", answers([watcher], look()), 1)
+        begun = time.monotonic()
+        try:
+            failed = shut(server)
+        except OSError as error:
+            if error.errno not in (errno.EPERM, errno.ENOSYS):
+                raise
+            print(f"skipped: what becomes of a port that fails: the system gives no descriptor of another program: {error.strerror}", flush=True)
+            return
+        while health != HEALTHY and time.monotonic() < begun + LIMIT:
+            time.sleep(0.02)
+            found.add(server.ask("ListQueues"))
+            kept.add(answers([other], head() + b"{}"))
+            health = server.health()
+        it.equal("the health behind that", health, HEALTHY)
+        it.equal("whether the port was closed for a second", time.monotonic() - begun > CLOSED, True)
+        it.equal("what is asked at the other port meanwhile", found, {(200, '{"QueueUrls":[]}')})
+        it.equal("what is asked over a connection that was there", kept, {1})
+        it.equal("whether the connection for statistics is cut", is_cut(watcher), True)
+        it.equal("descriptors of the socket that failed", [*files(server).values()].count(failed), 0)
+        with open(server.log, encoding="utf-8") as log:
+            lines = [line for line in log.read().splitlines() if line.startswith("sqs_server: ")]
+        refused = [re.fullmatch(rf"sqs_server: accept: {re.escape(cause)}(?: \((\d+) times? more\))?", line) for line in lines]
+        it.equal("how often nothing could be accepted", sum(int(one[1] or 1) for one in refused if one), 11)
+        it.equal("what is told besides", [line for line, one in zip(lines, refused) if not one], [f"sqs_server: statistics: {cause}"])
+
+
 def owner():
     """Returns a user whom a limit of threads holds for, as it does for no root, how to start a program as that user, and how many threads it has."""
     taken = [os.stat(it).st_uid for it in glob.glob("/proc/[0-9]*/task/*") if os.path.exists(it)]
@@ -390,7 +453,7 @@ def main(words):
         return 2
     program = words[0] if words else subprocess.check_output([f"{ROOT}/tools/run", "--which", "sqs_server"], text=True).strip()
     it = Checks()
-    for part in (heads, behind, descriptors, threads, silence):
+    for part in (heads, behind, descriptors, reopened, threads, silence):
         with tempfile.TemporaryDirectory(prefix="hostile-") as room:
             part(it, os.path.abspath(program), room)
     print(f"{it.passed} passed, {it.failed} failed")
