@@ -3,6 +3,7 @@
 
 usage: clients/rate.py [--seconds S] [--runs R] [--connections N,..] [--polls N] [--only WORDS] [--to FOLDER] [PROGRAM]
        clients/rate.py --rest [--seconds S] [PROGRAM]
+       clients/rate.py --parked [--seconds S] [--polls N] [PROGRAM]
 
 The program is the proved server, as `make build` makes it, unless another is named. Server and nginx are started here, at free ports, and so
 is moto's server where it is installed, which gets sends of 1 letter alone, once. With what is given in brackets it takes some 14 minutes.
@@ -13,8 +14,9 @@ is moto's server where it is installed, which gets sends of 1 letter alone, once
   --polls N          how many polls are parked, or wait for what is sent (1000)
   --only WORDS       only requests whose name in the table has these words, and no moto
   --to FOLDER        where rate.md and rate.svg go: docs/bench for the proved server and all requests, else out/bench
-  --rest             no requests: what part of a processor a server takes that has 1,000 quiet queues, in S seconds (20), and its memory: 5 % or 64 MB are
+  --rest             no requests: what part of a processor a server takes that has 1,000 quiet queues, in S seconds (60), and its memory: 5 % or 64 MB are
                      too much, and end with status 1. The same is told, without a limit, where each of the queues has a policy for dead letters
+  --parked           nothing is sent: what a server takes in S seconds (60) at whose one queue N polls (2000) wait, and each again that ends after 20 s
 
 It needs Debian's packages wrk and nginx, and faketime for queues of 180 rows. Rows are of minutes of the wall clock. So one more server begins
 with a clock that is three hours behind, makes its queues, and then gets the true time: 180 minutes are over at once, without a send in them.
@@ -270,12 +272,13 @@ def taken_by(process):
     return (int(words[11]) + int(words[12])) / os.sysconf("SC_CLK_TCK")
 
 
-def at_rest(server, seconds):
-    """Returns what part of a processor a server takes that is not asked, and its resident memory in millions of bytes."""
-    with server:
-        time.sleep(2)
+def at_rest(server, seconds, polls=0):
+    """Returns what part of a processor a server takes that is not asked, or at whose first queue so many polls wait, and its resident memory in millions of
+    bytes."""
+    with server, Parked(server, "queue-0", polls) as parked:
+        parked.wait(2)
         begin, start = taken_by(server.process), time.monotonic()
-        time.sleep(seconds)
+        parked.wait(seconds)
         part = (taken_by(server.process) - begin) / (time.monotonic() - start)
         with open(f"/proc/{server.process.pid}/status", encoding="utf-8") as it:
             return part, int(re.search(r"VmRSS:\s+(\d+) kB", it.read())[1]) * 1024 / 1e6
@@ -291,6 +294,12 @@ def rest(program, room, seconds):
         return 0
     print(f"rate: 1,000 quiet queues have to take less than {100 * REST_PART:.0f} % of a processor and {REST_MEMORY} MB", file=sys.stderr)
     return 1
+
+
+def parked(program, room, seconds, polls):
+    """Prints what a server takes at whose one queue polls wait, each again once it ends."""
+    part, memory = at_rest(Server(program, room, "server", queues=1), seconds, polls)
+    print(f"{polls:,} polls parked at a queue, {seconds} s: {100 * part:.1f} % of a processor, {memory:.0f} MB resident", flush=True)
 
 
 def timed(program, room, options, is_proved):
@@ -327,15 +336,19 @@ def options_of(words):
     reader.add_argument("--seconds", type=int)
     reader.add_argument("--runs", type=int, default=5)
     reader.add_argument("--connections", type=counts, default=[1, 8, 64])
-    reader.add_argument("--polls", type=int, default=1000)
+    reader.add_argument("--polls", type=int)
     reader.add_argument("--only", default="")
     reader.add_argument("--rest", action="store_true")
+    reader.add_argument("--parked", action="store_true")
     reader.add_argument("--to")
     reader.add_argument("program", nargs="?")
     options = reader.parse_args(words)
-    options.seconds = options.seconds or (20 if options.rest else 2)
-    is_allowed = 1 <= options.seconds <= (3600 if options.rest else 15) and options.runs >= 1
-    is_allowed = is_allowed and all(1 <= it <= 1000 for it in [*options.connections, options.polls])
+    is_quiet = options.rest or options.parked
+    options.seconds = options.seconds or (60 if is_quiet else 2)
+    if options.polls is None:
+        options.polls = 2000 if options.parked else 1000
+    is_allowed = 1 <= options.seconds <= (3600 if is_quiet else 15) and options.runs >= 1 and not (options.rest and options.parked)
+    is_allowed = is_allowed and all(1 <= it <= 1000 for it in options.connections) and 1 <= options.polls <= (8000 if options.parked else 1000)
     if options.help or not is_allowed or not any(kinds_of(line, options) for line in KINDS):
         print(__doc__, file=sys.stderr)
         sys.exit(0 if options.help else 2)
@@ -352,7 +365,7 @@ def main(words):
     options.to = options.to or (f"{ROOT}/docs/bench" if proved and not options.only else f"{ROOT}/out/bench")
     # where Debian has nginx
     os.environ["PATH"] += ":/usr/sbin"
-    for name in () if options.rest else ("wrk", "nginx"):
+    for name in () if options.rest or options.parked else ("wrk", "nginx"):
         if not shutil.which(name):
             sys.exit(f"rate: no {name}: install Debian's package {name}")
     hard = resource.getrlimit(resource.RLIMIT_NOFILE)[1]
@@ -361,6 +374,8 @@ def main(words):
         try:
             if options.rest:
                 return rest(program, room, options.seconds)
+            if options.parked:
+                return parked(program, room, options.seconds, options.polls)
             timed(program, room, options, bool(proved))
         except (Void, OSError) as why:
             sys.exit(f"rate: void: {why}")

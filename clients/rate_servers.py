@@ -275,9 +275,10 @@ class Parked:
         self.server, self.url, self.lines = server, url, []
         body = json.dumps({"QueueUrl": url, "WaitTimeSeconds": 20}).encode()
         head = f"POST / HTTP/1.1\r\nHost: localhost\r\nX-Amz-Target: AmazonSQS.ReceiveMessage\r\nContent-Length: {len(body)}\r\n\r\n".encode()
+        self.request = head + body
         for _ in range(count):
             self.lines.append(socket.create_connection(("127.0.0.1", server.port), 30))
-            self.lines[-1].sendall(head + body)
+            self.lines[-1].sendall(self.request)
         while unread(server.port):
             time.sleep(0.1)
         time.sleep(0.2)
@@ -290,6 +291,18 @@ class Parked:
     def __exit__(self, *_):
         for it in self.lines:
             it.close()
+
+    def wait(self, seconds):
+        """Waits so many seconds. Each that ends meanwhile without a message asks again. Another answer makes the run void."""
+        ready, lines, end = select.poll(), {it.fileno(): it for it in self.lines}, time.monotonic() + seconds
+        for number in lines:
+            ready.register(number, select.POLLIN)
+        while (left := end - time.monotonic()) > 0:
+            for number, _ in ready.poll(1000 * left):
+                said = lines[number].recv(1 << 16)
+                if not said.startswith(b"HTTP/1.1 200 ") or not said.endswith(b"\r\n\r\n{}"):
+                    raise Void(f"a receive that was to end without a message was answered {said[:300]!r}")
+                lines[number].sendall(self.request)
 
     def check(self):
         """Makes the run void where one was answered in it, or where not each is answered once as many messages are sent."""
