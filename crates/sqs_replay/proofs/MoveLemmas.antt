@@ -1,12 +1,13 @@
 -- What the moves of dead letters leave, one parcel on.
-use Rattle.std.proofs.Common.{◌≡◌, ℕ, suc, ◌+◌, ◌-◌, ◌<◌, ◌≤◌, arith, Bool, true, false, Result, Err, MatchBool, refl, sym, ap, subst, inl, inr, ◌∙◌}
+use Rattle.std.proofs.Common.{◌≡◌, ℕ, zero, suc, ◌+◌, ◌-◌, ◌<◌, ◌≤◌, arith, Bool, true, false, Some, None, Result, Err, MatchBool, refl, sym, ap, subst, inl, inr, ◌∙◌}
 use Rattle.std.specs.Prelude.{⊤}
 use Rattle.message.specs.declared.fault.Fault.{Fault}
 use Rattle.message.specs.declared.fault.Fault.TheVariants.{OutOfMemory}
 use Rattle.message.specs.Fault.{is_out_of_memory, Meets}
 use Rattle.queue_core.specs.declared.reply.Reply.{Reply}
+use Rattle.queue_core.specs.Queue.{QueueHistory, first_parcel_of}
 use Rattle.redrive.specs.declared.moved.Moved.{Moved}
-use Rattle.redrive.specs.World.{World, arrive_answer, world_after_hand_over, needs_confirmation, answer_of_halves, confirm_answer, world_after_confirm, move_answer, IsHandedOver, IsMoved}
+use Rattle.redrive.specs.World.{World, queue_of_uid, arrive_answer, world_after_hand_over, needs_confirmation, answer_of_halves, confirm_answer, world_after_confirm, move_answer, IsHandedOver, IsMoved}
 use Rattle.sqs_replay.specs.Moves.{world_between, confirmed_world, world_after_move, goes_on, some_moves}
 use Rattle.sqs_replay.specs.Served.{Leaves}
 use Rattle.sqs_replay.proofs.Memory.{memory_or_other, met}
@@ -56,12 +57,18 @@ module _ (w : World) (source at : ℕ) where
         between_at : m.handed_over ≡ arrive_answer w source at → IsHandedOver w source at m.handed_over m.between → m.between ≡ world_between w source at
         between_at e h = h.left ∙ ap (λ (a : Result Moved Fault). world_after_hand_over w source at a) e
 
-  pub moved_leaves : (answer : Result Moved Fault) (new : World) → IsMoved w source at answer new → Leaves answer new (world_after_move w source at)
+  moved_leaves : (answer : Result Moved Fault) (new : World) → IsMoved w source at answer new → Leaves answer new (world_after_move w source at)
   moved_leaves answer new m =
       elim (memory_or_other m.handed_over) [
         | inl memory ↦ memory_first answer new m memory
         | inr other ↦ other_first answer new m other
       ]
+
+-- ---- where no parcel waits, nothing moves
+
+pub no-parcel : (w : World) (source at : ℕ) (q : QueueHistory) → queue_of_uid w source ≡ Some q → first_parcel_of q ≡ None → (n : ℕ) → some_moves n w source at ≡ w
+no-parcel w source at q here none zero = refl
+no-parcel w source at q here none (suc n) = rw (here, none) refl
 
 -- ---- one after another, by a loop that counts up: what all the moves leave is what those leave that are still to be made
 
@@ -72,22 +79,22 @@ module _ (all now : World) (source at most done : ℕ) (m : all ≡ some_moves (
   one_left : done < most → all ≡ some_moves (suc (most - (done + 1))) now source at
   one_left lt = m ∙ ap (λ (n : ℕ). some_moves n now source at) (let e : most - done ≡ suc (most - (done + 1)) = omega arith in e)
 
-  left_as : (answer : Result Moved Fault) (new : World) → is_out_of_memory answer ≡ false → Leaves answer new (world_after_move now source at) → new ≡ world_after_move now source at
-  left_as answer new other leaves = subst (λ (b : Bool). MatchBool b ⊤ (new ≡ world_after_move now source at)) other leaves
+  left_as : (answer : Result Moved Fault) (new : World) → is_out_of_memory answer ≡ false → IsMoved now source at answer new → new ≡ world_after_move now source at
+  left_as answer new other moved = subst (λ (b : Bool). MatchBool b ⊤ (new ≡ world_after_move now source at)) other (moved_leaves now source at answer new moved)
 
   pub moves_over : most ≤ done → now ≡ all
   moves_over past = sym (m ∙ ap (λ (n : ℕ). some_moves n now source at) (let e : most - done ≡ 0 = omega arith in e))
 
   -- the last move
   pub last_move : done < most → (answer : Result Moved Fault) (new : World) → goes_on answer ≡ false → is_out_of_memory answer ≡ false → Meets answer (move_answer now source at)
-      → Leaves answer new (world_after_move now source at) → new ≡ all
-  last_move lt answer new ends other meets leaves =
+      → IsMoved now source at answer new → new ≡ all
+  last_move lt answer new ends other meets moved =
       let without : goes_on (move_answer now source at) ≡ false = ap goes_on (sym (met answer (move_answer now source at) other meets)) ∙ ends in
-      left_as answer new other leaves ∙ sym (one_left lt ∙ rw without refl)
+      left_as answer new other moved ∙ sym (one_left lt ∙ rw without refl)
 
   -- a move that another follows
   pub next_move : done < most → (answer : Result Moved Fault) (new : World) → goes_on answer ≡ true → is_out_of_memory answer ≡ false → Meets answer (move_answer now source at)
-      → Leaves answer new (world_after_move now source at) → all ≡ some_moves (most - (done + 1)) new source at
-  next_move lt answer new more other meets leaves =
+      → IsMoved now source at answer new → all ≡ some_moves (most - (done + 1)) new source at
+  next_move lt answer new more other meets moved =
       let with_it : goes_on (move_answer now source at) ≡ true = ap goes_on (sym (met answer (move_answer now source at) other meets)) ∙ more in
-      subst (λ (v : World). all ≡ some_moves (most - (done + 1)) v source at) (sym (left_as answer new other leaves)) (one_left lt ∙ rw with_it refl)
+      subst (λ (v : World). all ≡ some_moves (most - (done + 1)) v source at) (sym (left_as answer new other moved)) (one_left lt ∙ rw with_it refl)

@@ -63,6 +63,6 @@ module _ (w : World) (uid at : ℕ) where
   looked-at (Some q) here reply is = looked-there q here reply is
 
   -- what answers a look is told of the queue as the look leaves it
-  pub looked : (reply : Reply) (new : World) → ◌≡◌ {A = Result Reply Fault} (Ok reply) (step_answer w uid at Look) → new ≡ (command_served w uid at Look).world
+  pub looked : (reply : Reply) (new : World) → ◌≡◌ {A = Result Reply Fault} (Ok reply) (step_answer w uid at Look) → new ≡ world_after_step {T = Reply} w uid at Look (Ok reply)
       → ForSome (queue_of_uid new uid) (λ x. reply ≡ Looked (look_of x))
-  looked reply new is left = rw left (looked-at (queue_of_uid w uid) refl reply is)
+  looked reply new is left = rw (left ∙ ap (λ (a : Result Reply Fault). world_after_step w uid at Look a) is) (looked-at (queue_of_uid w uid) refl reply is)

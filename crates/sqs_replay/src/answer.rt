@@ -5,12 +5,10 @@ ghost use Rattle.message.specs.Fault.{Meets, is_out_of_memory};
 ghost use Rattle.redrive.specs.World.{names_in_world, sources_answer, target_uid};
 ghost use Rattle.aws_json.specs.declared.reply.ReplyShape.TheVariants.{QueueUrl, QueueUrls, SourceQueueUrls};
 ghost use Rattle.aws_json.specs.Steps.{result_map};
-ghost use Rattle.aws_json.specs.Request.{request_of};
 ghost use Rattle.request_plan.specs.declared.task.Task.TheVariants.{Create, Delete, Set, Ask};
 ghost use Rattle.request_plan.specs.Task.{queue_of_task, task_of};
-ghost use Rattle.sqs_replay.specs.declared.answer.Asked.TheVariants.{Client};
 ghost use Rattle.sqs_replay.specs.declared.shown.LineAnswer.TheVariants.{Reply};
-ghost use Rattle.sqs_replay.specs.Served.{asked_by, asked_of, unchanged, in_queue, delete_served, task_served, served, asked_served, queue_of_asked, required_queue, timed_served, line_served, answer_text, text_of_line, world_of_line, Leaves};
+ghost use Rattle.sqs_replay.specs.Served.{asked_by, asked_of, unchanged, in_queue, task_served, served, asked_served, queue_of_asked, required_queue, line_served, answer_text, text_of_line, world_of_line, Leaves};
 
 use crate::ReplayFault;
 use crate::input_line::{InputLine, read_line};
@@ -18,7 +16,7 @@ use crate::lines::{LINE_LIMIT, Lines};
 use crate::moves::move_dead_letters;
 use crate::shown::{LineAnswer, shown_text};
 use crate::statistics::{show_alarms, show_rows, show_statistics};
-use crate::steps::{play, serve_command};
+use crate::steps::play;
 use aws_json::{
     Prefix, QueueNames, ReplyShape, Request, fault_text, parse, read_object, read_queue, status,
 };
@@ -60,13 +58,6 @@ fn required_queue(alloc: Global, body: &[u8]) -> Result<QueueName, Fault>
     queue.ok_or(Fault::InvalidParameterValue)
 }
 
-/// Reads a client's request.
-fn read_request(alloc: Global, action: &str, body: &[u8]) -> Result<Asked, Fault>
-    ensures { Meets result (result_map Client (request_of action.now body.now)) }
-{
-    Ok(Asked::Client(parse(alloc, action, body)?))
-}
-
 /// Reads one of the replay's own actions, or a client's request.
 fn read_asked(alloc: Global, action: &str, body: &[u8]) -> Result<Asked, Fault>
     ensures { Meets result (asked_by action.now body.now) }
@@ -76,10 +67,10 @@ fn read_asked(alloc: Global, action: &str, body: &[u8]) -> Result<Asked, Fault>
             read_object(alloc, body)?;
             Ok(Asked::Tick)
         }
-        "Statistics" => Ok(Asked::Statistics(read_queue(alloc, body)?)),
-        "Rows" => Ok(Asked::Rows(required_queue(alloc, body)?)),
-        "Alarms" => Ok(Asked::Alarms(required_queue(alloc, body)?)),
-        _ => read_request(alloc, action, body),
+        "Statistics" => read_queue(alloc, body).map(Asked::Statistics),
+        "Rows" => required_queue(alloc, body).map(Asked::Rows),
+        "Alarms" => required_queue(alloc, body).map(Asked::Alarms),
+        _ => parse(alloc, action, body).map(Asked::Client),
     }
 }
 
@@ -114,20 +105,6 @@ fn create(
     Ok(ReplyShape::QueueUrl(name))
 }
 
-/// Deletes the queue of a uid.
-fn delete_of_uid(
-    alloc: Global,
-    house: &mut House,
-    at: Moment,
-    uid: u64,
-    ticks: &mut Ticks,
-) -> Result<(), Fault>
-    ensures answer { Meets result (delete_served house.old uid at).answer }
-    ensures state { Leaves result house.new (delete_served house.old uid at).world }
-{
-    house.delete_queue(alloc, uid, at, ticks)
-}
-
 /// Deletes a queue.
 fn delete_queue(
     alloc: Global,
@@ -142,7 +119,7 @@ fn delete_queue(
     let Some(uid) = house.find(queue) else {
         return Err(Fault::QueueDoesNotExist);
     };
-    delete_of_uid(alloc, house, at, uid, ticks)?;
+    house.delete_queue(alloc, uid, at, ticks)?;
     Ok(ReplyShape::Nothing)
 }
 
@@ -184,7 +161,7 @@ fn set_attributes(
     };
     let target = target_uid(house, &wish);
     let command = Command::Set { wish, target };
-    serve_command(alloc, house, at, uid, &command, ticks)?;
+    house.step(alloc, uid, at, &command, ticks)?;
     Ok(ReplyShape::Nothing)
 }
 
@@ -247,20 +224,6 @@ fn serve_task(
     }
 }
 
-/// Does what a request is about, and shows what is replied.
-fn show_reply(
-    alloc: Global,
-    house: &mut House,
-    at: Moment,
-    task: Task,
-    ticks: &mut Ticks,
-) -> Result<LineAnswer, Fault>
-    ensures answer { Meets result (result_map Reply (task_served house.old at task).answer) }
-    ensures state { Leaves result house.new (task_served house.old at task).world }
-{
-    Ok(LineAnswer::Reply(serve_task(alloc, house, at, task, ticks)?))
-}
-
 /// An answer, and the queue whose dead letters then move.
 #[derive(Drop)]
 struct AskedAnswer {
@@ -282,7 +245,7 @@ fn serve(
 {
     let task = task_of(alloc, request);
     let queue = queue_of_task(&task);
-    let answer = show_reply(alloc, house, at, task, ticks);
+    let answer = serve_task(alloc, house, at, task, ticks).map(LineAnswer::Reply);
     AskedAnswer { answer, queue }
 }
 
@@ -320,26 +283,7 @@ fn serve_asked(alloc: Global, house: &mut House, timed: Timed, ticks: &mut Ticks
     }
 }
 
-/// Answers what a line asks, and then moves the dead letters of the queue that it names.
-fn serve_timed(
-    alloc: Global,
-    house: &mut House,
-    timed: Timed,
-    ticks: &mut Ticks,
-) -> Result<LineAnswer, Fault>
-    ensures answer { Meets result (timed_served house.old timed).answer }
-    ensures state { Leaves result house.new (timed_served house.old timed).world }
-{
-    let at = timed.at;
-    let AskedAnswer { answer, queue } = serve_asked(alloc, house, timed, ticks);
-    if has_no_memory(&answer) {
-        return answer;
-    }
-    move_dead_letters(alloc, house, at, queue, ticks)?;
-    answer
-}
-
-/// Answers a line.
+/// Answers a line, and then moves the dead letters of the queue that it names.
 fn serve_line(
     alloc: Global,
     house: &mut House,
@@ -350,34 +294,29 @@ fn serve_line(
     ensures state { Leaves result house.new (line_served house.old (asked_of line.now)).world }
 {
     let timed = read_timed(alloc, line)?;
-    serve_timed(alloc, house, timed, ticks)
+    let at = timed.at;
+    let AskedAnswer { answer, queue } = serve_asked(alloc, house, timed, ticks);
+    if matches!(answer, Err(Fault::OutOfMemory)) {
+        return answer;
+    }
+    move_dead_letters(alloc, house, at, queue, ticks)?;
+    answer
 }
 
-/// The text of an answer: its status, a space, the JSON text and a line feed.
+/// The text of an answer: its status, a space, the JSON text and a line feed. That memory ran out is
+/// never told as an answer.
 fn text_of_answer(alloc: Global, answer: &Result<LineAnswer, Fault>) -> Result<Vec<u8>, ReplayFault>
     ensures text { IfOk result (λ bytes. bytes.items ≡ answer_text answer.now) }
     ensures answered { OnOk result (is_out_of_memory answer.now ≡ false) }
     ensures fault { IfErr result (λ fault. fault ≡ ReplayFault.OutOfMemory) }
 {
-    if has_no_memory(answer) {
-        return Err(ReplayFault::OutOfMemory);
-    }
     match answer {
         Ok(shown) => {
             let json = shown_text(alloc, shown).map_err(|_| ReplayFault::OutOfMemory)?;
             written(alloc, 200, json.as_str())
         }
+        Err(Fault::OutOfMemory) => Err(ReplayFault::OutOfMemory),
         Err(fault) => written(alloc, status(*fault), fault_text(*fault)),
-    }
-}
-
-/// Whether an answer is that memory ran out, which is never told as an answer.
-fn has_no_memory(answer: &Result<LineAnswer, Fault>) -> bool
-    ensures { result ≡ is_out_of_memory answer.now }
-{
-    match answer {
-        Ok(_) => false,
-        Err(fault) => matches!(fault, Fault::OutOfMemory),
     }
 }
 

@@ -3,30 +3,16 @@
 ghost use Rattle.std.specs.Prelude.{◌≡◌, ◌⊎◌, ℕ, false, IfErr, OnOk, None, Ok, Err};
 ghost use Rattle.std.specs.Option.{ForSome};
 ghost use Rattle.message.specs.declared.fault.Fault.TheVariants.{OutOfMemory};
-ghost use Rattle.message.specs.Fault.{Meets, is_out_of_memory};
+ghost use Rattle.message.specs.Fault.{is_out_of_memory};
 ghost use Rattle.queue_core.specs.Legal.{IsLegal};
-ghost use Rattle.redrive.specs.World.{World, queue_of_uid, first_parcel_in, move_answer};
-ghost use Rattle.sqs_replay.specs.Moves.{world_after_move, goes_on, message_count_in, some_moves, all_moves, WasRefused};
-ghost use Rattle.sqs_replay.specs.Served.{moves_after, Leaves};
+ghost use Rattle.redrive.specs.World.{World, queue_of_uid, first_parcel_in};
+ghost use Rattle.sqs_replay.specs.Moves.{goes_on, message_count_in, some_moves, all_moves, WasRefused};
+ghost use Rattle.sqs_replay.specs.Served.{moves_after};
 
 use journal::{Moment, Ticks};
 use message::{Fault, QueueName};
 use redrive::{House, Moved};
 use std::alloc::Global;
-
-/// Moves the first parcel of the queue of a uid.
-fn move_first(
-    alloc: Global,
-    house: &mut House,
-    at: Moment,
-    source: u64,
-    ticks: &mut Ticks,
-) -> Result<Moved, Fault>
-    ensures answer { Meets result (move_answer house.old source at) }
-    ensures state { Leaves result house.new (world_after_move house.old source at) }
-{
-    house.move_one(alloc, source, at, ticks)
-}
 
 /// Whether another parcel is tried after an answer. Lack of memory is told on.
 fn goes_on(answer: Result<Moved, Fault>) -> Result<bool, Fault>
@@ -55,7 +41,7 @@ fn some_moves(
     ensures fault { IfErr result (λ fault. fault ≡ OutOfMemory) }
 {
     for _done in 0..most {
-        let answer = move_first(alloc, house, at, source, ticks);
+        let answer = house.move_one(alloc, source, at, ticks);
         if !goes_on(answer)? {
             return Ok(());
         }
@@ -63,7 +49,8 @@ fn some_moves(
     Ok(())
 }
 
-/// Moves every parcel of the queue of a name, where that queue is there.
+/// Moves every parcel of the queue of a name, where that queue is there. Where none waits, as after
+/// nearly every line, nothing else is asked.
 pub(crate) fn move_dead_letters(
     alloc: Global,
     house: &mut House,
@@ -80,6 +67,9 @@ pub(crate) fn move_dead_letters(
     let Some(queue) = house.named(&name) else {
         return Ok(());
     };
+    if queue.first_waiting().is_none() {
+        return Ok(());
+    }
     let (source, most) = (queue.uid(), queue.message_count());
     some_moves(alloc, house, at, source, most, ticks)
 }

@@ -12,7 +12,6 @@ ghost use Rattle.sqs_replay.specs.Served.{Leaves, sheet_in, sheet_served, named_
 ghost use Rattle.sqs_replay.specs.declared.answer.Asked.TheVariants.{Statistics, Rows, Alarms};
 
 use crate::shown::LineAnswer;
-use crate::steps::serve_command;
 use aws_json::Listed;
 use board::Sheet;
 use journal::{Moment, Ticks};
@@ -43,7 +42,7 @@ fn sheet_of_uid(
     ensures answer { Meets result (sheet_served house.old uid at).answer }
     ensures state { Leaves result house.new (sheet_served house.old uid at).world }
 {
-    let reply = serve_command(alloc, house, at, uid, &Command::Look, ticks)?;
+    let reply = house.step(alloc, uid, at, &Command::Look, ticks)?;
     sheet_in(alloc, house, uid, &reply)
 }
 

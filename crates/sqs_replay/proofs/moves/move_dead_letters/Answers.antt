@@ -1,13 +1,16 @@
-use Rattle.std.proofs.Common.{◌≡◌, ℕ, Option, Some, List, refl, sym, ap, subst, ◌∙◌, nat_eq, eq-eqb}
-use Rattle.std.specs.Prelude.{OnOk}
+use Rattle.std.proofs.Common.{◌≡◌, ℕ, Bool, true, false, Option, Some, None, List, refl, sym, ap, subst, ◌∙◌, nat_eq, eq-eqb}
+use Rattle.std.specs.Prelude.{OnOk, is_some, not}
 use Rattle.std.specs.Option.{option_map, option_map_or}
 use Rattle.std.specs.Str.{bytes_eq}
+use Rattle.journal.specs.declared.entry.Origin.{Origin}
+use Rattle.queue_core.specs.declared.parcel.Parcel.{Parcel}
 use Rattle.queue_core.specs.Messages.{message_count}
-use Rattle.queue_core.specs.Queue.{QueueHistory}
+use Rattle.queue_core.specs.Queue.{QueueHistory, first_parcel_of}
 use Rattle.redrive.specs.World.{World, IsRegistry, queue_named, queue_of_uid}
 use Rattle.redrive.proofs.KeyedLemmas.{find-unique}
 use Rattle.sqs_replay.specs.Moves.{some_moves, all_moves, message_count_in}
 use Rattle.sqs_replay.specs.Served.{moves_after}
+use Rattle.sqs_replay.proofs.MoveLemmas.{no-parcel}
 use Rattle.sqs_replay.proofs.moves.move_dead_letters.Goals as goal
 
 -- the queue of a name is that of its uid
@@ -20,6 +23,23 @@ named-moves w at name q r here =
     let count : message_count_in w q.uid ≡ message_count q.lines = ap (λ (o : Option QueueHistory). option_map_or (λ q. message_count q.lines) o 0) (named-uid w name q r here) in
     sym (ap (λ (most : ℕ). some_moves most w q.uid at) count)
     ∙ sym (ap (λ (o : Option QueueHistory). option_map_or (λ uid. all_moves w uid at) (option_map (λ (q : QueueHistory). q.uid) o) w) here)
+
+-- none waits where none is found
+none-waits : (o : Option Parcel) (first : Option (Origin × ℕ)) (none : Bool) → first ≡ option_map (λ p. (p.origin, p.target)) o → is_some first ≡ not none → none ≡ true → o ≡ None
+none-waits None first none is some t = refl
+none-waits (Some p) first true is some t = absurd (let no : true ≡ false = ap is_some (sym is) ∙ some in cc)
+none-waits (Some p) first false is some t = absurd cc
+
+pub returns-then-is_none-clause-state : goal.returns-then-is_none-clause-state
+returns-then-is_none-clause-state c =
+    let w : World = c.args.house.now in
+    let q : QueueHistory = c.in-Some-named.queue.now in
+    let here : queue_named w c.in-Some.name ≡ Some q = sym c.in-Some-named.ensures.queue in
+    let none : first_parcel_of q ≡ None =
+    none-waits (first_parcel_of q) c.first_waiting.result c.is_none.result c.first_waiting.ensures.first c.is_none.ensures c.if-is_none.true in
+    sym (no-parcel w q.uid c.args.at q (named-uid w c.in-Some.name q c.in-Some-named.ensures.registry here) none (message_count q.lines))
+    ∙ named-moves w c.args.at c.in-Some.name q c.in-Some-named.ensures.registry here
+    ∙ sym (ap (λ (name : Option (List ℕ)). moves_after w c.args.at name) c.in-Some.is)
 
 pub returns-clause-state : goal.returns-clause-state
 returns-clause-state c =
