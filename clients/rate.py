@@ -6,7 +6,7 @@ usage: clients/rate.py [--seconds S] [--runs R] [--connections N,..] [--polls N]
        clients/rate.py --parked [--seconds S] [--polls N] [PROGRAM]
 
 The program is the proved server, as `make build` makes it, unless another is named. Server and nginx are started here, at free ports, and so
-is moto's server where it is installed, which gets sends of 1 letter alone, once. With what is given in brackets it takes some 14 minutes.
+is moto's server where it is installed, which gets sends of 1 letter alone, once. With what is given in brackets it takes some 15 minutes.
 
   --seconds S        how long each run takes, 1 to 15 (2)
   --runs R           how often each is run (5)
@@ -33,7 +33,8 @@ How it keeps from flattering:
   - Sends that are refused by their heads ask no queue: their reply is a constant here too, so they show what HTTP alone takes.
   - Each run has a new queue, so that none profits from what another left.
   - Each reply has to have status 200, and the MD5 of what was sent or an empty list of failures. Behind each run the statistics of the queue
-    have to tell as many messages sent, received and deleted as wrk has replies to, and neither a refusal nor an empty receive. Polls that are
+    have to tell as many messages sent, received and deleted as wrk has replies to, and neither a refusal nor an empty receive. Where heads are
+    refused, each reply has to have status 403 and that refusal's text, and the queue must have got no message. Polls that are
     parked have to be silent until the run is over, and then each to be answered by a message. Else there is no table.
   - Polls stay parked while others send to their queue only where no message is visible in time: those sends have a delay of 15 minutes, and so
     have those beside which no poll is parked. Where each message is taken by one of as many polls, these come again and delete what they got:
@@ -318,7 +319,7 @@ def timed(program, room, options, is_proved):
     head = f"{named} beside nginx {version(['nginx', '-v'])}, asked by wrk {version(['wrk', '-v'])}, on {os.cpu_count()} processors, whose load was {load:.1f} before:\n"
     head += f"the middle of {options.runs} runs of {options.seconds} s each, with the slowest and the fastest. Rates are requests a second;"
     head += f" of polls there are {options.polls:,}."
-    text = "\n".join([head, "", table(found), *lines]).rstrip("\n") + "\n\n![Requests a second, as a part of nginx's, over 1, 8 and 64 connections](rate.svg)\n"
+    text = "\n".join([head, "", table(found), *lines]).rstrip("\n") + "\n\n![Requests a second, as a part of nginx's, against the number of connections](rate.svg)\n"
     os.makedirs(options.to, exist_ok=True)
     for name, it in (("rate.md", text), ("rate.svg", picture(found))):
         with open(f"{options.to}/{name}", "w", encoding="utf-8") as to:
