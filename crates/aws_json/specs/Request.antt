@@ -180,24 +180,24 @@ row actions.DeleteMessage = single (url ∷ handle_column ∷ []) delete_message
 row actions.ChangeMessageVisibility = single (url ∷ handle_column ∷ column (codes "VisibilityTimeout") Number ∷ []) change_message_visibility
 row (actions.Batch kind) = record { columns = url ∷ []; entries = Some kind; judge = batch kind }
 
--- the actions that are served, by their names, each at the place at which it is counted
+-- the actions that are served, by their names, each at the place at which it is counted; those that are asked for most often come first
 abbrev pub served_actions : List (List ℕ × Action)
 served_actions =
-    (codes "CreateQueue", actions.CreateQueue)
-    ∷ (codes "DeleteQueue", actions.DeleteQueue)
-    ∷ (codes "GetQueueUrl", actions.GetQueueUrl)
-    ∷ (codes "ListQueues", actions.ListQueues)
-    ∷ (codes "ListDeadLetterSourceQueues", actions.ListDeadLetterSourceQueues)
-    ∷ (codes "GetQueueAttributes", actions.GetQueueAttributes)
-    ∷ (codes "SetQueueAttributes", actions.SetQueueAttributes)
-    ∷ (codes "PurgeQueue", actions.PurgeQueue)
-    ∷ (codes "SendMessage", actions.SendMessage)
-    ∷ (codes "SendMessageBatch", actions.Batch entries.Send)
+    (codes "SendMessage", actions.SendMessage)
     ∷ (codes "ReceiveMessage", actions.ReceiveMessage)
     ∷ (codes "DeleteMessage", actions.DeleteMessage)
+    ∷ (codes "SendMessageBatch", actions.Batch entries.Send)
     ∷ (codes "DeleteMessageBatch", actions.Batch entries.Delete)
     ∷ (codes "ChangeMessageVisibility", actions.ChangeMessageVisibility)
-    ∷ (codes "ChangeMessageVisibilityBatch", actions.Batch entries.Change) ∷ []
+    ∷ (codes "ChangeMessageVisibilityBatch", actions.Batch entries.Change)
+    ∷ (codes "GetQueueAttributes", actions.GetQueueAttributes)
+    ∷ (codes "GetQueueUrl", actions.GetQueueUrl)
+    ∷ (codes "CreateQueue", actions.CreateQueue)
+    ∷ (codes "DeleteQueue", actions.DeleteQueue)
+    ∷ (codes "ListQueues", actions.ListQueues)
+    ∷ (codes "ListDeadLetterSourceQueues", actions.ListDeadLetterSourceQueues)
+    ∷ (codes "SetQueueAttributes", actions.SetQueueAttributes)
+    ∷ (codes "PurgeQueue", actions.PurgeQueue) ∷ []
 
 -- the action of a name in a table, and the name at a place of it
 abbrev pub action_in : List (List ℕ × Action) → List ℕ → Option Action

@@ -46,29 +46,30 @@ pub(crate) enum Action {
     Batch(EntryKind),
 }
 
-/// The actions that are served, by their names, each at the place at which it is counted.
+/// The actions that are served, by their names, each at the place at which it is counted. A name is
+/// compared with these from the front, so those that are asked for most often come first.
 const ACTIONS: &[(&str, Action)] = &[
-    ("CreateQueue", Action::CreateQueue),
-    ("DeleteQueue", Action::DeleteQueue),
-    ("GetQueueUrl", Action::GetQueueUrl),
-    ("ListQueues", Action::ListQueues),
-    (
-        "ListDeadLetterSourceQueues",
-        Action::ListDeadLetterSourceQueues,
-    ),
-    ("GetQueueAttributes", Action::GetQueueAttributes),
-    ("SetQueueAttributes", Action::SetQueueAttributes),
-    ("PurgeQueue", Action::PurgeQueue),
     ("SendMessage", Action::SendMessage),
-    ("SendMessageBatch", Action::Batch(EntryKind::Send)),
     ("ReceiveMessage", Action::ReceiveMessage),
     ("DeleteMessage", Action::DeleteMessage),
+    ("SendMessageBatch", Action::Batch(EntryKind::Send)),
     ("DeleteMessageBatch", Action::Batch(EntryKind::Delete)),
     ("ChangeMessageVisibility", Action::ChangeMessageVisibility),
     (
         "ChangeMessageVisibilityBatch",
         Action::Batch(EntryKind::Change),
     ),
+    ("GetQueueAttributes", Action::GetQueueAttributes),
+    ("GetQueueUrl", Action::GetQueueUrl),
+    ("CreateQueue", Action::CreateQueue),
+    ("DeleteQueue", Action::DeleteQueue),
+    ("ListQueues", Action::ListQueues),
+    (
+        "ListDeadLetterSourceQueues",
+        Action::ListDeadLetterSourceQueues,
+    ),
+    ("SetQueueAttributes", Action::SetQueueAttributes),
+    ("PurgeQueue", Action::PurgeQueue),
 ];
 
 /// How many actions are served.
