@@ -106,21 +106,10 @@ abbrev pub have_equal_ids : List BatchEntry → Bool
 have_equal_ids [] = false
 have_equal_ids (e ∷ es) = has_id e.id es || have_equal_ids es
 
--- how many bytes an entry sends; an entry with a fault of its own sends none. Entries that are read only send, change and delete
+-- how many bytes an entry sends; one that changes or deletes, or has a fault of its own, sends none
 abbrev pub command_size : Result Command Fault → ℕ
 command_size (Ok (commands.Send content delay)) = content_size content
-command_size (Ok (commands.Receive maximum timeout)) = 0
-command_size (Ok (commands.Change handle timeout)) = 0
-command_size (Ok (commands.Delete handle)) = 0
-command_size (Ok commands.Purge) = 0
-command_size (Ok (commands.Set wish target)) = 0
-command_size (Ok (commands.Arrive parcel)) = 0
-command_size (Ok (commands.Settle number)) = 0
-command_size (Ok (commands.Orphan target)) = 0
-command_size (Ok commands.Close) = 0
-command_size (Ok commands.Look) = 0
-command_size (Ok commands.FirstParcel) = 0
-command_size (Err fault) = 0
+command_size _ = 0
 
 abbrev pub entry_size : BatchEntry → ℕ
 entry_size e = command_size e.command
