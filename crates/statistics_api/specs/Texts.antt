@@ -1,56 +1,53 @@
--- Statistics as JSON (this project's own resource); keys stand in byte order.
+-- Statistics as JSON (this project's own resource); a member is put at its key's place, so keys stand in byte order.
 use Rattle.std.specs.Prelude.{ℕ, List, [], ◌∷◌, codes}
 use Rattle.message.specs.Order.{sorted, text_before}
 use Rattle.alarm.specs.declared.state.AlarmState.{AlarmState}
 use Rattle.alarm.specs.AlarmState.{alarm_state_name}
 use Rattle.board.specs.Sheet.{Statistics}
 use Rattle.metric_window.specs.declared.flows.Flows.{Flows}
+use Rattle.metric_window.specs.declared.gauges.Gauges.{Gauges}
 use Rattle.metric_window.specs.declared.row.Row.{Row}
-use Rattle.serde_json.specs.Data.{Data, unsigned, number, string, array, object, Items, no_items, item, Members, no_members, member}
+use Rattle.serde_json.specs.Data.{Data, unsigned, number, string, array, object, Items, no_items, item, Members, no_members, member, put}
 use Rattle.serde_json.specs.Written.{compact_text}
 
--- a member that is a whole number
-abbrev pub count : List ℕ → ℕ → Members → Members
-count key n others = member key (number (unsigned n)) others
+-- a whole number put among the members
+abbrev pub put_count : List ℕ → ℕ → Members → Members
+put_count key n members = put key (number (unsigned n)) members
+
+-- what happened in a minute, put among the members
+abbrev pub put_flows : Flows → Members → Members
+put_flows f members =
+    put_count (codes "sentSize") f.sent_size
+    (put_count (codes "sent") f.sent
+    (put_count (codes "refused") f.refused
+    (put_count (codes "received") f.received
+    (put_count (codes "emptyReceives") f.empty_receives
+    (put_count (codes "deleted") f.deleted
+    (put_count (codes "deadLettersArrived") f.dead_letters_arrived members))))))
+
+-- what stands in a queue, put among the members
+abbrev pub put_gauges : Gauges → Members → Members
+put_gauges g members =
+    put_count (codes "visible") g.visible
+    (put_count (codes "inFlight") g.in_flight
+    (put_count (codes "delayed") g.delayed
+    (put_count (codes "age") g.age members)))
 
 -- what happened in a minute
 abbrev pub flows_data : Flows → Data
-flows_data f =
-    object (count (codes "deadLettersArrived") f.dead_letters_arrived
-    (count (codes "deleted") f.deleted
-    (count (codes "emptyReceives") f.empty_receives
-    (count (codes "received") f.received
-    (count (codes "refused") f.refused
-    (count (codes "sent") f.sent
-    (count (codes "sentSize") f.sent_size no_members)))))))
+flows_data f = object (put_flows f no_members)
 
 -- a minute: what happened in it, and what stood there at its end
 abbrev pub row_data : Row → Data
-row_data r =
-    object (count (codes "age") r.gauges.age
-    (count (codes "deadLettersArrived") r.flows.dead_letters_arrived
-    (count (codes "delayed") r.gauges.delayed
-    (count (codes "deleted") r.flows.deleted
-    (count (codes "emptyReceives") r.flows.empty_receives
-    (count (codes "inFlight") r.gauges.in_flight
-    (count (codes "minute") r.minute
-    (count (codes "received") r.flows.received
-    (count (codes "refused") r.flows.refused
-    (count (codes "sent") r.flows.sent
-    (count (codes "sentSize") r.flows.sent_size
-    (count (codes "visible") r.gauges.visible no_members))))))))))))
+row_data r = object (put_flows r.flows (put_gauges r.gauges (put_count (codes "minute") r.minute no_members)))
 
 -- a queue
 abbrev pub sheet_data : Statistics → Data
 sheet_data s =
-    object (count (codes "age") s.gauges.age
-    (count (codes "clock") s.clock
-    (member (codes "current") (flows_data s.current)
-    (count (codes "delayed") s.gauges.delayed
-    (count (codes "inFlight") s.gauges.in_flight
-    (count (codes "lines") s.lines
-    (member (codes "name") (string s.name)
-    (count (codes "visible") s.gauges.visible no_members))))))))
+    object (put (codes "name") (string s.name)
+    (put_count (codes "lines") s.lines
+    (put (codes "current") (flows_data s.current)
+    (put_count (codes "clock") s.clock (put_gauges s.gauges no_members)))))
 
 -- an alarm
 abbrev pub alarm_data : List ℕ × AlarmState → Data

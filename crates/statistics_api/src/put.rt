@@ -4,7 +4,7 @@ ghost use Rattle.std.specs.Prelude.{◌≡◌, OnOk, IfErr};
 ghost use Rattle.message.specs.declared.fault.Fault.TheVariants.{OutOfMemory};
 ghost use Rattle.serde_json.specs.Data.{put};
 ghost use Rattle.serde_json.specs.View.{view, members_view};
-ghost use Rattle.statistics_api.specs.private.Puts.{put_count, put_flows, put_gauges};
+ghost use Rattle.statistics_api.specs.Texts.{put_count, put_flows, put_gauges};
 
 use message::Fault;
 use metric_window::{Flows, Gauges};
