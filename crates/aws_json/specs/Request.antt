@@ -30,23 +30,21 @@ slash = 47
 abbrev pub name_part : List ℕ → List ℕ
 name_part url = after_last (λ c. c == slash) url
 
--- the queue that a QueueUrl names; a name that no queue can have is that of no queue
+-- the name of a queue that is looked for; a name that no queue can have is that of no queue
+abbrev pub known_name : Option (List ℕ) → Result (List ℕ) Fault
+known_name name = do
+  text ← required name
+  refused_as QueueDoesNotExist (queue_name_of text)
+
+-- the queue that a QueueUrl names
 abbrev pub named_queue : Option (List ℕ) → Result (List ℕ) Fault
-named_queue url = do
-  text ← required url
-  refused_as QueueDoesNotExist (queue_name_of (name_part text))
+named_queue url = known_name (option_map name_part url)
 
 -- the name of a new queue
 abbrev pub new_name : Option (List ℕ) → Result (List ℕ) Fault
 new_name name = do
   text ← required name
   queue_name_of text
-
--- the name of a queue that is looked for; a name that no queue can have is that of no queue
-abbrev pub known_name : Option (List ℕ) → Result (List ℕ) Fault
-known_name name = do
-  text ← required name
-  refused_as QueueDoesNotExist (queue_name_of text)
 
 -- the requested attributes after one more member; a null asks for nothing
 abbrev pub request_text : RequestedAttributes → List ℕ → Option (List ℕ) → Result RequestedAttributes Fault
@@ -70,6 +68,12 @@ maximum_given number = result_map (λ n. unwrap_or n 1) (within 1 most_offers nu
 
 -- ---- actions: what each asks, or the first fault in the order in which its members are judged
 
+-- of one that has a queue and no other members
+abbrev pub queue_alone : (List ℕ → Request) → Data → Result Request Fault
+queue_alone request d = do
+  queue ← named_queue (text_in (codes "QueueUrl") d)
+  Ok (request queue)
+
 abbrev pub create_queue : Data → Result Request Fault
 create_queue d = do
   name ← new_name (text_in (codes "QueueName") d)
@@ -83,16 +87,6 @@ set_queue_attributes d = do
   requested ← request_members no_requested_attributes members
   Ok (SetQueueAttributes queue requested)
 
-abbrev pub purge_queue : Data → Result Request Fault
-purge_queue d = do
-  queue ← named_queue (text_in (codes "QueueUrl") d)
-  Ok (PurgeQueue queue)
-
-abbrev pub delete_queue : Data → Result Request Fault
-delete_queue d = do
-  queue ← named_queue (text_in (codes "QueueUrl") d)
-  Ok (DeleteQueue queue)
-
 abbrev pub get_queue_url : Data → Result Request Fault
 get_queue_url d = do
   name ← known_name (text_in (codes "QueueName") d)
@@ -101,11 +95,6 @@ get_queue_url d = do
 -- without a prefix every name is listed
 abbrev pub list_queues : Data → Result Request Fault
 list_queues d = Ok (ListQueues (unwrap_or (text_in (codes "QueueNamePrefix") d) []))
-
-abbrev pub list_dead_letter_source_queues : Data → Result Request Fault
-list_dead_letter_source_queues d = do
-  queue ← named_queue (text_in (codes "QueueUrl") d)
-  Ok (ListDeadLetterSourceQueues queue)
 
 abbrev pub get_queue_attributes : Data → Result Request Fault
 get_queue_attributes d = do
@@ -165,11 +154,11 @@ url = column (codes "QueueUrl") Text
 abbrev pub row : Action → ActionRow
 row actions.CreateQueue = single (column (codes "QueueName") Text ∷ column (codes "Attributes") NamedTexts ∷ []) create_queue
 row actions.SetQueueAttributes = single (url ∷ column (codes "Attributes") NamedTexts ∷ []) set_queue_attributes
-row actions.PurgeQueue = single (url ∷ []) purge_queue
-row actions.DeleteQueue = single (url ∷ []) delete_queue
+row actions.PurgeQueue = single (url ∷ []) (queue_alone PurgeQueue)
+row actions.DeleteQueue = single (url ∷ []) (queue_alone DeleteQueue)
 row actions.GetQueueUrl = single (column (codes "QueueName") Text ∷ []) get_queue_url
 row actions.ListQueues = single (column (codes "QueueNamePrefix") Text ∷ []) list_queues
-row actions.ListDeadLetterSourceQueues = single (url ∷ []) list_dead_letter_source_queues
+row actions.ListDeadLetterSourceQueues = single (url ∷ []) (queue_alone ListDeadLetterSourceQueues)
 row actions.GetQueueAttributes = single (url ∷ column (codes "AttributeNames") Texts ∷ []) get_queue_attributes
 row actions.SendMessage = single (url ∷ message_columns) send_message
 row actions.ReceiveMessage =

@@ -1,14 +1,14 @@
 //! The actions (Amazon SQS API Reference): each is a line of [`ACTIONS`], has the members of its row
-//! with their kinds in [`columns_of`], and is a function that judges them one after another. Which
-//! fault is which, and the order in which they are judged, is this project's own choice.
+//! with their kinds in [`columns_of`], and has an arm of [`judge`], where they are judged one after
+//! another. Which fault is which, and the order in which they are judged, is this project's own choice.
 
-ghost use Rattle.std.specs.Prelude.{◌≡◌, ◌<◌, Err, Some, None, IfSome, is_some, option_map, map, length};
+ghost use Rattle.std.specs.Prelude.{◌≡◌, ◌<◌, Err, Some, None, IfSome, is_some, option_map, map, length, codes};
 ghost use Rattle.std.specs.List.{find, position};
 ghost use Rattle.std.specs.Str.{bytes_eq};
 ghost use Rattle.message.specs.Fault.{Meets};
 ghost use Rattle.serde_json.specs.View.{view};
-ghost use Rattle.aws_json.specs.Members.{column};
-ghost use Rattle.aws_json.specs.Request.{row, served_actions, action_in, name_in, action_named, action_place, action_at, has_kinds, asked_of_row, maximum_given, create_queue, set_queue_attributes, purge_queue, delete_queue, get_queue_url, list_queues, list_dead_letter_source_queues, send_message, receive_message, delete_message, change_message_visibility, get_queue_attributes, batch, action_row, request_of, queue_of_body};
+ghost use Rattle.aws_json.specs.Members.{column, text_in};
+ghost use Rattle.aws_json.specs.Request.{row, served_actions, action_in, name_in, action_named, action_place, action_at, has_kinds, asked_of_row, maximum_given, named_queue, create_queue, set_queue_attributes, get_queue_url, list_queues, send_message, receive_message, delete_message, change_message_visibility, get_queue_attributes, batch, action_row, request_of, queue_of_body};
 
 use crate::attribute_names::{asked_attribute_names, asked_names, asked_patterns};
 use crate::batch::{EntryKind, GivenMessage};
@@ -75,6 +75,13 @@ const ACTIONS: &[(&str, Action)] = &[
 /// How many actions are served.
 pub const ACTION_COUNT: usize = ACTIONS.len();
 
+/// The queue that an action is about.
+fn queue_of(body: &Value) -> Result<QueueName, Fault>
+    ensures { result ≡ named_queue (text_in (codes "QueueUrl") (view body.now)) }
+{
+    named_queue(text_in(body, "QueueUrl"))
+}
+
 /// Reads a creation: the name first, then the attributes.
 fn create_queue(alloc: Global, body: &Value) -> Result<Request, Fault>
     ensures { Meets result (create_queue (view body.now)) }
@@ -88,26 +95,10 @@ fn create_queue(alloc: Global, body: &Value) -> Result<Request, Fault>
 fn set_queue_attributes(alloc: Global, body: &Value) -> Result<Request, Fault>
     ensures { Meets result (set_queue_attributes (view body.now)) }
 {
-    let queue = named_queue(text_in(body, "QueueUrl"))?;
+    let queue = queue_of(body)?;
     let members = members_in(body, "Attributes").ok_or(Fault::InvalidParameterValue)?;
     let wish = request_members(alloc, members)?;
     Ok(Request::SetQueueAttributes { queue, wish })
-}
-
-/// Reads a purge.
-fn purge_queue(body: &Value) -> Result<Request, Fault>
-    ensures { result ≡ purge_queue (view body.now) }
-{
-    let queue = named_queue(text_in(body, "QueueUrl"))?;
-    Ok(Request::PurgeQueue { queue })
-}
-
-/// Reads a deletion of a queue.
-fn delete_queue(body: &Value) -> Result<Request, Fault>
-    ensures { result ≡ delete_queue (view body.now) }
-{
-    let queue = named_queue(text_in(body, "QueueUrl"))?;
-    Ok(Request::DeleteQueue { queue })
 }
 
 /// Reads a request for a queue's URL.
@@ -127,19 +118,11 @@ fn list_queues(alloc: Global, body: &Value) -> Result<Request, Fault>
     Ok(Request::ListQueues { prefix })
 }
 
-/// Reads a request for the URLs of the queues that have a queue for their dead letters.
-fn list_dead_letter_source_queues(body: &Value) -> Result<Request, Fault>
-    ensures { result ≡ list_dead_letter_source_queues (view body.now) }
-{
-    let queue = named_queue(text_in(body, "QueueUrl"))?;
-    Ok(Request::ListDeadLetterSourceQueues { queue })
-}
-
 /// Reads a send: the queue first, then what is sent.
 fn send_message(alloc: Global, body: &Value) -> Result<Request, Fault>
     ensures { Meets result (send_message (view body.now)) }
 {
-    let queue = named_queue(text_in(body, "QueueUrl"))?;
+    let queue = queue_of(body)?;
     let GivenMessage { content, delay } = message_given(alloc, body)?;
     Ok(Request::SendMessage {
         queue,
@@ -163,7 +146,7 @@ pub(crate) fn maximum_given(number: Option<Option<u64>>) -> Result<Maximum, Faul
 fn receive_message(alloc: Global, body: &Value) -> Result<Request, Fault>
     ensures { Meets result (receive_message (view body.now)) }
 {
-    let queue = named_queue(text_in(body, "QueueUrl"))?;
+    let queue = queue_of(body)?;
     let maximum = maximum_given(number_in(body, "MaxNumberOfMessages"))?;
     let timeout = timeout_within(number_in(body, "VisibilityTimeout"))?;
     let wait = within(0, 20, number_in(body, "WaitTimeSeconds"))?;
@@ -183,7 +166,7 @@ fn receive_message(alloc: Global, body: &Value) -> Result<Request, Fault>
 fn delete_message(body: &Value) -> Result<Request, Fault>
     ensures { result ≡ delete_message (view body.now) }
 {
-    let queue = named_queue(text_in(body, "QueueUrl"))?;
+    let queue = queue_of(body)?;
     let handle = given_handle(text_in(body, "ReceiptHandle"))?;
     Ok(Request::DeleteMessage { queue, handle })
 }
@@ -192,7 +175,7 @@ fn delete_message(body: &Value) -> Result<Request, Fault>
 fn change_message_visibility(body: &Value) -> Result<Request, Fault>
     ensures { result ≡ change_message_visibility (view body.now) }
 {
-    let queue = named_queue(text_in(body, "QueueUrl"))?;
+    let queue = queue_of(body)?;
     let handle = given_handle(text_in(body, "ReceiptHandle"))?;
     let timeout = required_timeout(number_in(body, "VisibilityTimeout"))?;
     Ok(Request::ChangeMessageVisibility {
@@ -206,7 +189,7 @@ fn change_message_visibility(body: &Value) -> Result<Request, Fault>
 fn get_queue_attributes(alloc: Global, body: &Value) -> Result<Request, Fault>
     ensures { Meets result (get_queue_attributes (view body.now)) }
 {
-    let queue = named_queue(text_in(body, "QueueUrl"))?;
+    let queue = queue_of(body)?;
     let names = asked_attribute_names(alloc, items_in(body, "AttributeNames"))?;
     Ok(Request::GetQueueAttributes { queue, names })
 }
@@ -215,7 +198,7 @@ fn get_queue_attributes(alloc: Global, body: &Value) -> Result<Request, Fault>
 fn batch(alloc: Global, kind: EntryKind, body: &Value) -> Result<Request, Fault>
     ensures { Meets result (batch kind (view body.now)) }
 {
-    let queue = named_queue(text_in(body, "QueueUrl"))?;
+    let queue = queue_of(body)?;
     let items = items_in(body, "Entries").ok_or(Fault::InvalidParameterValue)?;
     let entries = batch_of(alloc, kind, items)?;
     Ok(Request::Batch { queue, entries })
@@ -344,11 +327,17 @@ fn judge(alloc: Global, action: Action, body: &Value) -> Result<Request, Fault>
     match action {
         Action::CreateQueue => create_queue(alloc, body),
         Action::SetQueueAttributes => set_queue_attributes(alloc, body),
-        Action::PurgeQueue => purge_queue(body),
-        Action::DeleteQueue => delete_queue(body),
+        Action::PurgeQueue => Ok(Request::PurgeQueue {
+            queue: queue_of(body)?,
+        }),
+        Action::DeleteQueue => Ok(Request::DeleteQueue {
+            queue: queue_of(body)?,
+        }),
         Action::GetQueueUrl => get_queue_url(body),
         Action::ListQueues => list_queues(alloc, body),
-        Action::ListDeadLetterSourceQueues => list_dead_letter_source_queues(body),
+        Action::ListDeadLetterSourceQueues => Ok(Request::ListDeadLetterSourceQueues {
+            queue: queue_of(body)?,
+        }),
         Action::GetQueueAttributes => get_queue_attributes(alloc, body),
         Action::SendMessage => send_message(alloc, body),
         Action::ReceiveMessage => receive_message(alloc, body),
