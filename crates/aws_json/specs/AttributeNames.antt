@@ -1,8 +1,9 @@
 -- The attributes of queues and of messages that a client asks for by their names (Amazon SQS API Reference, GetQueueAttributes, ReceiveMessage).
-use Rattle.std.specs.Prelude.{ℕ, Bool, true, false, ◌||◌, ◌&&◌, unwrap_or, if◌then◌else◌, List, [], ◌∷◌, filter, codes, Option, Some, None, Result, Ok, Err}
+use Rattle.std.specs.Prelude.{ℕ, Bool, true, false, ◌||◌, ◌&&◌, unwrap_or, if◌then◌else◌, List, [], ◌∷◌, map, filter, codes, Option, Some, None, Result, Ok, Err}
 use Rattle.std.specs.Str.{bytes_eq}
 use Rattle.message.specs.declared.fault.Fault.{Fault}
 use Rattle.message.specs.declared.fault.Fault.TheVariants.{InvalidAttributeName}
+use Rattle.queue_config.specs.SettingRows.{setting_row, all_settings}
 use Rattle.queue_config.specs.Settings.{is_ignored_attribute}
 use Rattle.serde_json.specs.Data.{Data, Items, no_items, item}
 use Rattle.serde_json.specs.Find.{as_str}
@@ -54,19 +55,14 @@ queue_attribute_name queues.Visible = codes "ApproximateNumberOfMessages"
 queue_attribute_name queues.Delayed = codes "ApproximateNumberOfMessagesDelayed"
 queue_attribute_name queues.InFlight = codes "ApproximateNumberOfMessagesNotVisible"
 queue_attribute_name queues.Created = codes "CreatedTimestamp"
-queue_attribute_name queues.Delay = codes "DelaySeconds"
 queue_attribute_name queues.Modified = codes "LastModifiedTimestamp"
-queue_attribute_name queues.Size = codes "MaximumMessageSize"
-queue_attribute_name queues.Retention = codes "MessageRetentionPeriod"
 queue_attribute_name queues.Arn = codes "QueueArn"
-queue_attribute_name queues.Wait = codes "ReceiveMessageWaitTimeSeconds"
 queue_attribute_name queues.Redrive = codes "RedrivePolicy"
-queue_attribute_name queues.Timeout = codes "VisibilityTimeout"
+queue_attribute_name (queues.Setting setting) = (setting_row setting).name
 
 unfoldable pub all_queue_attributes : List QueueAttribute
 all_queue_attributes =
-    queues.Visible ∷ queues.Delayed ∷ queues.InFlight ∷ queues.Created ∷ queues.Delay ∷ queues.Modified ∷ queues.Size ∷ queues.Retention
-    ∷ queues.Arn ∷ queues.Wait ∷ queues.Redrive ∷ queues.Timeout ∷ []
+    queues.Visible ∷ queues.Delayed ∷ queues.InFlight ∷ queues.Created ∷ queues.Modified ∷ queues.Arn ∷ queues.Redrive ∷ map queues.Setting all_settings
 
 -- names that a client may ask for; what is accepted without effect is not answered
 abbrev pub is_queue_name : List ℕ → Bool

@@ -11,6 +11,7 @@ use Rattle.message.specs.declared.fault.Fault.{Fault}
 use Rattle.message.specs.declared.id.MessageId.{MessageId}
 use Rattle.receipt_handle.specs.declared.handle.Handle.{Handle}
 use Rattle.receipt_handle.specs.Handle.{handle_text}
+use Rattle.queue_config.specs.Settings.{setting_value}
 use Rattle.queue_config.specs.declared.policy.RedrivePolicy.{RedrivePolicy}
 use Rattle.queue_core.specs.declared.offers.Offer.{Offer}
 use Rattle.queue_core.specs.declared.reply.Look.{Look}
@@ -62,14 +63,10 @@ queue_attribute_text queue look queues.Visible = Some (decimal look.gauges.visib
 queue_attribute_text queue look queues.Delayed = Some (decimal look.gauges.delayed)
 queue_attribute_text queue look queues.InFlight = Some (decimal look.gauges.in_flight)
 queue_attribute_text queue look queues.Created = Some (decimal (look.created / 1000))
-queue_attribute_text queue look queues.Delay = Some (decimal look.settings.delay_seconds)
 queue_attribute_text queue look queues.Modified = Some (decimal (look.modified / 1000))
-queue_attribute_text queue look queues.Size = Some (decimal look.settings.maximum_message_size)
-queue_attribute_text queue look queues.Retention = Some (decimal look.settings.retention_seconds)
 queue_attribute_text queue look queues.Arn = Some (queue_arn queue)
-queue_attribute_text queue look queues.Wait = Some (decimal look.settings.wait_seconds)
 queue_attribute_text queue look queues.Redrive = option_map policy_text look.settings.redrive_policy
-queue_attribute_text queue look queues.Timeout = Some (decimal look.settings.visibility_timeout)
+queue_attribute_text queue look (queues.Setting setting) = Some (decimal (setting_value setting look.settings))
 
 -- these attributes put among the members, each under its name
 abbrev pub put_queue_attributes : List ℕ → Look → Members → List QueueAttribute → Members

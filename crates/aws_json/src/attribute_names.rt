@@ -13,7 +13,7 @@ use crate::request::{AttributeNames, ReceiveNames};
 use crate::selection::Patterns;
 use crate::text::Text;
 use message::Fault;
-use queue_config::is_ignored;
+use queue_config::{Setting, is_ignored, setting_row};
 use serde_json::Value;
 use std::alloc::Global;
 
@@ -28,22 +28,14 @@ pub enum QueueAttribute {
     InFlight,
     /// When the queue was created, in seconds.
     Created,
-    /// How long a sent message stays delayed, in seconds.
-    Delay,
     /// When the queue last got settings, in seconds.
     Modified,
-    /// How large a message may be, in bytes.
-    Size,
-    /// How long messages are kept, in seconds.
-    Retention,
     /// The name by which policies and other services know the queue.
     Arn,
-    /// How long a receive waits, in seconds.
-    Wait,
     /// Where a message goes that is received too often, and when.
     Redrive,
-    /// How long a received message stays in flight, in seconds.
-    Timeout,
+    /// A setting that is a number, in seconds or bytes.
+    Setting(Setting),
 }
 
 impl QueueAttribute {
@@ -56,14 +48,10 @@ impl QueueAttribute {
             QueueAttribute::Delayed => "ApproximateNumberOfMessagesDelayed",
             QueueAttribute::InFlight => "ApproximateNumberOfMessagesNotVisible",
             QueueAttribute::Created => "CreatedTimestamp",
-            QueueAttribute::Delay => "DelaySeconds",
             QueueAttribute::Modified => "LastModifiedTimestamp",
-            QueueAttribute::Size => "MaximumMessageSize",
-            QueueAttribute::Retention => "MessageRetentionPeriod",
             QueueAttribute::Arn => "QueueArn",
-            QueueAttribute::Wait => "ReceiveMessageWaitTimeSeconds",
             QueueAttribute::Redrive => "RedrivePolicy",
-            QueueAttribute::Timeout => "VisibilityTimeout",
+            QueueAttribute::Setting(setting) => setting_row(setting).name,
         }
     }
 }
@@ -78,14 +66,14 @@ fn all_queue_attributes() -> &'static [QueueAttribute]
         QueueAttribute::Delayed,
         QueueAttribute::InFlight,
         QueueAttribute::Created,
-        QueueAttribute::Delay,
         QueueAttribute::Modified,
-        QueueAttribute::Size,
-        QueueAttribute::Retention,
         QueueAttribute::Arn,
-        QueueAttribute::Wait,
         QueueAttribute::Redrive,
-        QueueAttribute::Timeout,
+        QueueAttribute::Setting(Setting::DelaySeconds),
+        QueueAttribute::Setting(Setting::VisibilityTimeout),
+        QueueAttribute::Setting(Setting::MessageRetentionPeriod),
+        QueueAttribute::Setting(Setting::ReceiveMessageWaitTimeSeconds),
+        QueueAttribute::Setting(Setting::MaximumMessageSize),
     ]
 }
 

@@ -75,17 +75,16 @@ fn queue_attribute_text(
         QueueAttribute::Delayed => decimal(alloc, look.gauges.delayed)?,
         QueueAttribute::InFlight => decimal(alloc, look.gauges.in_flight)?,
         QueueAttribute::Created => decimal(alloc, seconds(look.created))?,
-        QueueAttribute::Delay => decimal(alloc, u64::from(settings.delay_seconds))?,
         QueueAttribute::Modified => decimal(alloc, seconds(look.modified))?,
-        QueueAttribute::Size => decimal(alloc, u64::from(settings.maximum_message_size))?,
-        QueueAttribute::Retention => decimal(alloc, u64::from(settings.retention_seconds))?,
         QueueAttribute::Arn => queue_arn(alloc, queue)?,
-        QueueAttribute::Wait => decimal(alloc, u64::from(settings.wait_seconds))?,
         QueueAttribute::Redrive => match settings.redrive_policy {
             Some(policy) => policy_text(alloc, policy)?,
             None => return Ok(None),
         },
-        QueueAttribute::Timeout => decimal(alloc, u64::from(settings.visibility_timeout))?,
+        QueueAttribute::Setting(setting) => {
+            let number = settings.setting_value(setting);
+            decimal(alloc, u64::from(number))?
+        }
     };
     Ok(Some(text))
 }
