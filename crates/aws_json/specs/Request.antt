@@ -215,16 +215,13 @@ action_row name = option_map row (action_named name)
 abbrev pub has_kinds : ActionRow → Data → Bool
 has_kinds row d = entries_have_kinds row.entries d && have_kinds row.columns d
 
--- the kinds of all members that are known, at any depth, come before the members one after another
-abbrev pub asked_of_row : ActionRow → Data → Result Request Fault
-asked_of_row row d = if has_kinds row d then row.judge d else Err SerializationException
-
--- an action that is not served is refused before the body is looked at
+-- an action that is not served is refused before the body is looked at; the kinds of all members that are known, at any depth, come before the members one
+-- after another
 abbrev pub request_of : List ℕ → List ℕ → Result Request Fault
 request_of action body = do
   row ← ok_or (action_row action) UnsupportedOperation
   d ← object_of body
-  asked_of_row row d
+  if has_kinds row d then row.judge d else Err SerializationException
 
 -- ---- the queue that a body names, for an action that is none of these
 

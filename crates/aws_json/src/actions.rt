@@ -8,7 +8,7 @@ ghost use Rattle.std.specs.Str.{bytes_eq};
 ghost use Rattle.message.specs.Fault.{Meets};
 ghost use Rattle.serde_json.specs.View.{view};
 ghost use Rattle.aws_json.specs.Members.{column, text_in};
-ghost use Rattle.aws_json.specs.Request.{row, served_actions, action_in, name_in, action_named, action_place, action_at, has_kinds, asked_of_row, maximum_given, named_queue, create_queue, set_queue_attributes, get_queue_url, list_queues, send_message, receive_message, delete_message, change_message_visibility, get_queue_attributes, batch, action_row, request_of, queue_of_body};
+ghost use Rattle.aws_json.specs.Request.{row, served_actions, action_in, name_in, action_named, action_place, action_at, has_kinds, maximum_given, named_queue, create_queue, set_queue_attributes, get_queue_url, list_queues, send_message, receive_message, delete_message, change_message_visibility, get_queue_attributes, batch, action_row, request_of, queue_of_body};
 
 use crate::attribute_names::{asked_attribute_names, asked_names, asked_patterns};
 use crate::batch::{EntryKind, GivenMessage};
@@ -347,26 +347,21 @@ fn judge(alloc: Global, action: Action, body: &Value) -> Result<Request, Fault>
     }
 }
 
-/// The same, where a member of another kind is a `SerializationException` before all others.
-fn asked_of_row(alloc: Global, action: Action, body: &Value) -> Result<Request, Fault>
-    ensures { Meets result (asked_of_row (row action) (view body.now)) }
-{
-    if has_kinds(action, body) {
-        judge(alloc, action, body)
-    } else {
-        Err(Fault::SerializationException)
-    }
-}
-
 /// The request that an action and a body are, or the first fault. An action that is not served is
-/// `UnsupportedOperation`, whatever the body is.
+/// `UnsupportedOperation`, whatever the body is; a member of another kind is a
+/// `SerializationException` before all other faults of members.
 pub fn parse(alloc: Global, action: &str, body: &[u8]) -> Result<Request, Fault>
     ensures request { Meets result (request_of action.now body.now) }
     ensures unserved { action_row action.now ≡ None → result ≡ Err Fault.UnsupportedOperation }
 {
-    match action_named(action) {
-        Some(action) => asked_of_row(alloc, action, &read_object(alloc, body)?),
-        None => Err(Fault::UnsupportedOperation),
+    let Some(action) = action_named(action) else {
+        return Err(Fault::UnsupportedOperation);
+    };
+    let object = read_object(alloc, body)?;
+    if has_kinds(action, &object) {
+        judge(alloc, action, &object)
+    } else {
+        Err(Fault::SerializationException)
     }
 }
 
