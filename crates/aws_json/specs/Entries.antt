@@ -2,7 +2,6 @@
 use Rattle.std.specs.Prelude.{ℕ, suc, ◌==◌, nat_lt, Bool, true, false, ◌||◌, ◌&&◌, is_some, if◌then◌else◌, List, [], ◌∷◌, sum_by, codes, Option, Some, None, Result, Ok, Err}
 use Rattle.std.specs.Option.{option_map_or}
 use Rattle.std.specs.Str.{bytes_eq}
-use Rattle.message.specs.Attribute.{AttributeText}
 use Rattle.message.specs.Content.{body_fault, content_of, content_size, unless_fault}
 use Rattle.message.specs.Name.{queue_name_of}
 use Rattle.message.specs.declared.fault.Fault.{Fault}
@@ -12,7 +11,7 @@ use Rattle.queue_core.specs.declared.command.Command.{Command}
 use Rattle.queue_core.specs.declared.command.Command.TheVariants as commands
 use Rattle.receipt_handle.specs.declared.handle.Handle.{Handle}
 use Rattle.receipt_handle.specs.Handle.{handle_of}
-use Rattle.serde_json.specs.Data.{Data, Items, no_items, item, Members}
+use Rattle.serde_json.specs.Data.{Data, Items, no_items, item}
 use Rattle.serde_json.specs.Find.{get, as_array, as_object}
 use Rattle.aws_json.specs.Steps.{◌>>=◌, result_map, refused_as, required}
 use Rattle.aws_json.specs.Members.{text_in, members_in, number_in, within, is_null, Column, column, have_kinds}
@@ -31,15 +30,12 @@ given_body body = do
   text ← required body
   unless_fault (body_fault text) text
 
-abbrev pub given_attributes : Option Members → List AttributeText
-given_attributes members = option_map_or attributes_given members []
-
 -- a message to be sent: the body is judged before the delay, and the delay before the attributes
 abbrev pub message_given : Data → Result GivenMessage Fault
 message_given d = do
   body ← given_body (text_in (codes "MessageBody") d)
   seconds ← within 0 longest_delay (number_in (codes "DelaySeconds") d)
-  whole ← content_of body (given_attributes (members_in (codes "MessageAttributes") d))
+  whole ← content_of body (option_map_or attributes_given (members_in (codes "MessageAttributes") d) [])
   Ok (record { content = whole; delay = seconds })
 
 -- the handle of a receive, which has to be there

@@ -6,7 +6,7 @@ ghost use Rattle.message.specs.Fault.{Meets};
 ghost use Rattle.queue_core.specs.Ranges.{longest_delay, longest_timeout};
 ghost use Rattle.serde_json.specs.View.{view, items_view, members_view};
 ghost use Rattle.aws_json.specs.Attributes.{text_or_empty, bytes_of_base64, attribute_given, attributes_given};
-ghost use Rattle.aws_json.specs.Entries.{message_columns, given_body, given_attributes, message_given, given_handle, required_within, entry_columns, entry_command, entry_id, entry_of, entries_of, has_id, have_equal_ids, entry_size, checked_entries, item_count, batch_of, are_entries, entries_have_kinds};
+ghost use Rattle.aws_json.specs.Entries.{message_columns, given_body, message_given, given_handle, required_within, entry_columns, entry_command, entry_id, entry_of, entries_of, has_id, have_equal_ids, entry_size, checked_entries, item_count, batch_of, are_entries, entries_have_kinds};
 ghost use Rattle.aws_json.specs.Members.{within, have_kinds};
 ghost use Rattle.aws_json.specs.Steps.{result_map};
 
@@ -85,20 +85,6 @@ fn attributes_given(alloc: Global, members: &Map<String, Value>) -> Result<Vec<A
     Ok(attributes)
 }
 
-/// The same for an object that may be absent.
-fn given_attributes(
-    alloc: Global,
-    members: Option<&Map<String, Value>>,
-) -> Result<Vec<Attribute>, Fault>
-    ensures { Meets (result_map (λ attributes. attributes.items) result) (Ok (given_attributes
-        (option_map (λ members. members_view members.now.entries) members.entry))) }
-{
-    match members {
-        Some(members) => attributes_given(alloc, members),
-        None => Ok(Vec::new(alloc)),
-    }
-}
-
 /// The text of a body, which has to be there and to be one.
 pub(crate) fn given_body(text: Option<&str>) -> Result<&str, Fault>
     ensures { result_map (λ s. s.now) result ≡ given_body (option_map (λ s. s.now) text.entry) }
@@ -157,7 +143,10 @@ pub(crate) fn message_given(alloc: Global, body: &Value) -> Result<GivenMessage,
 {
     let text = given_body(text_in(body, "MessageBody"))?;
     let delay = delay_within(number_in(body, "DelaySeconds"))?;
-    let attributes = given_attributes(alloc, members_in(body, "MessageAttributes"))?;
+    let attributes = match members_in(body, "MessageAttributes") {
+        Some(members) => attributes_given(alloc, members)?,
+        None => Vec::new(alloc),
+    };
     let content = Content::new(alloc, String::from_str(alloc, text)?, attributes)?;
     Ok(GivenMessage { content, delay })
 }
