@@ -1,5 +1,5 @@
 -- What the future of a response gives: a request is judged by its head, its stages follow one another, and what the last one ends with is sent.
-use Rattle.std.specs.Prelude.{◌≡◌, ◌≢◌, ◌⊎◌, ⊤, ℕ, is_some, codes, List, [], Bool, Option, Some, None, Result, Ok, Err}
+use Rattle.std.specs.Prelude.{◌≡◌, ◌≢◌, ◌⊎◌, ⊤, ⊥, ℕ, is_some, codes, List, [], Bool, Option, Some, None, Result, Ok, Err}
 use Rattle.http.specs.Request as request
 use Rattle.http.specs.Response.{body_of, head_of}
 use Rattle.http.specs.StatusCode.{IsStatusCode}
@@ -16,6 +16,8 @@ use Rattle.hyper.specs.declared.body.incoming.Incoming.{Incoming}
 use Rattle.hyper.specs.declared.error.Error.{Error}
 use Rattle.message.specs.declared.fault.Fault.TheVariants.{OutOfMemory}
 use Rattle.tokio.specs.declared.net.stream.TcpStream.{TcpStream}
+use Rattle.sqs_server.specs.declared.answering.Way.{Way}
+use Rattle.sqs_server.specs.declared.answering.Way.TheVariants as ways
 use Rattle.sqs_server.specs.declared.arriving.Arriving.{Arriving}
 use Rattle.sqs_server.specs.declared.head.Denial.{Denial}
 use Rattle.sqs_server.specs.declared.reply.Sent.{Sent}
@@ -98,7 +100,14 @@ module _ {R : Type 0} (port : ℕ) where
   abbrev pub Gives : Stage R → Result (Response (Full (List ℕ))) Error → Type 0
   Gives stage given = (ended : Result Sent Error) × MayEnd stage ended × Responds ended given
 
--- a request that is at a stage may get this, by the port of the front that answers it, or where there was no memory for one
-abbrev pub IsGiven : {R : Type 0} → Option ℕ → Stage R → Result (Response (Full (List ℕ))) Error → Type 0
-IsGiven (Some port) stage given = Gives port stage given
-IsGiven None stage given = Responds (Ok (without_memory stage)) given
+-- a response comes so to a request that begins with a stage, of a server that answers requests at a port
+abbrev pub Begins : {R : Type 0} → ℕ → Stage R → Way R → Type 0
+Begins port stage (ways.Stages request) = (request.value.front.port ≡ port) × (request.value.stage ≡ stage)
+Begins port stage (ways.Known sent) = sent ≡ without_memory stage
+Begins port stage ways.Over = ⊥
+
+-- what comes so may be this
+abbrev pub IsGiven : {R : Type 0} → Way R → Result (Response (Full (List ℕ))) Error → Type 0
+IsGiven (ways.Stages request) given = Gives request.value.front.port request.value.stage given
+IsGiven (ways.Known sent) given = Responds (Ok sent) given
+IsGiven ways.Over given = Responds (Ok (refused OutOfMemory)) given

@@ -1,9 +1,9 @@
 //! The service of a connection: each request gets a future of its response.
 
-ghost use Rattle.std.specs.Prelude.{◌≡◌, ℕ, Ok, None, IfSome, option_map};
+ghost use Rattle.std.specs.Prelude.{◌≡◌, ℕ, Ok, None};
 ghost use Rattle.sqs_server.specs.Head as head_spec;
 ghost use Rattle.sqs_server.specs.Responses as response;
-ghost use Rattle.sqs_server.specs.Responses.{Comes, IsFirstStage, IsGiven, Judged, Responds};
+ghost use Rattle.sqs_server.specs.Responses.{Begins, Comes, IsFirstStage, IsGiven, Judged, Responds};
 
 use crate::arriving::{Arriving, KeptRequest};
 use crate::bodies::{Bodies, Part};
@@ -26,24 +26,49 @@ use std::mem;
 use std::sync::{Arc, Wait};
 use std::time::Clock;
 
+/// How far a request is that is being answered.
+#[derive(Drop)]
+pub(crate) struct Progress<R: Wait + Drop> {
+    front: Front<R>,
+    stage: Stage<R>,
+    /// What is kept of it, once its body has come.
+    kept: Option<KeptRequest>,
+}
+
+/// How a response comes.
+#[derive(Drop)]
+pub(crate) enum Way<R: Wait + Drop> {
+    /// Stage by stage. The request lies in a place of its own: it is large, and who polls a future moves it.
+    Stages(Box<Progress<R>>),
+    /// This was known at once.
+    Known(Sent),
+    /// It was given.
+    Over,
+}
+
 /// The future of a response.
 #[derive(Drop)]
 pub struct Answering<R: Wait + Drop> {
     alloc: Global,
-    /// `None` where there was no memory to begin.
-    front: Option<Front<R>>,
-    stage: Stage<R>,
-    /// The request, once its body has come.
-    asked: Option<KeptRequest>,
+    way: Way<R>,
 }
 
-/// What is sent where there was no memory to begin. What is known by the head needs none.
-fn without_memory<R: Wait + Drop>(stage: Stage<R>) -> Sent
-    ensures { result ≡ response.without_memory stage }
+/// How a response comes to a request that begins with a stage. What is known by the head needs no memory; for the rest
+/// there may be none.
+fn way_of<R: Wait + Drop>(alloc: Global, front: Result<Front<R>, Fault>, stage: Stage<R>, port: u16) -> Way<R>
+    requires { IfOk front (λ front. front.port ≡ port) }
+    ensures { Begins port stage result }
 {
-    match stage {
-        Stage::Sending(sent) => sent,
-        _ => refused(Fault::OutOfMemory),
+    let stage = match stage {
+        Stage::Sending(sent) => return Way::Known(sent),
+        stage => stage,
+    };
+    let Ok(front) = front else {
+        return Way::Known(refused(Fault::OutOfMemory));
+    };
+    match Box::new(alloc, Progress { front, stage, kept: None }) {
+        Ok(progress) => Way::Stages(progress),
+        Err(_refused) => Way::Known(refused(Fault::OutOfMemory)),
     }
 }
 
@@ -115,20 +140,24 @@ fn first_stage<R: Wait + Drop>(
 impl<R: Wait + Clock + Drop> Future for Answering<R> {
     type Output = Result<Response<Full<Bytes>>, hyper::Error>;
 
-    ghost gives = { λ answering given. IsGiven (option_map (λ front. front.port) answering.front) answering.stage given };
+    ghost gives = { λ answering given. IsGiven answering.way given };
 
     fn poll(&mut self, cx: &mut Context<'_>) -> Poll<Result<Response<Full<Bytes>>, hyper::Error>> {
-        let stage = mem::replace(&mut self.stage, Stage::Over);
-        let Some(front) = &self.front else {
-            return Poll::Ready(respond(self.alloc, Ok(without_memory(stage))));
+        let mut request = match mem::replace(&mut self.way, Way::Over) {
+            Way::Stages(request) => request,
+            Way::Known(sent) => return Poll::Ready(respond(self.alloc, Ok(sent))),
+            Way::Over => return Poll::Ready(respond(self.alloc, Ok(refused(Fault::OutOfMemory)))),
         };
-        match front.run(cx, stage, &mut self.asked) {
+        let progress = &mut *request;
+        let stage = mem::replace(&mut progress.stage, Stage::Over);
+        match progress.front.run(cx, stage, &mut progress.kept) {
             Halt::Waits(stage) => {
-                self.stage = stage;
+                progress.stage = stage;
+                self.way = Way::Stages(request);
                 Poll::Pending
             }
             Halt::Ends(ended) => {
-                front.note(self.asked.as_ref(), &ended);
+                progress.front.note(progress.kept.as_ref(), &ended);
                 Poll::Ready(respond(self.alloc, ended))
             }
         }
@@ -142,14 +171,13 @@ impl<R: Wait + Clock + Copy + Drop> Service<Request<Incoming>> for Front<R> {
 
     type Future = Answering<R>;
 
-    ghost calls = { λ front request answering. IsFirstStage request answering.stage × IfSome answering.front (λ own. own.port ≡ front.port) };
+    ghost calls = { λ front request answering. (stage : _) × IsFirstStage request stage × Begins front.port stage answering.way };
 
     fn call(&self, request: Request<Incoming>) -> Answering<R> {
+        let stage = first_stage(self.alloc, &self.hall.bodies, request);
         Answering {
             alloc: self.alloc,
-            front: self.again().ok(),
-            stage: first_stage(self.alloc, &self.hall.bodies, request),
-            asked: None,
+            way: way_of(self.alloc, self.again(), stage, self.port),
         }
     }
 }
