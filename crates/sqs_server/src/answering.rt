@@ -1,6 +1,6 @@
 //! The service of a connection: each request gets a future of its response.
 
-ghost use Rattle.std.specs.Prelude.{◌≡◌, ℕ, Ok, None};
+ghost use Rattle.std.specs.Prelude.{◌≡◌, ℕ, Ok, None, IfOk};
 ghost use Rattle.sqs_server.specs.Head as head_spec;
 ghost use Rattle.sqs_server.specs.Responses as response;
 ghost use Rattle.sqs_server.specs.Responses.{Begins, Comes, IsFirstStage, IsGiven, Judged, Responds};
@@ -55,7 +55,12 @@ pub struct Answering<R: Wait + Drop> {
 
 /// How a response comes to a request that begins with a stage. What is known by the head needs no memory; for the rest
 /// there may be none.
-fn way_of<R: Wait + Drop>(alloc: Global, front: Result<Front<R>, Fault>, stage: Stage<R>, port: u16) -> Way<R>
+fn way_of<R: Wait + Drop>(
+    alloc: Global,
+    front: Result<Front<R>, Fault>,
+    stage: Stage<R>,
+    port: u16,
+) -> Way<R>
     requires { IfOk front (λ front. front.port ≡ port) }
     ensures { Begins port stage result }
 {
@@ -66,7 +71,14 @@ fn way_of<R: Wait + Drop>(alloc: Global, front: Result<Front<R>, Fault>, stage: 
     let Ok(front) = front else {
         return Way::Known(refused(Fault::OutOfMemory));
     };
-    match Box::new(alloc, Progress { front, stage, kept: None }) {
+    match Box::new(
+        alloc,
+        Progress {
+            front,
+            stage,
+            kept: None,
+        },
+    ) {
         Ok(progress) => Way::Stages(progress),
         Err(_refused) => Way::Known(refused(Fault::OutOfMemory)),
     }
