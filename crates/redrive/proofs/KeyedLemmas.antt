@@ -2,7 +2,7 @@
 use Rattle.std.proofs.Common.{Bor, ◌≡◌, ◌≢◌, ℕ, zero, suc, ◌<◌, ◌^◌, Bool, true, false, not, ◌||◌, cond, List, [], ◌∷◌, ◌++◌, length, get_or, set, map, Option, Some, None, refl, sym, ap, subst, ◌∙◌, arith, eqb-true}
 use Rattle.std.specs.Prelude.{nat_eq, nat_lt, nat_le, filter, remove, slice_get, option_and_then, is_some, IfSome}
 use Rattle.std.specs.List.{find, list_any, position, position_or_len, IsDistinct, All, AllByRecursion}
-use Rattle.std.proofs.lemmas.Bool.{ne_eqb, eqb-false, ltb-false, or_parts}
+use Rattle.std.proofs.lemmas.Bool.{ne_eqb, eqb-false, ltb-false, lt-ltb, or_parts}
 use Rattle.std.proofs.lemmas.Bool.Decides.{nat_tests}
 use Rattle.std.proofs.lemmas.List.Elements.{All-head, All-tail}
 use Rattle.std.proofs.lemmas.List.Folds.{find_at}
@@ -236,6 +236,22 @@ module _ {X : Type 0} (uid_of : X → ℕ) (uid : ℕ) where
       let first = position_or_len (λ x. nat_eq (uid_of x) uid) xs in
       let past : nat_lt first (length xs) ≡ false = (none-cond (nat_lt first (length xs)) first None h).0 in
       find_at (λ x. nat_eq (uid_of x) uid) xs ∙ slice_get_past xs first (ltb-false first (length xs) past)
+
+  -- where elements have distinct numbers, the number of the one at a place is found there
+  first-own : (xs : List X) (place : ℕ) (d : X) → IsDistinct nat_eq (map uid_of xs) → place < length xs → nat_eq (uid_of (get_or xs place d)) uid ≡ true
+      → position_or_len (λ x. nat_eq (uid_of x) uid) xs ≡ place
+  unfolding IsDistinct
+  first-own [] place d h l is = absurd (omega arith)
+  first-own (x ∷ xs) zero d h l is = rw is refl
+  first-own (x ∷ xs) (suc place) d h l is =
+      let same : uid_of (get_or xs place d) ≡ uid = eqb-true (uid_of (get_or xs place d)) uid is in
+      let other : nat_eq (uid_of x) uid ≡ false = subst (λ u. nat_eq (uid_of x) u ≡ false) same (differ-at (uid_of x) xs place d h.0 (omega arith)) in
+      let rest = first-own xs place d h.1 (omega arith) is in
+      rw other (omega arith)
+
+  pub position-own : (xs : List X) (place : ℕ) (d : X) → IsDistinct nat_eq (map uid_of xs) → place < length xs → nat_eq (uid_of (get_or xs place d)) uid ≡ true
+      → position (λ x. nat_eq (uid_of x) uid) xs ≡ Some place
+  position-own xs place d h l is = rw (first-own xs place d h l is, lt-ltb place (length xs) l) refl
 
 -- ---- the element of a number changed, where it stands
 

@@ -1,7 +1,10 @@
 -- The queue of a uid at its place in the list: what is done there is done to the queue of the uid.
 use Rattle.std.proofs.Common.{◌≡◌, ℕ, ◌+◌, ◌<◌, ◌≤◌, true, false, List, length, get_or, set, map, Option, Some, None, Result, Ok, Err, refl, sym, ap, ◌∙◌}
-use Rattle.std.specs.Prelude.{nat_eq, remove, slice_get, IfSome, OnOk, OnErr, IfErr}
+use Rattle.std.specs.Prelude.{nat_eq, remove, slice_get, option_and_then, IfSome, OnOk, OnErr, IfErr}
 use Rattle.std.specs.List.{position}
+use Rattle.std.specs.Option.{option_map}
+use Rattle.std.specs.Str.{bytes_eq}
+use Rattle.std.proofs.lemmas.Bool.{eq-eqb}
 use Rattle.std.proofs.lemmas.List.{set-get_or}
 use Rattle.std.proofs.lemmas.List.Elements.{All-get_or}
 use Rattle.std.proofs.lemmas.List.Quantifiers.{position-Some}
@@ -15,10 +18,10 @@ use Rattle.queue_core.specs.Messages.{is_closed}
 use Rattle.queue_core.specs.Queue.{QueueHistory, at_moment, outcome_at, takes_memory, IsExactWithRoom, after_answer}
 use Rattle.queue_core.specs.Cost.{most_ticks}
 use Rattle.redrive.specs.Cost.{change_ticks}
-use Rattle.redrive.specs.World.{World, queue_of_uid, queue_answer, takes_memory_in, with_queue_changed, world_after_command, closed_queue, take_answer, without_queue, world_after_delete, IsRegistry}
+use Rattle.redrive.specs.World.{World, queue_named, queue_of_uid, found_uid, queue_answer, takes_memory_in, with_queue_changed, world_after_command, closed_queue, take_answer, without_queue, world_after_delete, IsRegistry}
 use Rattle.redrive.specs.Keys.{KeyLists}
 use Rattle.redrive.specs.private.ByPlace.{with_place_changed, without_place, closes_queue, IsKept}
-use Rattle.redrive.proofs.KeyedLemmas.{find-position, find-no_position, map-present, map-remove, remove-present}
+use Rattle.redrive.proofs.KeyedLemmas.{find-unique, find-position, find-no_position, position-own, found-there, map-present, map-remove, remove-present}
 use Rattle.redrive.proofs.RegistryLemmas.{some_queue, IsRegistry-without, IsKept-after_step, IsKept-moved}
 
 abbrev uid_of : QueueHistory → ℕ
@@ -47,6 +50,10 @@ module _ (w : World) (uid place : ℕ) (here : position (λ q. nat_eq q.uid uid)
 
   found : queue_of_uid w uid ≡ Some there
   found = find-position uid_of uid w.queues place some_queue here
+
+  -- it is the one that is read there
+  pub read-at : (q : QueueHistory) → q ≡ get_or w.queues place q → queue_of_uid w uid ≡ Some q
+  read-at q read = find-position uid_of uid w.queues place q here ∙ ap Some (sym read)
 
   pub unclosed-at : IsRegistry w → IfSome (slice_get w.queues place) (λ q. is_closed q.lines ≡ false)
   unclosed-at r = rw stands (All-get_or (λ q. is_closed q.lines ≡ false) w.queues place some_queue within r.unclosed)
@@ -124,3 +131,26 @@ changed-alike w uid q here f g r same = by_place (position (λ q. nat_eq q.uid u
   by_place (Some place) e =
       let is : there w uid place e ≡ q = same_Some (there w uid place e) q (sym (found w uid place e) ∙ here) in
       alike-at w uid place e f g r (ap f is ∙ same ∙ sym (ap g is))
+
+-- the queue of a uid that was found by a name is the queue of the name
+pub named-found : (w : World) (name : List ℕ) (uid : ℕ) (q : QueueHistory) → IsRegistry w → Some uid ≡ found_uid w name → queue_of_uid w uid ≡ Some q → Some q ≡ queue_named w name
+named-found w name uid q r found there = by_name (queue_named w name) refl found where
+  by_name : (o : Option QueueHistory) → queue_named w name ≡ o → Some uid ≡ option_map uid_of o → Some q ≡ o
+  by_name None e is = absurd (none-some uid (sym is))
+  by_name (Some p) e is =
+      let own : queue_of_uid w p.uid ≡ Some p = find-unique nat_eq uid_of (λ (q : QueueHistory). bytes_eq q.name name) w.queues p r.uids (eq-eqb p.uid p.uid refl) e in
+      sym there ∙ ap (queue_of_uid w) (same_Some uid p.uid is) ∙ own
+
+-- ---- the queue of a name, where it stands
+
+module _ (w : World) (name : List ℕ) (place : ℕ) (here : position (λ q. bytes_eq q.name name) w.queues ≡ Some place) where
+  pub named-within : place < length w.queues
+  named-within = (position-Some (λ q. bytes_eq q.name name) w.queues place some_queue here).0
+
+  pub named-read : (q : QueueHistory) → q ≡ get_or w.queues place q → queue_named w name ≡ Some q
+  named-read q read =
+      sym (found-there (λ q. bytes_eq q.name name) w.queues) ∙ ap (option_and_then (λ i. slice_get w.queues i)) here ∙ slice_get-get_or w.queues place q named-within ∙ ap Some (sym read)
+
+  -- its uid is found at its place
+  pub named-stands : (q : QueueHistory) → IsRegistry w → q ≡ get_or w.queues place q → position (λ x. nat_eq x.uid q.uid) w.queues ≡ Some place
+  named-stands q r read = position-own uid_of q.uid w.queues place q r.uids named-within (eq-eqb (uid_of (get_or w.queues place q)) q.uid (ap uid_of (sym read)))

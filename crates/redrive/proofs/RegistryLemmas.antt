@@ -22,10 +22,11 @@ use Rattle.queue_core.specs.declared.command.Command.{Command}
 use Rattle.queue_core.specs.Messages.{is_closed}
 use Rattle.queue_core.specs.Queue.{QueueHistory, at_moment, leaves_clock, reached, outcome_at, with_event, with_optional_event, after_answer, rebased, rebased_where}
 use Rattle.queue_core.specs.Whole.{without_limit, is_journal_full, whole_after}
-use Rattle.redrive.specs.World.{World, has_no_place, empty_world, queue_named, queue_of_uid, found_uid, with_queue, next_queue, without_queue, queue_answer, with_queue_changed, world_at_moment, IsRegistry}
+use Rattle.redrive.specs.declared.place.QueuePlace.{QueuePlace}
+use Rattle.redrive.specs.World.{World, has_no_place, empty_world, queue_named, queue_of_uid, found_uid, StandsAt, with_queue, next_queue, without_queue, queue_answer, with_queue_changed, world_after_command, world_at_moment, IsRegistry}
 use Rattle.redrive.specs.Keys.{KeyLists}
 use Rattle.redrive.specs.private.ByPlace.{closes_queue, IsKept}
-use Rattle.redrive.proofs.KeyedLemmas.{find-map, find-passes, places_left, IsDistinct-push, IsDistinct-filter, map-key, find-unused, filter-absent, find-position, find-no_position, map-absent}
+use Rattle.redrive.proofs.KeyedLemmas.{find-map, find-passes, places_left, IsDistinct-push, IsDistinct-filter, map-key, find-unused, filter-absent, find-position, find-no_position, map-absent, placed-by}
 use Rattle.redrive.proofs.ClosingLemmas.{unclosed-after_answer}
 
 pub IsRegistry-empty : (limits : QueueLimits) → IsRegistry (empty_world limits)
@@ -217,6 +218,42 @@ module _ (w : World) (own uid : ℕ) where
       find-map (λ x. nat_eq x.uid uid) (λ q. cond (nat_eq q.uid own) (f q) q)
       (λ x. ap (λ (u : ℕ). nat_eq u uid) (at_uid-keeps (λ q. q.uid) (nat_eq x.uid own) x (f x) (keeps x))) w.queues
       ∙ changed-found f b (queue_of_uid w uid) refl e
+
+-- ---- where queues stand, and what names find, after a command
+
+module _ (w : World) (own : ℕ) (f : QueueHistory → QueueHistory) (same_uid : (q : QueueHistory) → (f q).uid ≡ q.uid) where
+  abbrev changed : QueueHistory → QueueHistory
+  changed q = cond (nat_eq q.uid own) (f q) q
+
+  changed-uid : (q : QueueHistory) → (changed q).uid ≡ q.uid
+  changed-uid q = at_uid-keeps uid_of (nat_eq q.uid own) q (f q) (same_uid q)
+
+  place-changed : (uid : ℕ) → position (λ q. nat_eq q.uid uid) (map changed w.queues) ≡ position (λ q. nat_eq q.uid uid) w.queues
+  place-changed uid =
+      sym (placed-by uid_of (λ u. nat_eq u uid) (map uid_of w.queues) (map changed w.queues) (sym (map-key nat_eq uid_of changed changed-uid w.queues)))
+      ∙ placed-by uid_of (λ u. nat_eq u uid) (map uid_of w.queues) w.queues refl
+
+  uid-changed : (o : Option QueueHistory) → option_map uid_of (option_map changed o) ≡ option_map uid_of o
+  uid-changed None = refl
+  uid-changed (Some q) = ap Some (changed-uid q)
+
+  found-changed : ((q : QueueHistory) → (f q).name ≡ q.name) → (name : List ℕ) → found_uid (with_queue_changed w own f) name ≡ found_uid w name
+  found-changed same_name name =
+      ap (option_map uid_of)
+      (find-map (λ q. bytes_eq q.name name) changed (λ q. ap (λ (n : List ℕ). bytes_eq n name) (at_uid-keeps (λ q. q.name) (nat_eq q.uid own) q (f q) (same_name q))) w.queues)
+      ∙ uid-changed (queue_named w name)
+
+module _ {T : Type 0} (w new : World) (at : ℕ) (command : Command) (answer : Result T Fault) where
+  pub stays-after_command : (found : QueuePlace) → new ≡ world_after_command w found.uid at command answer → StandsAt w found → StandsAt new found
+  stays-after_command found is here =
+      ap (λ (w : World). position (λ q. nat_eq q.uid found.uid) w.queues) is
+      ∙ place-changed w found.uid (λ q. after_answer q at command answer) (after_answer-uid at command answer) found.uid ∙ here
+
+  pub found-after_command : (uid : ℕ) → new ≡ world_after_command w uid at command answer → (name : List ℕ) → found_uid new name ≡ found_uid w name
+  found-after_command uid is name =
+      ap (λ (w : World). found_uid w name) is
+      ∙ found-changed w uid (λ q. after_answer q at command answer) (after_answer-uid at command answer)
+      (after_answer-keeps (λ q. q.name) (λ q at. refl) (λ q event. refl) (λ q. refl) at command answer) name
 
 -- ---- a queue deleted
 

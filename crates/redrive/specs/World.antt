@@ -1,6 +1,6 @@
 -- The queue registry: every queue of a server, by name and by uid (Amazon SQS API Reference: CreateQueue, GetQueueUrl). Uids are this project's own.
 use Rattle.std.specs.Prelude.{◌≡◌, ◌⊎◌, ℕ, ◌+◌, ◌^◌, ◌<◌, ◌≤◌, ◌==◌, nat_eq, nat_le, Bool, true, false, not, ◌&&◌, ◌||◌, if◌then◌else◌, List, [], ◌∷◌, ◌++◌, length, map, filter, fold, unwrap_or, is_some, option_and_then, Option, Some, None, Result, Ok, Err}
-use Rattle.std.specs.List.{find, IsDistinct, All}
+use Rattle.std.specs.List.{find, position, IsDistinct, All}
 use Rattle.std.specs.Option.{option_map, option_map_or}
 use Rattle.std.specs.Str.{bytes_eq}
 use Rattle.message.specs.declared.fault.Fault.{Fault}
@@ -22,6 +22,7 @@ use Rattle.queue_core.specs.Queue.{QueueHistory, at_moment, outcome_at, takes_me
 use Rattle.queue_core.specs.Kept.{opened_queue}
 use Rattle.redrive.specs.declared.moved.Moved.{Moved}
 use Rattle.redrive.specs.declared.moved.Moved.TheVariants as moved
+use Rattle.redrive.specs.declared.place.QueuePlace.{QueuePlace}
 use Rattle.redrive.specs.Listing.{in_order, listed_names}
 
 -- the limits of each queue, the uid of the next queue, and the queues that are there, in the order in which they were created
@@ -64,6 +65,10 @@ queue_of_uid w uid = find (λ q. q.uid == uid) w.queues
 -- whether a queue has the uid
 abbrev pub has_queue : World → ℕ → Bool
 has_queue w uid = is_some (queue_of_uid w uid)
+
+-- the queue of that uid stands at that place
+abbrev pub StandsAt : World → QueuePlace → Type 0
+StandsAt w found = position (λ q. q.uid == found.uid) w.queues ≡ Some found.place
 
 -- ---- the dead-letter queue that a request names
 

@@ -11,6 +11,7 @@ ghost use Rattle.redrive.specs.WorldRun.{metrics_of};
 
 use crate::keys::Keys;
 use crate::listing::{add_name, in_order};
+use crate::place::QueuePlace;
 use crate::queues::Queues;
 use crate::steps::QueueMetrics;
 use journal::{Moment, Ticks};
@@ -119,7 +120,7 @@ fn metrics_of(minute: u64, alarm: usize, queue: &QueueState) -> QueueMetrics
 }
 
 impl House {
-    ghost use Rattle.redrive.specs.World.{empty_world, new_world, next_queue, queue_named, queue_of_uid, has_queue, found_uid, target_uid, may_name_target, may_have_target, may_set, has_no_place, opens_queue, create_answer, with_queue, world_after_create, step_refusal, queue_answer, step_answer, takes_memory_in, takes_memory_at, with_queue_changed, world_after_command, world_after_step, sources_in_world, sources_answer, take_answer, delete_answer, world_after_delete, names_in_world, world_at_moment, IsRegistry};
+    ghost use Rattle.redrive.specs.World.{empty_world, new_world, next_queue, queue_named, queue_of_uid, has_queue, found_uid, StandsAt, target_uid, may_name_target, may_have_target, may_set, has_no_place, opens_queue, create_answer, with_queue, world_after_create, step_refusal, queue_answer, step_answer, takes_memory_in, takes_memory_at, with_queue_changed, world_after_command, world_after_step, sources_in_world, sources_answer, take_answer, delete_answer, world_after_delete, names_in_world, world_at_moment, IsRegistry};
     ghost use Rattle.redrive.specs.private.ByPlace.{closes_queue};
     ghost use Rattle.redrive.specs.History.{journal_of, closed_journal};
     ghost use Rattle.redrive.specs.Cost.{change_ticks, command_ticks, step_ticks, deletion_ticks, moment_ticks};
@@ -151,13 +152,33 @@ impl House {
         Ok(house)
     }
 
+    /// The queue of a name, by its uid and place: [`queue_at`](House::queue_at) and
+    /// [`step_at`](House::step_at) do not look for it again.
+    pub fn find_place(&self, name: &QueueName) -> Option<QueuePlace>
+        ensures found { option_map (λ f. f.uid) result ≡ found_uid self.now name.now }
+        ensures here { IfSome result (λ f. StandsAt self.now f) }
+        ensures registry { IsRegistry self.now }
+    {
+        let place = self.keys.place_named(name)?;
+        let uid = self.queues.as_slice()[place].uid();
+        Some(QueuePlace { uid, place })
+    }
+
+    /// The queue that was found.
+    pub fn queue_at(&self, found: QueuePlace) -> &QueueState
+        requires { StandsAt self.now found }
+        ensures { queue_of_uid self.now found.uid ≡ Some result.now }
+    {
+        &self.queues.as_slice()[found.place]
+    }
+
     /// The queue of a name.
     pub fn named(&self, name: &QueueName) -> Option<&QueueState>
         ensures queue { option_copied result ≡ queue_named self.now name.now }
         ensures registry { IsRegistry self.now }
     {
-        let place = self.keys.place_named(name)?;
-        self.queues.as_slice().get(place)
+        let found = self.find_place(name)?;
+        Some(self.queue_at(found))
     }
 
     /// The uid of the queue of a name.
@@ -165,7 +186,7 @@ impl House {
         ensures found { result ≡ found_uid self.now name.now }
         ensures registry { IsRegistry self.now }
     {
-        self.named(name).map(|queue| queue.uid())
+        self.find_place(name).map(|found| found.uid)
     }
 
     /// The queue of a uid.
@@ -265,24 +286,24 @@ impl House {
         self.keys.place_of(uid)
     }
 
-    /// Does a command that closes no queue in the queue of a uid, which stands at a place. The uid is named for the clauses.
+    /// Does a command that closes no queue in the queue that was found.
     fn command_at(
         &mut self,
         alloc: Global,
-        _uid: u64,
-        place: usize,
+        found: QueuePlace,
         at: Moment,
         command: &Command,
         ticks: &mut Ticks,
     ) -> Result<Reply, Fault>
         requires stays { closes_queue command.now ≡ false }
-        requires here { position (λ q. q.uid == _uid) self.old.queues ≡ Some place }
-        ensures answer { Meets result (queue_answer self.old _uid at command.now) }
-        ensures exact { takes_memory_in self.old _uid at command.now ≡ false → result ≡ queue_answer self.old _uid at command.now }
-        ensures room { IfSome (queue_of_uid self.old _uid) (λ q. IsExactWithRoom q (outcome_at q at command.now) result) }
-        ensures state { self.new ≡ world_after_command self.old _uid at command.now result }
-        ensures cost { ticks.new ≤ ticks.old + command_ticks self.old _uid at command.now result }
+        requires here { StandsAt self.old found }
+        ensures answer { Meets result (queue_answer self.old found.uid at command.now) }
+        ensures exact { takes_memory_in self.old found.uid at command.now ≡ false → result ≡ queue_answer self.old found.uid at command.now }
+        ensures room { IfSome (queue_of_uid self.old found.uid) (λ q. IsExactWithRoom q (outcome_at q at command.now) result) }
+        ensures state { self.new ≡ world_after_command self.old found.uid at command.now result }
+        ensures cost { ticks.new ≤ ticks.old + command_ticks self.old found.uid at command.now result }
     {
+        let place = found.place;
         self.queues.perform_at(alloc, place, at, command, ticks)
     }
 
@@ -303,7 +324,7 @@ impl House {
         ensures cost { ticks.new ≤ ticks.old + command_ticks self.old uid at command.now result }
     {
         match self.place_of(uid) {
-            Some(place) => self.command_at(alloc, uid, place, at, command, ticks),
+            Some(place) => self.command_at(alloc, QueuePlace { uid, place }, at, command, ticks),
             None => Err(Fault::QueueDoesNotExist),
         }
     }
@@ -352,6 +373,32 @@ impl House {
         None
     }
 
+    /// Does a command in the queue that was found, as [`step`](House::step) does. The queue stands where
+    /// it stood, and each name finds the queue that it found.
+    pub fn step_at(
+        &mut self,
+        alloc: Global,
+        found: QueuePlace,
+        at: Moment,
+        command: &Command,
+        ticks: &mut Ticks,
+    ) -> Result<Reply, Fault>
+        requires { StandsAt self.old found }
+        ensures answer { Meets result (step_answer self.old found.uid at command.now) }
+        ensures refused { IfSome (step_refusal self.old found.uid command.now) (λ fault. result ≡ Err fault) }
+        ensures exact { takes_memory_at self.old found.uid at command.now ≡ false → result ≡ step_answer self.old found.uid at command.now }
+        ensures room { step_refusal self.old found.uid command.now ≡ None → IfSome (queue_of_uid self.old found.uid) (λ q. IsExactWithRoom q (outcome_at q at command.now) result) }
+        ensures state { self.new ≡ world_after_step self.old found.uid at command.now result }
+        ensures stays { StandsAt self.new found }
+        ensures names { (name : List ℕ) → found_uid self.new name ≡ found_uid self.old name }
+        ensures cost { ticks.new ≤ ticks.old + step_ticks self.old found.uid at command.now result }
+    {
+        match self.step_refusal(found.uid, command) {
+            Some(fault) => Err(fault),
+            None => self.command_at(alloc, found, at, command, ticks),
+        }
+    }
+
     /// Does a command in the queue of a uid. Where no queue has the uid it is `QueueDoesNotExist`. The
     /// commands that the registry itself gives, a close ([`delete_queue`](House::delete_queue)) and
     /// those of dead letters ([`move_one`](House::move_one)), are `UnsupportedOperation`. A `Set` whose
@@ -376,12 +423,9 @@ impl House {
         ensures state { self.new ≡ world_after_step self.old uid at command.now result }
         ensures cost { ticks.new ≤ ticks.old + step_ticks self.old uid at command.now result }
     {
-        let Some(place) = self.place_of(uid) else {
-            return Err(Fault::QueueDoesNotExist);
-        };
-        match self.step_refusal(uid, command) {
-            Some(fault) => Err(fault),
-            None => self.command_at(alloc, uid, place, at, command, ticks),
+        match self.place_of(uid) {
+            Some(place) => self.step_at(alloc, QueuePlace { uid, place }, at, command, ticks),
+            None => Err(Fault::QueueDoesNotExist),
         }
     }
 

@@ -20,6 +20,7 @@ mod keys;
 mod laws;
 mod listing;
 mod moved;
+mod place;
 mod queues;
 mod steps;
 #[cfg(test)]
@@ -33,6 +34,7 @@ pub use keys::Keys;
 pub use laws::{histories_begin, listed_names_ascend, refused_steps_change_nothing};
 pub use listing::{in_order, is_same_name};
 pub use moved::Moved;
+pub use place::QueuePlace;
 pub use steps::{HouseReply, HouseRun, HouseStep, QueueMetrics};
 pub use transfer_laws::{
     each_departure_has_its_fate, each_message_has_one_place, moves_are_steps, moves_leave_fewer,
