@@ -46,7 +46,7 @@ fn needs_confirmation(moved: Moved) -> bool
 }
 
 impl House {
-    ghost use Rattle.redrive.specs.World.{queue_of_uid, has_queue, queue_answer, first_parcel_in, arrive_answer, hand_over_takes_memory, takes_memory_in, world_after_command, world_after_hand_over, accepted_number, confirm_answer, confirm_takes_memory, world_after_confirm, hand_over_answer, IsHandedOver, move_answer, IsMoved};
+    ghost use Rattle.redrive.specs.World.{queue_of_uid, has_queue, queue_answer, first_parcel_in, arrive_answer, hand_over_takes_memory, takes_memory_in, world_after_command, world_after_hand_over, accepted_number, confirm_answer, confirm_takes_memory, world_after_confirm, hand_over_answer, IsHandedOver, move_answer, IsMoved, IsRegistry};
     ghost use Rattle.redrive.specs.private.ByPlace.{closes_queue};
     ghost use Rattle.redrive.specs.private.Halves.{confirmed};
     ghost use Rattle.redrive.specs.Cost.{command_ticks, hand_over_ticks, confirm_ticks, CostsMove};
@@ -111,7 +111,6 @@ impl House {
         ensures state { self.new ≡ world_after_hand_over self.old source at result }
         ensures cost { ticks.new ≤ ticks.old + hand_over_ticks self.old source at result }
     {
-        self.keep_registry();
         if !self.has_queue(target) {
             return self.deliver(alloc, source, at, &Command::Orphan { target }, ticks);
         }
@@ -149,6 +148,7 @@ impl House {
         ensures state { IsHandedOver self.old source at result self.new }
         ensures legal { (q : QueueHistory) → queue_of_uid self.old source ≡ Some q → IsLegal q }
         ensures cost { ticks.new ≤ ticks.old + hand_over_ticks self.old source at result }
+        ensures registry { IsRegistry self.old }
     {
         let Some(queue) = self.state(source) else {
             return Err(Fault::QueueDoesNotExist);
@@ -217,6 +217,7 @@ impl House {
         ensures exact { confirm_takes_memory self.old source at ≡ false → result ≡ confirmed self.old source at }
         ensures state { self.new ≡ world_after_confirm self.old source at result }
         ensures cost { ticks.new ≤ ticks.old + confirm_ticks self.old source at result }
+        ensures registry { IsRegistry self.old }
     {
         if !self.has_queue(source) {
             return Err(Fault::QueueDoesNotExist);

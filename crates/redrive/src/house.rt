@@ -221,7 +221,8 @@ impl House {
 
     /// Whether a queue has the uid.
     pub(crate) fn has_queue(&self, uid: u64) -> bool
-        ensures { result ≡ has_queue self.now uid }
+        ensures there { result ≡ has_queue self.now uid }
+        ensures registry { IsRegistry self.now }
     {
         self.state(uid).is_some()
     }
@@ -264,12 +265,14 @@ impl House {
         ensures state { self.new ≡ world_after_create self.old at name wish result }
         ensures found { IfOk result (λ uid. found_uid self.new name ≡ Some uid) }
         ensures others { (other : List ℕ) → other ≢ name → found_uid self.new other ≡ found_uid self.old other }
+        ensures registry { IsRegistry self.old }
     {
+        let known = self.named(&name);
         if !self.may_name_target(&name, &wish) {
             return Err(Fault::InvalidAttributeValue);
         }
         let target = self.target_uid(&wish);
-        if let Some(queue) = self.named(&name) {
+        if let Some(queue) = known {
             return existing_answer(queue, &wish, target);
         }
         if self.queues.has_no_place() {
@@ -281,7 +284,8 @@ impl House {
 
     /// The place of the queue of a uid.
     fn place_of(&self, uid: u64) -> Option<usize>
-        ensures { result ≡ position (λ q. q.uid == uid) self.now.queues }
+        ensures place { result ≡ position (λ q. q.uid == uid) self.now.queues }
+        ensures registry { IsRegistry self.now }
     {
         self.keys.place_of(uid)
     }
@@ -422,6 +426,7 @@ impl House {
         ensures room { step_refusal self.old uid command.now ≡ None → IfSome (queue_of_uid self.old uid) (λ q. IsExactWithRoom q (outcome_at q at command.now) result) }
         ensures state { self.new ≡ world_after_step self.old uid at command.now result }
         ensures cost { ticks.new ≤ ticks.old + step_ticks self.old uid at command.now result }
+        ensures registry { IsRegistry self.old }
     {
         match self.place_of(uid) {
             Some(place) => self.step_at(alloc, QueuePlace { uid, place }, at, command, ticks),
@@ -449,6 +454,7 @@ impl House {
         ensures others { IfOk result (λ q. (deleted : List QueueHistory) (other : ℕ) → other ≢ uid
             → journal_of (record { world = self.new; deleted = q ∷ deleted }) other
             ≡ journal_of (record { world = self.old; deleted = deleted }) other) }
+        ensures registry { IsRegistry self.old }
     {
         match self.place_of(uid) {
             Some(place) => {
@@ -502,7 +508,6 @@ impl House {
         ensures wants { OnErr result (has_queue self.now uid ≡ true → 0 < length (sources_in_world self.now uid)) }
         ensures registry { IsRegistry self.now }
     {
-        self.keep_registry();
         if !self.has_queue(uid) {
             return Err(Fault::QueueDoesNotExist);
         }
@@ -528,15 +533,9 @@ impl House {
     pub fn advance_all(&mut self, at: Moment, ticks: &mut Ticks)
         ensures state { self.new ≡ world_at_moment self.old at }
         ensures cost { ticks.new ≤ ticks.old + moment_ticks at self.old.queues }
+        ensures registry { IsRegistry self.old }
     {
         self.queues.advance_all(at, ticks);
-    }
-
-    /// What is true of every registry. Nothing runs here.
-    pub(crate) fn keep_registry(&self)
-        ensures { IsRegistry self.now }
-    {
-        let _queues = &self.queues;
     }
 
     /// Tells of every queue, into an empty list that has room for 1,000.

@@ -105,7 +105,6 @@ impl House {
         ensures done { IsDone self.old (act_of self.old step.now) result self.new ticks.old ticks.new }
         ensures registry { IsRegistry self.old }
     {
-        self.keep_registry();
         match step {
             HouseStep::Create { at, name, wish } => {
                 Ok(HouseReply::Created(self.create(alloc, *at, *name, *wish)?))

@@ -6,14 +6,14 @@ use Rattle.redrive.proofs.house.House.command_in.Goals as goal
 
 pub returns-in-None-clause-answer : goal.returns-in-None-clause-answer
 returns-in-None-clause-answer c =
-    sym (command-absent_answer c.args.self.now c.args.uid c.args.at c.args.command.now (sym c.place_of.ensures ∙ c.in-None.is))
+    sym (command-absent_answer c.args.self.now c.args.uid c.args.at c.args.command.now (sym c.place_of.ensures.place ∙ c.in-None.is))
 
 pub returns-in-None-clause-exact : goal.returns-in-None-clause-exact
 returns-in-None-clause-exact c none = returns-in-None-clause-answer c
 
 pub returns-in-None-clause-room : goal.returns-in-None-clause-room
 returns-in-None-clause-room c =
-    rw (find-no_position (λ (q : QueueHistory). q.uid) c.args.uid c.args.self.now.queues (sym c.place_of.ensures ∙ c.in-None.is)) tt
+    rw (find-no_position (λ (q : QueueHistory). q.uid) c.args.uid c.args.self.now.queues (sym c.place_of.ensures.place ∙ c.in-None.is)) tt
 
 pub returns-in-None-clause-state : goal.returns-in-None-clause-state
-returns-in-None-clause-state c = sym (changed-absent c.args.self.now c.args.uid _ (sym c.place_of.ensures ∙ c.in-None.is))
+returns-in-None-clause-state c = sym (changed-absent c.args.self.now c.args.uid _ (sym c.place_of.ensures.place ∙ c.in-None.is))

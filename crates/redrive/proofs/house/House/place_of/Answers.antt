@@ -4,7 +4,7 @@ use Rattle.redrive.specs.World.{World}
 use Rattle.redrive.proofs.KeyedLemmas.{placed-by}
 use Rattle.redrive.proofs.house.House.place_of.Goals as goal
 
-pub returns : goal.returns
-returns c =
+pub returns-clause-place : goal.returns-clause-place
+returns-clause-place c =
     c.place_of.ensures ∙ placed-by (λ (q : QueueHistory). q.uid) (λ u. nat_eq u c.args.uid) c.self.inside.keys.uids c.self.inside.queues.queues c.self.invariant.uids
     ∙ ap (λ (w : World). position (λ q. nat_eq q.uid c.args.uid) w.queues) c.self.view_is

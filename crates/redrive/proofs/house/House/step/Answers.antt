@@ -8,19 +8,19 @@ absent : (w : World) (uid : ℕ) (place : Option ℕ) → place ≡ position (λ
 absent w uid place found none = find-no_position (λ (q : QueueHistory). q.uid) uid w.queues (sym found ∙ none)
 
 pub step_at-requires : goal.step_at-requires
-step_at-requires c = sym c.place_of.ensures ∙ c.in-Some.is
+step_at-requires c = sym c.place_of.ensures.place ∙ c.in-Some.is
 
 pub returns-in-None-clause-answer : goal.returns-in-None-clause-answer
-returns-in-None-clause-answer c = rw (absent c.args.self.now c.args.uid c.place_of.result c.place_of.ensures c.in-None.is) refl
+returns-in-None-clause-answer c = rw (absent c.args.self.now c.args.uid c.place_of.result c.place_of.ensures.place c.in-None.is) refl
 
 pub returns-in-None-clause-refused : goal.returns-in-None-clause-refused
-returns-in-None-clause-refused c = rw (absent c.args.self.now c.args.uid c.place_of.result c.place_of.ensures c.in-None.is) refl
+returns-in-None-clause-refused c = rw (absent c.args.self.now c.args.uid c.place_of.result c.place_of.ensures.place c.in-None.is) refl
 
 pub returns-in-None-clause-exact : goal.returns-in-None-clause-exact
 returns-in-None-clause-exact c none = returns-in-None-clause-answer c
 
 pub returns-in-None-clause-room : goal.returns-in-None-clause-room
-returns-in-None-clause-room c free = rw (absent c.args.self.now c.args.uid c.place_of.result c.place_of.ensures c.in-None.is) tt
+returns-in-None-clause-room c free = rw (absent c.args.self.now c.args.uid c.place_of.result c.place_of.ensures.place c.in-None.is) tt
 
 pub returns-in-None-clause-state : goal.returns-in-None-clause-state
-returns-in-None-clause-state c = rw (absent c.args.self.now c.args.uid c.place_of.result c.place_of.ensures c.in-None.is) refl
+returns-in-None-clause-state c = rw (absent c.args.self.now c.args.uid c.place_of.result c.place_of.ensures.place c.in-None.is) refl

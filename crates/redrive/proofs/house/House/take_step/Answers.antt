@@ -7,13 +7,13 @@ pub returns-in_err-create-in-Create-clause-done : goal.returns-in_err-create-in-
 returns-in_err-create-in-Create-clause-done c =
     let p = err_from_is_err_and c.from_residual.result c.from_residual.ensures.1 in
     rw (c.in-Create.is, p.1, p.2)
-    (created-done c.args.self.now c.in-Create.name c.keep_registry.ensures c.create.new.self c.in-Create.at c.in-Create.wish (Err c.in_err-create-in-Create.field-0.0) c.args.ticks.now c.args.ticks.now
+    (created-done c.args.self.now c.in-Create.name c.in_err-create-in-Create.ensures.registry c.create.new.self c.in-Create.at c.in-Create.wish (Err c.in_err-create-in-Create.field-0.0) c.args.ticks.now c.args.ticks.now
     c.in_err-create-in-Create.ensures.answer c.in_err-create-in-Create.ensures.known c.in_err-create-in-Create.ensures.state refl)
 
 pub returns-in_ok-create-in-Create-clause-done : goal.returns-in_ok-create-in-Create-clause-done
 returns-in_ok-create-in-Create-clause-done c =
     rw c.in-Create.is
-    (created-done c.args.self.now c.in-Create.name c.keep_registry.ensures c.create.new.self c.in-Create.at c.in-Create.wish (Ok c.in_ok-create-in-Create.field-0) c.args.ticks.now c.args.ticks.now
+    (created-done c.args.self.now c.in-Create.name c.in_ok-create-in-Create.ensures.registry c.create.new.self c.in-Create.at c.in-Create.wish (Ok c.in_ok-create-in-Create.field-0) c.args.ticks.now c.args.ticks.now
     c.in_ok-create-in-Create.ensures.answer c.in_ok-create-in-Create.ensures.known c.in_ok-create-in-Create.ensures.state refl)
 
 pub returns-in_err-take_queue-in-Delete-clause-done : goal.returns-in_err-take_queue-in-Delete-clause-done
