@@ -190,6 +190,8 @@ move 2 5002 => None";
 
 /// A queue beside two that are configured. Journals of four and of eight entries have no room left.
 const MADE: &str = "find dlq => Some(2)
+place dlq => (2, 1, 2)
+place other => None
 create other 0 => created 3
 send 3 1000 => sent 0
 send 3 1001 => sent 1
@@ -221,6 +223,8 @@ state 1 => false
 state 2 => true
 state 3 => false
 find dlq => None
+place dlq => None
+place jobs => (2, 0, 2)
 look 2 0 => 1000 4 0 0 0
 delete 1 1900 => QueueDoesNotExist
 sources 1 => QueueDoesNotExist

@@ -168,6 +168,14 @@ fn tell_reply(text: &mut String, reply: &Reply) -> Result<(), Fault> {
     }
 }
 
+/// Tells the uid and the place of the queue of a name, and the uid of the queue that stands there.
+fn tell_place(text: &mut String, house: &House, name: &QueueName) -> Result<(), Fault> {
+    match house.find_place(name) {
+        Some(found) => tell(text, &(found.uid, found.place, house.queue_at(found).uid())),
+        None => Ok(text.push_str("None")?),
+    }
+}
+
 /// A registry with the limits and the queues of a configuration.
 fn configured(alloc: Global, config: &str) -> Result<House, Fault> {
     let config = config_from_text(alloc, config).map_err(|_| Fault::OutOfMemory)?;
@@ -289,6 +297,7 @@ impl Talk {
         text.clear();
         match call {
             "find" => tell(text, &house.find(&QueueName::read(name)?)),
+            "place" => tell_place(text, house, &QueueName::read(name)?),
             "state" => tell(text, &house.state(uid).is_some()),
             "row" => tell(
                 text,
