@@ -1,6 +1,6 @@
 //! What a line of the input asks, and its answer.
 
-ghost use Rattle.std.specs.Prelude.{◌≡◌, ◌++◌, codes, decimal, IfOk, IfErr, OnOk, Ok, false};
+ghost use Rattle.std.specs.Prelude.{◌≡◌, ◌++◌, codes, decimal, IfOk, IfErr, OnOk, Ok, Some, false};
 ghost use Rattle.message.specs.Fault.{Meets, is_out_of_memory};
 ghost use Rattle.redrive.specs.World.{names_in_world, sources_answer, target_uid};
 ghost use Rattle.aws_json.specs.declared.reply.ReplyShape.TheVariants.{QueueUrl, QueueUrls, SourceQueueUrls};
@@ -9,6 +9,7 @@ ghost use Rattle.request_plan.specs.declared.task.Task.TheVariants.{Create, Dele
 ghost use Rattle.request_plan.specs.Task.{queue_of_task, task_of};
 ghost use Rattle.sqs_replay.specs.declared.shown.LineAnswer.TheVariants.{Reply};
 ghost use Rattle.sqs_replay.specs.Served.{asked_by, asked_of, unchanged, in_queue, task_served, served, asked_served, queue_of_asked, required_queue, line_served, answer_text, text_of_line, world_of_line, Leaves};
+ghost use Rattle.sqs_replay.specs.private.Place.{IsPlaceOf};
 
 use crate::ReplayFault;
 use crate::input_line::{InputLine, read_line};
@@ -24,7 +25,7 @@ use journal::{Moment, Ticks};
 use message::{Fault, QueueName};
 use queue_config::Wish;
 use queue_core::Command;
-use redrive::House;
+use redrive::{House, QueuePlace};
 use request_plan::{Step, Task, queue_of_task, task_of};
 use std::alloc::Global;
 
@@ -184,7 +185,38 @@ fn urls(alloc: Global, house: &House, prefix: &Prefix) -> Result<ReplyShape, Fau
     Ok(ReplyShape::QueueUrls(QueueNames::new(names)))
 }
 
-/// Asks the queue of a name, from a step on.
+/// An answer, and where the queue stands whose dead letters then move.
+#[derive(Drop)]
+struct AskedAnswer {
+    answer: Result<LineAnswer, Fault>,
+    place: Option<QueuePlace>,
+}
+
+/// An answer behind which the dead letters of the queue of a name move, where that queue is there.
+fn answered(
+    house: &House,
+    queue: Option<QueueName>,
+    answer: Result<LineAnswer, Fault>,
+) -> AskedAnswer
+    ensures answer { result.answer ≡ answer }
+    ensures place { IsPlaceOf house.now queue result.place }
+{
+    let place = match queue {
+        Some(name) => house.find_place(&name),
+        None => None,
+    };
+    AskedAnswer { answer, place }
+}
+
+/// The same of a reply.
+fn replied(house: &House, queue: Option<QueueName>, reply: Result<ReplyShape, Fault>) -> AskedAnswer
+    ensures answer { result.answer ≡ result_map Reply reply }
+    ensures place { IsPlaceOf house.now queue result.place }
+{
+    answered(house, queue, reply.map(LineAnswer::Reply))
+}
+
+/// Asks the queue of a name, from a step on. It is looked for once.
 fn ask(
     alloc: Global,
     house: &mut House,
@@ -192,14 +224,24 @@ fn ask(
     queue: &QueueName,
     step: Step,
     ticks: &mut Ticks,
-) -> Result<ReplyShape, Fault>
-    ensures answer { Meets result (task_served house.old at (Ask queue.now step)).answer }
-    ensures state { Leaves result house.new (task_served house.old at (Ask queue.now step)).world }
+) -> AskedAnswer
+    ensures place { IsPlaceOf house.new (Some queue.now) result.place }
+    ensures answer { Meets result.answer (result_map Reply (task_served house.old at (Ask queue.now step)).answer) }
+    ensures state { Leaves result.answer house.new (task_served house.old at (Ask queue.now step)).world }
 {
-    let Some(uid) = house.find(queue) else {
-        return Err(Fault::QueueDoesNotExist);
-    };
-    play(alloc, house, at, uid, step, ticks)
+    match house.find_place(queue) {
+        Some(found) => {
+            let reply = play(alloc, house, at, found, step, ticks);
+            AskedAnswer {
+                answer: reply.map(LineAnswer::Reply),
+                place: Some(found),
+            }
+        }
+        None => AskedAnswer {
+            answer: Err(Fault::QueueDoesNotExist),
+            place: None,
+        },
+    }
 }
 
 /// Does what a request is about.
@@ -209,26 +251,32 @@ fn serve_task(
     at: Moment,
     task: Task,
     ticks: &mut Ticks,
-) -> Result<ReplyShape, Fault>
-    ensures answer { Meets result (task_served house.old at task).answer }
-    ensures state { Leaves result house.new (task_served house.old at task).world }
+) -> AskedAnswer
+    ensures place { IsPlaceOf house.new (queue_of_task task) result.place }
+    ensures answer { Meets result.answer (result_map Reply (task_served house.old at task).answer) }
+    ensures state { Leaves result.answer house.new (task_served house.old at task).world }
 {
     match task {
-        Task::Create { name, wish } => create(alloc, house, at, name, wish),
-        Task::Delete { queue } => delete_queue(alloc, house, at, &queue, ticks),
-        Task::Set { queue, wish } => set_attributes(alloc, house, at, &queue, wish, ticks),
-        Task::Url { name } => url(house, &name),
-        Task::Urls { prefix } => urls(alloc, house, &prefix),
-        Task::Sources { queue } => source_urls(alloc, house, &queue),
+        Task::Create { name, wish } => {
+            let reply = create(alloc, house, at, name, wish);
+            replied(house, None, reply)
+        }
+        Task::Delete { queue } => {
+            let reply = delete_queue(alloc, house, at, &queue, ticks);
+            replied(house, Some(queue), reply)
+        }
+        Task::Set { queue, wish } => {
+            let reply = set_attributes(alloc, house, at, &queue, wish, ticks);
+            replied(house, Some(queue), reply)
+        }
+        Task::Url { name } => replied(house, None, url(house, &name)),
+        Task::Urls { prefix } => replied(house, None, urls(alloc, house, &prefix)),
+        Task::Sources { queue } => {
+            let reply = source_urls(alloc, house, &queue);
+            replied(house, Some(queue), reply)
+        }
         Task::Ask { queue, step } => ask(alloc, house, at, &queue, step, ticks),
     }
-}
-
-/// An answer, and the queue whose dead letters then move.
-#[derive(Drop)]
-struct AskedAnswer {
-    answer: Result<LineAnswer, Fault>,
-    queue: Option<QueueName>,
 }
 
 /// Answers a client's request.
@@ -239,19 +287,17 @@ fn serve(
     request: Request,
     ticks: &mut Ticks,
 ) -> AskedAnswer
-    ensures queue { result.queue ≡ queue_of_task (task_of request) }
+    ensures place { IsPlaceOf house.new (queue_of_task (task_of request)) result.place }
     ensures answer { Meets result.answer (result_map Reply (served house.old at request).answer) }
     ensures state { Leaves result.answer house.new (served house.old at request).world }
 {
     let task = task_of(alloc, request);
-    let queue = queue_of_task(&task);
-    let answer = serve_task(alloc, house, at, task, ticks).map(LineAnswer::Reply);
-    AskedAnswer { answer, queue }
+    serve_task(alloc, house, at, task, ticks)
 }
 
 /// Answers what a line asks.
 fn serve_asked(alloc: Global, house: &mut House, timed: Timed, ticks: &mut Ticks) -> AskedAnswer
-    ensures queue { result.queue ≡ queue_of_asked timed.asked }
+    ensures place { IsPlaceOf house.new (queue_of_asked timed.asked) result.place }
     ensures answer { Meets result.answer (asked_served house.old timed.at timed.asked).answer }
     ensures state { Leaves result.answer house.new (asked_served house.old timed.at timed.asked).world }
 {
@@ -260,25 +306,19 @@ fn serve_asked(alloc: Global, house: &mut House, timed: Timed, ticks: &mut Ticks
         Asked::Client(request) => serve(alloc, house, at, request, ticks),
         Asked::Tick => {
             house.advance_all(at, ticks);
-            let answer = Ok(LineAnswer::Reply(ReplyShape::Nothing));
-            AskedAnswer {
-                answer,
-                queue: None,
-            }
+            replied(house, None, Ok(ReplyShape::Nothing))
         }
         Asked::Statistics(queue) => {
             let answer = show_statistics(alloc, house, at, &queue, ticks);
-            AskedAnswer { answer, queue }
+            answered(house, queue, answer)
         }
         Asked::Rows(queue) => {
             let answer = show_rows(alloc, house, at, &queue, ticks);
-            let queue = Some(queue);
-            AskedAnswer { answer, queue }
+            answered(house, Some(queue), answer)
         }
         Asked::Alarms(queue) => {
             let answer = show_alarms(alloc, house, at, &queue, ticks);
-            let queue = Some(queue);
-            AskedAnswer { answer, queue }
+            answered(house, Some(queue), answer)
         }
     }
 }
@@ -295,11 +335,13 @@ fn serve_line(
 {
     let timed = read_timed(alloc, line)?;
     let at = timed.at;
-    let AskedAnswer { answer, queue } = serve_asked(alloc, house, timed, ticks);
+    let AskedAnswer { answer, place } = serve_asked(alloc, house, timed, ticks);
     if matches!(answer, Err(Fault::OutOfMemory)) {
         return answer;
     }
-    move_dead_letters(alloc, house, at, queue, ticks)?;
+    if let Some(found) = place {
+        move_dead_letters(alloc, house, at, found, ticks)?;
+    }
     answer
 }
 

@@ -5,13 +5,12 @@ ghost use Rattle.std.specs.Option.{ForSome};
 ghost use Rattle.message.specs.declared.fault.Fault.TheVariants.{OutOfMemory};
 ghost use Rattle.message.specs.Fault.{is_out_of_memory};
 ghost use Rattle.queue_core.specs.Legal.{IsLegal};
-ghost use Rattle.redrive.specs.World.{World, queue_of_uid, first_parcel_in};
+ghost use Rattle.redrive.specs.World.{World, queue_of_uid, first_parcel_in, StandsAt};
 ghost use Rattle.sqs_replay.specs.Moves.{goes_on, message_count_in, some_moves, all_moves, WasRefused};
-ghost use Rattle.sqs_replay.specs.Served.{moves_after};
 
 use journal::{Moment, Ticks};
-use message::{Fault, QueueName};
-use redrive::{House, Moved};
+use message::Fault;
+use redrive::{House, Moved, QueuePlace};
 use std::alloc::Global;
 
 /// Whether another parcel is tried after an answer. Lack of memory is told on.
@@ -49,29 +48,25 @@ fn some_moves(
     Ok(())
 }
 
-/// Moves every parcel of the queue of a name, where that queue is there. Where none waits, as after
-/// nearly every line, nothing else is asked.
+/// Moves every parcel of the queue that was found. Where none waits, as after nearly every line,
+/// nothing else is asked.
 pub(crate) fn move_dead_letters(
     alloc: Global,
     house: &mut House,
     at: Moment,
-    queue: Option<QueueName>,
+    found: QueuePlace,
     ticks: &mut Ticks,
 ) -> Result<(), Fault>
-    ensures state { OnOk result (house.new ≡ moves_after house.old at queue) }
+    requires { StandsAt house.old found }
+    ensures state { OnOk result (house.new ≡ all_moves house.old found.uid at) }
     ensures fault { IfErr result (λ fault. fault ≡ OutOfMemory) }
 {
-    let Some(name) = queue else {
-        return Ok(());
-    };
-    let Some(queue) = house.named(&name) else {
-        return Ok(());
-    };
+    let queue = house.queue_at(found);
     if queue.first_waiting().is_none() {
         return Ok(());
     }
-    let (source, most) = (queue.uid(), queue.message_count());
-    some_moves(alloc, house, at, source, most, ticks)
+    let most = queue.message_count();
+    some_moves(alloc, house, at, found.uid, most, ticks)
 }
 
 /// That as many moves are tried as the queue ever had messages is enough: after all of them no parcel

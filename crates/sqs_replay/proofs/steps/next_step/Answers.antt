@@ -9,6 +9,6 @@ use Rattle.sqs_replay.proofs.steps.next_step.Goals as goal
 
 pub returns-clause-step : goal.returns-clause-step
 returns-clause-step c =
-    let told : c.match-step.outcome ≡ outcome_of c.args.command (step_answer c.args.house.now c.args.uid c.args.at c.args.command) = search rules in
+    let told : c.match-step_at.outcome ≡ outcome_of c.args.command (step_answer c.args.house.now c.args.found.uid c.args.at c.args.command) = search rules in
     follows_comes c.args.then c.after.result _
-    (subst (λ (o : Result Performed Fault). Follows c.args.then c.after.result (after c.args.uid c.args.then o)) told c.after.ensures)
+    (subst (λ (o : Result Performed Fault). Follows c.args.then c.after.result (after c.args.found.uid c.args.then o)) told c.after.ensures)
