@@ -1,17 +1,11 @@
 -- What goes between the threads of the server, whose desks print on boards. Each type by the types of its fields, so that no search goes through all of them.
 use denote.RattleType.{RattleType}
-use denote.Enum.Declared as variants
 use denote.Param.Send.{IsSend, IsSync, sendable, struct_send, enum_send, recorded_send}
 use denote.Struct.Declared as parts
 use denote.Struct.Field.{unit-field}
 use Rattle.std.proofs.Crossing.{crosses}
-use Rattle.std.below.std_heap.proofs.GlobalAllocator.TheSendSync as heap
 use Rattle.std.proofs.alloc.Global.TheSendSync as global
-use Rattle.std.proofs.option.Option.TheSendSync as option
-use Rattle.std.proofs.result.Result.TheSendSync as results
 use Rattle.crossbeam_channel.proofs.channel.Receiver.TheSendSync as channel
-use Rattle.futures.proofs.channel.oneshot.Receiver.TheSendSync as receiver
-use Rattle.futures.proofs.future.made.ready.Ready.TheSendSync as readies
 use Rattle.board.proofs.Sending.{publisher_send}
 use Rattle.board.specs.contracts.publisher.Publisher as publisher
 use Rattle.board.specs.contracts.publisher.PublisherPress.TheImpl as impl
@@ -28,53 +22,27 @@ use Rattle.queue_actor.specs.contracts.directory.Directory as directory
 use Rattle.queue_actor.specs.contracts.future.AskFuture as future
 use Rattle.queue_actor.specs.contracts.envelope.Envelope as envelope
 use Rattle.bytes.proofs.shared.Bytes.TheSendSync as bytes
-use Rattle.bytes.specs.contracts.shared.Bytes as shared_bytes
 use Rattle.http.specs.contracts.response.Response as response
-use Rattle.http.proofs.response.Response.TheSendSync as responses
 use Rattle.http_body_util.proofs.full.Full.TheSendSync as full
-use Rattle.http_body_util.specs.contracts.full.Full as full_body
-use Rattle.hyper.proofs.error.Error.TheSendSync as errors
-use Rattle.hyper.proofs.rt.TokioTimer.TheSendSync as timer
-use Rattle.hyper.proofs.server.conn.http1.Builder.TheSendSync as builder
-use Rattle.hyper.proofs.server.conn.http1.Connection.TheSendSync as connection
 use Rattle.hyper.specs.contracts.error.Error as error
-use Rattle.hyper.specs.contracts.rt.TokioTimer as tokio_timer
-use Rattle.hyper.specs.contracts.server.conn.http1.Connection as served
-use Rattle.std.specs.contracts.alloc.Global as heap_handle
 use Rattle.std.specs.contracts.result.Result as result
 use Rattle.std.specs.declared.sync.Wait as wait
-use Rattle.std.specs.contracts.impls.GlobalAllocator.TheImpl as allocator
-use Rattle.tokio.proofs.net.stream.TcpStream.TheSendSync as tcp
-use Rattle.tokio.proofs.sync.semaphore.Semaphore.TheSendSync as semaphore
 use Rattle.tokio.specs.contracts.net.stream.TcpStream as stream
 use Rattle.sqs_server.proofs.arriving.Arriving.TheSendSync as arriving
-use Rattle.sqs_server.proofs.arriving.KeptRequest.TheSendSync as asked
 use Rattle.sqs_server.proofs.attendance.Attendance.TheSendSync as attendance
 use Rattle.sqs_server.proofs.bodies.Bodies.TheSendSync as bodies
-use Rattle.sqs_server.proofs.door.Guest.TheSendSync as guest
 use Rattle.sqs_server.proofs.notices.Notices.TheSendSync as notices
 use Rattle.sqs_server.proofs.queues.Made.TheSendSync as made
 use Rattle.sqs_server.proofs.queues.Order.TheSendSync as order
 use Rattle.sqs_server.proofs.register.Register.TheSendSync as register
-use Rattle.sqs_server.proofs.reply.Sent.TheSendSync as sent
 use Rattle.sqs_server.proofs.serving.Port.TheSendSync as port
-use Rattle.sqs_server.proofs.stage.Creation.TheSendSync as creation
-use Rattle.sqs_server.proofs.stage.Purpose.TheSendSync as purpose
-use Rattle.sqs_server.specs.contracts.answering.Answering as answering
-use Rattle.sqs_server.specs.contracts.arriving.KeptRequest as asked_type
-use Rattle.sqs_server.specs.contracts.door.Caller as caller
-use Rattle.sqs_server.specs.contracts.door.Exhibition as exhibition
-use Rattle.sqs_server.specs.contracts.door.Guest as guest_type
 use Rattle.sqs_server.specs.contracts.front.Front as front
 use Rattle.sqs_server.specs.contracts.front.Hall as hall
 use Rattle.sqs_server.specs.contracts.queues.Maker as maker
-use Rattle.sqs_server.specs.contracts.queues.Queue as queue
 use Rattle.sqs_server.specs.contracts.queues.Serving as serving
-use Rattle.sqs_server.specs.contracts.serving.Showing as showing
-use Rattle.sqs_server.specs.contracts.serving.Working as working
-use Rattle.sqs_server.specs.contracts.stage.Exchange as exchange
+use Rattle.sqs_server.specs.contracts.serving.StatisticsWorker as statistics_worker
+use Rattle.sqs_server.specs.contracts.serving.RequestWorker as request_worker
 use Rattle.sqs_server.specs.contracts.stage.Stage as stage
-use Rattle.sqs_server.specs.contracts.statistics.StatisticsFront as statistics
 
 -- what a queue is served with, where the runtime may go to another thread
 module _ (T : RattleType) (w : wait.Ghosts T.Denot) (s : IsSend T) where
@@ -165,18 +133,18 @@ maker_send T w s =
     let both = directory_sync T w s in
     search (order.the_send, channel.the_send, sendable, crosses) depth 40 fits 100000
 
-pub showing_send : (T : RattleType) (w : wait.Ghosts T.Denot) → IsSend T → IsSend (showing.the_row T w)
-showing_send T w s =
+pub statistics_worker_send : (T : RattleType) (w : wait.Ghosts T.Denot) → IsSend T → IsSend (statistics_worker.the_row T w)
+statistics_worker_send T w s =
     let one = directory_send T w s in
     let both = directory_sync T w s in
     recorded_send
-    (showing.the_field T w).row
+    (statistics_worker.the_field T w).row
     _
     _
-    (showing.the_type T w).to_one
+    (statistics_worker.the_type T w).to_one
     (
     struct_send
-    (parts.shape (showing.the_type T w)) (
+    (parts.shape (statistics_worker.the_type T w)) (
       s,
       (
         search (sendable, crosses) depth 40 fits 100000,
@@ -188,16 +156,16 @@ showing_send T w s =
     )
     )
 
-pub working_send : (T : RattleType) (w : wait.Ghosts T.Denot) → IsSend T → IsSend (working.the_row T w)
-working_send T w s =
+pub request_worker_send : (T : RattleType) (w : wait.Ghosts T.Denot) → IsSend T → IsSend (request_worker.the_row T w)
+request_worker_send T w s =
     recorded_send
-    (working.the_field T w).row
+    (request_worker.the_field T w).row
     _
     _
-    (working.the_type T w).to_one
+    (request_worker.the_type T w).to_one
     (
     struct_send
-    (parts.shape (working.the_type T w)) (
+    (parts.shape (request_worker.the_type T w)) (
       s,
       (
         port.the_field_send,

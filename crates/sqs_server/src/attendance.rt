@@ -5,48 +5,48 @@ use std::sync::Arc;
 use std::sync::atomic::{AtomicU64, Ordering};
 use tokio::sync::Semaphore;
 
-/// The connections of one door, and those of all doors of its port. Of what threads store no clause tells.
+/// The connections of one acceptor, and those of all acceptors of its port. Of what threads store no clause tells.
 #[derive(Drop)]
 pub struct Attendance {
     here: Arc<AtomicU64>,
     everywhere: Arc<AtomicU64>,
-    /// How many doors the port has.
-    doors: u64,
+    /// How many acceptors the port has.
+    acceptors: u64,
     /// Has a permit for each connection that has closed.
     pub closed: Arc<Semaphore>,
 }
 
 impl Attendance {
-    /// Nobody is there, at a port of so many doors.
+    /// Nobody is there, at a port of so many acceptors.
     pub fn new(
         alloc: Global,
-        doors: u64,
+        acceptors: u64,
         closed: Arc<Semaphore>,
     ) -> Result<Attendance, AllocError> {
         Ok(Attendance {
             here: Arc::new(alloc, AtomicU64::new(0))?,
             everywhere: Arc::new(alloc, AtomicU64::new(0))?,
-            doors,
+            acceptors,
             closed,
         })
     }
 
-    /// The same for another door of the port, at which nobody is.
+    /// The same for another acceptor of the port, at which nobody is.
     pub fn apart(&self, alloc: Global) -> Result<Attendance, AllocError> {
         Ok(Attendance {
             here: Arc::new(alloc, AtomicU64::new(0))?,
             everywhere: Arc::try_clone(&self.everywhere)?,
-            doors: self.doors,
+            acceptors: self.acceptors,
             closed: Arc::try_clone(&self.closed)?,
         })
     }
 
-    /// The same for whoever keeps this door.
+    /// The same once more.
     pub fn again(&self) -> Result<Attendance, AllocError> {
         Ok(Attendance {
             here: Arc::try_clone(&self.here)?,
             everywhere: Arc::try_clone(&self.everywhere)?,
-            doors: self.doors,
+            acceptors: self.acceptors,
             closed: Arc::try_clone(&self.closed)?,
         })
     }
@@ -65,10 +65,10 @@ impl Attendance {
         })
     }
 
-    /// Whether more connections are here than at the doors of the port on average.
+    /// Whether more connections are here than at the acceptors of the port on average.
     pub fn is_crowded(&self) -> bool {
         let here = self.here.load(Ordering::SeqCst);
-        self.everywhere.load(Ordering::SeqCst) < here.saturating_mul(self.doors)
+        self.everywhere.load(Ordering::SeqCst) < here.saturating_mul(self.acceptors)
     }
 }
 

@@ -8,7 +8,7 @@
 //!   there, from its body to what is sent. `answering`: the service, whose future goes through these stages.
 //! - `register`, `counts`: what is told of the requests that were answered.
 //! - `statistics`: the service of the other port, which tells what was printed of the queues.
-//! - `door`: the connections. `attendance`: how many are open. `watch`: whether anything happens at one. `notices`: lines for standard error. `serving`: the runtimes, the queues and the doors together.
+//! - `connections`: what accepts and serves connections. `attendance`: how many are open. `watch`: whether anything happens at one. `notices`: lines for standard error. `serving`: the runtimes and the queues together.
 //!
 //! What is pure of it has exact contracts, whose definitions stand in `specs/`.
 #![tactic(auto)]
@@ -22,8 +22,8 @@ mod arriving;
 mod attendance;
 mod bodies;
 mod clock;
+mod connections;
 mod counts;
-mod door;
 mod front;
 mod head;
 mod notices;

@@ -1,4 +1,4 @@
-//! What serves the connections of the ports: the runtimes, the queues and the doors.
+//! What serves the connections of the ports: the runtimes, the queues and what accepts connections.
 
 ghost use Rattle.std.specs.Prelude.{◌≡◌, ◌⊎◌, IfErr, IfOk, IfSome};
 ghost use Rattle.std.specs.IoError.{error_kind};
@@ -9,7 +9,7 @@ ghost use Rattle.sqs_server.specs.declared.arguments.Refusal.TheVariants.{Listen
 use crate::arguments::Refusal;
 use crate::attendance::Attendance;
 use crate::bodies::Bodies;
-use crate::door::{Door, Exhibition, Reception, Welcome, is_shortage};
+use crate::connections::{Acceptor, MakeTask, RequestTasks, StatisticsTasks, is_shortage};
 use crate::front::{Front, Hall};
 use crate::notices::Notices;
 use crate::queues::{Opened, Queues, open_all};
@@ -68,37 +68,37 @@ impl Port {
     }
 
     /// Where its connections come from, for the thread of a runtime.
-    fn entrance(&self, runtime: &LocalRuntime) -> io::Result<TcpListener> {
+    fn listener(&self, runtime: &LocalRuntime) -> io::Result<TcpListener> {
         TcpListener::from_std(self.listener.try_clone()?, runtime.handle().reactor())
     }
 }
 
 /// Lets connections in until enough have closed, or until nothing could be accepted more often in a row than is
 /// said. Those that are open then are let go.
-fn keep_door<R, W>(
+fn accept<R, M>(
     rt: &R,
     runtime: &mut LocalRuntime,
     listener: TcpListener,
-    welcome: W,
+    make: M,
     notices: Notices,
     patience: Option<u32>,
     counted: (Attendance, Option<AcquireOwned>),
 ) -> io::Result<()>
 where
     R: Wait + Clock + RandomSource + AllocGlobal + Copy + Drop,
-    W: Welcome,
+    M: MakeTask,
     requires { IfSome counted.1 CanAcquire }
 {
     let (attendance, enough) = counted;
     let timers = runtime.handle().time().clone()?;
-    let tasks = runtime.task_set::<R, W::Guest>(rt)?;
-    let door = Door {
+    let tasks = runtime.task_set::<R, M::Task>(rt)?;
+    let acceptor = Acceptor {
         rt: *rt,
         alloc: rt.alloc(),
         listener,
         notices,
         attendance,
-        welcome,
+        make,
         tasks: &tasks,
         timers,
         pause: None,
@@ -108,7 +108,7 @@ where
         enough,
     };
     runtime.set_shutdown_timeout(Some(Duration::from_millis(0)));
-    runtime.block_on_with(rt, &tasks, door)?
+    runtime.block_on_with(rt, &tasks, acceptor)?
 }
 
 /// The future of so many closed connections.
@@ -131,7 +131,7 @@ const REOPENING: u64 = 1;
 
 /// What the thread works with that serves the statistics.
 #[derive(Drop)]
-struct Showing<R: Wait + Drop> {
+struct StatisticsWorker<R: Wait + Drop> {
     rt: R,
     queues: Arc<Queues<R>>,
     register: Arc<Register>,
@@ -139,7 +139,7 @@ struct Showing<R: Wait + Drop> {
     notices: Notices,
 }
 
-impl<R> Showing<R>
+impl<R> StatisticsWorker<R>
 where
     R: Wait
         + Threads
@@ -154,13 +154,13 @@ where
         + 'static,
 {
     /// What has the statistics of a socket told, by the timers of a runtime.
-    fn exhibition(&self, runtime: &LocalRuntime) -> io::Result<Exhibition<R>> {
+    fn statistics_tasks(&self, runtime: &LocalRuntime) -> io::Result<StatisticsTasks<R>> {
         let (rt, alloc) = (self.rt, self.rt.alloc());
         let timer = TokioTimer::new(rt, runtime.handle().time().clone()?);
         let Ok(notices) = self.notices.again() else {
             return Err(io::ErrorKind::OutOfMemory.into());
         };
-        Ok(Exhibition {
+        Ok(StatisticsTasks {
             rt,
             alloc,
             http: Builder::new(alloc, RandomState::new(&rt)?).timer(timer),
@@ -178,17 +178,17 @@ where
     /// Lets connections in at a port, until it fails.
     fn show_at(&self, port: &Port) -> io::Result<()> {
         let mut runtime = LocalRuntime::new(&self.rt)?;
-        let entrance = port.entrance(&runtime)?;
-        let welcome = self.exhibition(&runtime)?;
+        let listener = port.listener(&runtime)?;
+        let make = self.statistics_tasks(&runtime)?;
         let Ok(notices) = self.notices.again() else {
             return Err(io::ErrorKind::OutOfMemory.into());
         };
         let attendance = self.attendance.again()?;
-        keep_door(
+        accept(
             &self.rt,
             &mut runtime,
-            entrance,
-            welcome,
+            listener,
+            make,
             notices,
             Some(PATIENCE),
             (attendance, None),
@@ -248,20 +248,20 @@ where
         return Err(io::ErrorKind::OutOfMemory.into());
     };
     let address = port.address()?;
-    let showing = Showing {
+    let worker = StatisticsWorker {
         rt: *rt,
         queues: Arc::try_clone(queues)?,
         register: Arc::try_clone(register)?,
         attendance,
         notices,
     };
-    let _thread = thread::spawn(rt, move || showing.run(address, port))?;
+    let _thread = thread::spawn(rt, move || worker.run(address, port))?;
     Ok(())
 }
 
 /// What a thread works with that serves requests.
 #[derive(Drop)]
-struct Working<R: Wait + Drop> {
+struct RequestWorker<R: Wait + Drop> {
     rt: R,
     port: Port,
     front: Front<R>,
@@ -271,7 +271,7 @@ struct Working<R: Wait + Drop> {
     notices: Notices,
 }
 
-impl<R> Working<R>
+impl<R> RequestWorker<R>
 where
     R: Wait
         + Clock
@@ -284,11 +284,11 @@ where
         + 'static,
 {
     /// The same for another thread.
-    fn again(&self) -> io::Result<Working<R>> {
+    fn again(&self) -> io::Result<RequestWorker<R>> {
         let (Ok(front), Ok(notices)) = (self.front.apart(), self.notices.again()) else {
             return Err(io::ErrorKind::OutOfMemory.into());
         };
-        Ok(Working {
+        Ok(RequestWorker {
             rt: self.rt,
             port: self.port.again()?,
             front,
@@ -299,13 +299,13 @@ where
     }
 
     /// What has the requests of a socket answered, by the timers of a runtime.
-    fn reception(&self, runtime: &LocalRuntime) -> io::Result<Reception<R>> {
+    fn request_tasks(&self, runtime: &LocalRuntime) -> io::Result<RequestTasks<R>> {
         let (rt, alloc) = (self.rt, self.rt.alloc());
         let timer = TokioTimer::new(rt, runtime.handle().time().clone()?);
         let (Ok(front), Ok(notices)) = (self.front.again(), self.notices.again()) else {
             return Err(io::ErrorKind::OutOfMemory.into());
         };
-        Ok(Reception {
+        Ok(RequestTasks {
             rt,
             alloc,
             http: Builder::new(alloc, RandomState::new(&rt)?).timer(timer),
@@ -316,20 +316,20 @@ where
     }
 
     /// Lets connections in until enough have closed.
-    fn receive(&self) -> io::Result<()> {
+    fn serve(&self) -> io::Result<()> {
         let mut runtime = LocalRuntime::new(&self.rt)?;
-        let entrance = self.port.entrance(&runtime)?;
-        let welcome = self.reception(&runtime)?;
+        let listener = self.port.listener(&runtime)?;
+        let make = self.request_tasks(&runtime)?;
         let Ok(notices) = self.notices.again() else {
             return Err(io::ErrorKind::OutOfMemory.into());
         };
         let attendance = self.attendance.again()?;
         let enough = closings(&attendance.closed, self.connections)?;
-        keep_door(
+        accept(
             &self.rt,
             &mut runtime,
-            entrance,
-            welcome,
+            listener,
+            make,
             notices,
             None,
             (attendance, enough),
@@ -339,7 +339,7 @@ where
     /// The same in a thread of its own. Where the system ends it, that is told, and it begins anew.
     fn run(self) {
         for _ in self.rt.forever() {
-            let Err(error) = self.receive() else {
+            let Err(error) = self.serve() else {
                 return;
             };
             let line = format!(in self.rt.alloc(); "sqs_server: requests: {error}");
@@ -350,7 +350,7 @@ where
 }
 
 /// Starts so many threads that serve requests beside the one that calls.
-fn employ<R>(rt: &R, working: &Working<R>, count: usize) -> io::Result<()>
+fn start_workers<R>(rt: &R, worker: &RequestWorker<R>, count: usize) -> io::Result<()>
 where
     R: Wait
         + Threads
@@ -364,7 +364,7 @@ where
         + 'static,
 {
     for _ in 0..count {
-        let other = working.again()?;
+        let other = worker.again()?;
         let _thread = thread::spawn(rt, move || other.run())?;
     }
     Ok(())
@@ -379,7 +379,7 @@ pub struct Ports {
 }
 
 /// Lets connections in that are answered over HTTP/1.1, at both ports.
-fn let_in<R>(
+fn serve_ports<R>(
     rt: &R,
     ports: Ports,
     opened: Opened<R>,
@@ -420,7 +420,7 @@ where
         port: ports.requests.address()?.port(),
         hall: Arc::new(alloc, hall)?,
     };
-    let working = Working {
+    let worker = RequestWorker {
         rt: *rt,
         port: ports.requests,
         front,
@@ -428,8 +428,8 @@ where
         connections,
         notices,
     };
-    employ(rt, &working, ports.workers.saturating_sub(1))?;
-    working.receive()
+    start_workers(rt, &worker, ports.workers.saturating_sub(1))?;
+    worker.serve()
 }
 
 /// Serves the queues of a configuration at two open ports, the one for requests and the one for statistics, until as
@@ -460,7 +460,7 @@ where
     let Ok(opened) = open_all(rt, host, rt.alloc(), config) else {
         return Err(Refusal::OutOfMemory);
     };
-    match let_in(rt, ports, opened, register, connections) {
+    match serve_ports(rt, ports, opened, register, connections) {
         Ok(()) => Ok(()),
         Err(error) => Err(refusal_of_system(&error)),
     }

@@ -1,4 +1,4 @@
-//! Who comes in: connections are accepted, served side by side, and counted when they have closed.
+//! Connections are accepted, served side by side, and counted when they have closed.
 
 ghost use Rattle.std.specs.Prelude.{◌≡◌, None, IfOk, IfSome, IsTrue};
 ghost use Rattle.futures.specs.Poll.{OnPending};
@@ -29,34 +29,34 @@ use tokio::time::{Handle, Sleep};
 /// How long nothing is accepted after the system has refused to, in milliseconds.
 const PAUSE_MILLISECONDS: u64 = 50;
 
-/// How long a connection is left to the other doors of a port where more are open here than there, in milliseconds.
+/// How long a connection is left to the other acceptors of a port where more are open here than there, in milliseconds.
 const WAY_MILLISECONDS: u64 = 1;
 
 /// A connection that is served: what serves it, and that it is there.
 #[derive(Drop)]
-pub struct Guest<C, R> {
+pub struct ConnectionTask<C, R> {
     rt: R,
     alloc: Global,
-    /// In a place of its own: it is large, and who spawns and polls a guest moves it.
+    /// In a place of its own: it is large, and who spawns and polls a task moves it.
     connection: Box<C>,
     notices: Notices,
     watch: IdleWatch,
-    /// For as long as the guest is there.
+    /// For as long as the connection is there.
     _presence: Presence,
 }
 
-/// A guest over a socket who asks for statistics.
-pub type Viewer<R> = Guest<
+/// What serves a socket over which statistics are asked for.
+pub type StatisticsTask<R> = ConnectionTask<
     Connection<TcpStream, StatisticsFront<R>, Full<Bytes>, TokioTimer<R>>,
     R,
 >;
 
-impl<C: Future<Output = hyper::Result<()>>, R: Wait + Drop> Future for Guest<C, R> {
+impl<C: Future<Output = hyper::Result<()>>, R: Wait + Drop> Future for ConnectionTask<C, R> {
     type Output = ();
 
-    ghost can_poll = { λ g. C.can_poll g.connection.value };
+    ghost can_poll = { λ t. C.can_poll t.connection.value };
 
-    ghost needs = { λ g. C.needs g.connection.value };
+    ghost needs = { λ t. C.needs t.connection.value };
 
     /// Serves. A fault of the connection is told on standard error, and is no fault of the server. That a client asks
     /// nothing for long is no fault. A connection at which nothing happens for long is closed.
@@ -75,37 +75,37 @@ impl<C: Future<Output = hyper::Result<()>>, R: Wait + Drop> Future for Guest<C, 
     }
 }
 
-/// A guest over a socket whose requests queues answer. It is a type of its own, so that who has it served need not
+/// What serves a socket whose requests queues answer. It is a type of its own, so that who has it served need not
 /// know what its connection is made of.
 #[derive(Drop)]
-pub struct Caller<R: Wait + Clock + Copy + Drop> {
-    guest: Guest<Connection<TcpStream, Front<R>, Full<Bytes>, TokioTimer<R>>, R>,
+pub struct RequestTask<R: Wait + Clock + Copy + Drop> {
+    task: ConnectionTask<Connection<TcpStream, Front<R>, Full<Bytes>, TokioTimer<R>>, R>,
 }
 
-impl<R: Wait + Clock + Copy + Drop> Future for Caller<R> {
+impl<R: Wait + Clock + Copy + Drop> Future for RequestTask<R> {
     type Output = ();
 
-    ghost can_poll = { λ c. ⟦<Guest<Connection<TcpStream, Front<R>, Full<Bytes>, TokioTimer<R>>, R> as Future>⟧.can_poll c.guest };
+    ghost can_poll = { λ t. ⟦<ConnectionTask<Connection<TcpStream, Front<R>, Full<Bytes>, TokioTimer<R>>, R> as Future>⟧.can_poll t.task };
 
-    ghost needs = { λ c. ⟦<Guest<Connection<TcpStream, Front<R>, Full<Bytes>, TokioTimer<R>>, R> as Future>⟧.needs c.guest };
+    ghost needs = { λ t. ⟦<ConnectionTask<Connection<TcpStream, Front<R>, Full<Bytes>, TokioTimer<R>>, R> as Future>⟧.needs t.task };
 
     fn poll(&mut self, cx: &mut Context<'_>) -> Poll<()> {
-        self.guest.poll(cx)
+        self.task.poll(cx)
     }
 }
 
 /// Makes what serves a socket.
-pub trait Welcome: Drop {
-    type Guest: Future<Output = ()>;
+pub trait MakeTask: Drop {
+    type Task: Future<Output = ()>;
 
     /// What serves it, from its first request on.
-    fn guest(&self, socket: TcpStream, presence: Presence) -> io::Result<Self::Guest>
-        ensures { IfOk result Self.Guest.can_poll };
+    fn task(&self, socket: TcpStream, presence: Presence) -> io::Result<Self::Task>
+        ensures { IfOk result Self.Task.can_poll };
 }
 
 /// Has the requests of a socket answered over HTTP/1.1.
 #[derive(Drop)]
-pub struct Reception<R: Wait + Drop> {
+pub struct RequestTasks<R: Wait + Drop> {
     pub rt: R,
     pub alloc: Global,
     pub http: Builder<TokioTimer<R>>,
@@ -114,10 +114,10 @@ pub struct Reception<R: Wait + Drop> {
     pub timers: Handle,
 }
 
-impl<R: Wait + Clock + Copy + Send + Drop + 'static> Welcome for Reception<R> {
-    type Guest = Caller<R>;
+impl<R: Wait + Clock + Copy + Send + Drop + 'static> MakeTask for RequestTasks<R> {
+    type Task = RequestTask<R>;
 
-    fn guest(&self, socket: TcpStream, presence: Presence) -> io::Result<Caller<R>> {
+    fn task(&self, socket: TcpStream, presence: Presence) -> io::Result<RequestTask<R>> {
         socket.set_nodelay(true)?;
         let (Ok(front), Ok(notices)) = (self.front.again(), self.notices.again()) else {
             return Err(io::ErrorKind::OutOfMemory.into());
@@ -126,7 +126,7 @@ impl<R: Wait + Clock + Copy + Send + Drop + 'static> Welcome for Reception<R> {
         let Ok(connection) = Box::new(self.alloc, connection) else {
             return Err(io::ErrorKind::OutOfMemory.into());
         };
-        let guest = Guest {
+        let task = ConnectionTask {
             rt: self.rt,
             alloc: self.alloc,
             connection,
@@ -134,13 +134,13 @@ impl<R: Wait + Clock + Copy + Send + Drop + 'static> Welcome for Reception<R> {
             watch: IdleWatch::new(&self.rt, &self.timers),
             _presence: presence,
         };
-        Ok(Caller { guest })
+        Ok(RequestTask { task })
     }
 }
 
 /// Has the requests of a socket for statistics answered over HTTP/1.1.
 #[derive(Drop)]
-pub struct Exhibition<R: Wait + Drop> {
+pub struct StatisticsTasks<R: Wait + Drop> {
     pub rt: R,
     pub alloc: Global,
     pub http: Builder<TokioTimer<R>>,
@@ -149,10 +149,10 @@ pub struct Exhibition<R: Wait + Drop> {
     pub timers: Handle,
 }
 
-impl<R: Wait + Clock + Copy + Send + Drop + 'static> Welcome for Exhibition<R> {
-    type Guest = Viewer<R>;
+impl<R: Wait + Clock + Copy + Send + Drop + 'static> MakeTask for StatisticsTasks<R> {
+    type Task = StatisticsTask<R>;
 
-    fn guest(&self, socket: TcpStream, presence: Presence) -> io::Result<Viewer<R>> {
+    fn task(&self, socket: TcpStream, presence: Presence) -> io::Result<StatisticsTask<R>> {
         socket.set_nodelay(true)?;
         let (Ok(front), Ok(notices)) = (self.front.again(), self.notices.again()) else {
             return Err(io::ErrorKind::OutOfMemory.into());
@@ -161,7 +161,7 @@ impl<R: Wait + Clock + Copy + Send + Drop + 'static> Welcome for Exhibition<R> {
         let Ok(connection) = Box::new(self.alloc, connection) else {
             return Err(io::ErrorKind::OutOfMemory.into());
         };
-        Ok(Guest {
+        Ok(ConnectionTask {
             rt: self.rt,
             alloc: self.alloc,
             connection,
@@ -186,17 +186,17 @@ pub(crate) fn is_shortage(error: &io::Error) -> bool {
 
 /// Accepts connections until enough of them have closed, where a number is asked for.
 #[derive(Drop)]
-pub struct Door<'a, R, W: Welcome> {
+pub struct Acceptor<'a, R, M: MakeTask> {
     pub rt: R,
     pub alloc: Global,
     pub listener: TcpListener,
     pub notices: Notices,
     pub attendance: Attendance,
-    pub welcome: W,
-    pub tasks: &'a TaskSet<W::Guest>,
+    pub make: M,
+    pub tasks: &'a TaskSet<M::Task>,
     pub timers: Handle,
     pub pause: Option<Sleep>,
-    /// Whether the next connection was left to the other doors already.
+    /// Whether the next connection was left to the other acceptors already.
     pub gave_way: bool,
     /// How many times in a row nothing was accepted, but for shortages.
     pub failures: u32,
@@ -205,16 +205,16 @@ pub struct Door<'a, R, W: Welcome> {
     pub enough: Option<AcquireOwned>,
 }
 
-impl<R: Wait + Clock, W: Welcome> Door<'_, R, W> {
+impl<R: Wait + Clock, M: MakeTask> Acceptor<'_, R, M> {
     /// Has a connection served.
-    fn let_in(&self, socket: TcpStream) -> io::Result<()> {
-        let guest = self.welcome.guest(socket, self.attendance.enter()?)?;
-        self.tasks.spawn(guest).map_err(io::Error::from)
+    fn spawn(&self, socket: TcpStream) -> io::Result<()> {
+        let task = self.make.task(socket, self.attendance.enter()?)?;
+        self.tasks.spawn(task).map_err(io::Error::from)
     }
 
     /// The same. One that cannot be served is closed.
-    fn receive(&self, socket: TcpStream) {
-        if let Err(error) = self.let_in(socket) {
+    fn serve(&self, socket: TcpStream) {
+        if let Err(error) = self.spawn(socket) {
             let line = format!(in self.alloc; "sqs_server: connection: {error}");
             self.notices.tell(&self.rt, line);
         }
@@ -222,7 +222,7 @@ impl<R: Wait + Clock, W: Welcome> Door<'_, R, W> {
 
     /// Tells a fault of the system, and accepts nothing for a while. It comes back where it is one too many. A shortage,
     /// which is none of the port, does not count.
-    fn complain(&mut self, error: io::Error) -> Option<io::Error>
+    fn refused(&mut self, error: io::Error) -> Option<io::Error>
         ensures enough { self.new.enough ≡ self.old.enough }
         ensures patient { self.old.patience ≡ None → result ≡ None }
     {
@@ -257,7 +257,7 @@ impl<R: Wait + Clock, W: Welcome> Door<'_, R, W> {
         is_pending
     }
 
-    /// Lets the other doors of the port have the next connection for a moment, once, where more are open here than
+    /// Lets the other acceptors of the port have the next connection for a moment, once, where more are open here than
     /// there.
     fn gives_way(&mut self, cx: &mut Context<'_>) -> bool
         ensures enough { self.new.enough ≡ self.old.enough }
@@ -291,10 +291,10 @@ impl<R: Wait + Clock, W: Welcome> Door<'_, R, W> {
     }
 }
 
-impl<R: Wait + Clock + Drop, W: Welcome> Future for Door<'_, R, W> {
+impl<R: Wait + Clock + Drop, M: MakeTask> Future for Acceptor<'_, R, M> {
     type Output = io::Result<()>;
 
-    ghost can_poll = { λ d. IfSome d.enough CanAcquire };
+    ghost can_poll = { λ a. IfSome a.enough CanAcquire };
 
     fn poll(&mut self, cx: &mut Context<'_>) -> Poll<io::Result<()>> {
         if let Poll::Ready(ended) = self.is_enough(cx) {
@@ -308,10 +308,10 @@ impl<R: Wait + Clock + Drop, W: Welcome> Future for Door<'_, R, W> {
             Poll::Pending => return Poll::Pending,
             Poll::Ready(Ok((socket, _))) => {
                 self.failures = 0;
-                self.receive(socket);
+                self.serve(socket);
             }
             Poll::Ready(Err(error)) => {
-                if let Some(error) = self.complain(error) {
+                if let Some(error) = self.refused(error) {
                     return Poll::Ready(Err(error));
                 }
             }
