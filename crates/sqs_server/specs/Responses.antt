@@ -1,13 +1,11 @@
 -- What the future of a response gives: a request is judged by its head, its stages follow one another, and what the last one ends with is sent.
-use Rattle.std.specs.Prelude.{◌≡◌, ◌≢◌, ◌⊎◌, ⊤, ⊥, ℕ, is_some, codes, List, [], Bool, Option, Some, None, Result, Ok, Err}
+use Rattle.std.specs.Prelude.{◌≡◌, ◌≢◌, ◌⊎◌, ⊤, ℕ, is_some, codes, List, [], Bool, Option, Some, None, Result, Ok, Err, unwrap_or}
 use Rattle.http.specs.Request as request
 use Rattle.http.specs.Response.{body_of, head_of}
 use Rattle.http.specs.StatusCode.{IsStatusCode}
 use Rattle.http.specs.declared.request.Parts.{Parts}
 use Rattle.http.specs.declared.request.Request.{Request}
 use Rattle.http.specs.declared.response.Response.{Response}
-use Rattle.http_body.specs.SizeHint.{exact, lower}
-use Rattle.http_body.specs.declared.size_hint.SizeHint.{SizeHint}
 use Rattle.http_body_util.specs.Collected.{IsCollectOf}
 use Rattle.http_header.specs.HeaderMap.{get}
 use Rattle.http_body_util.specs.declared.full.Full.{Full}
@@ -63,11 +61,12 @@ module _ {R : Type 0} where
   Judged head body announced (Some denial) stage = stage ≡ stages.Sending (denied denial)
   Judged head body announced None stage = ((counted announced ≢ 0) × (stage ≡ stages.Sending crowded)) ⊎ Comes head body (counted announced) stage
 
-  -- the same, by the method, by the announced size, where there is one, and by the least size that its body can have
+  -- by the parts of a request; a body whose size is not announced is not too large yet
+  abbrev pub IsFirstOf : Parts → Incoming TcpStream → Option ℕ → Stage R → Type 0
+  IsFirstOf head body announced stage = Judged head body announced (denial_of (has_origin head) head.method (unwrap_or announced 0)) stage
+
   abbrev pub IsFirstStage : Request (Incoming TcpStream) → Stage R → Type 0
-  IsFirstStage asked stage =
-      (hint : SizeHint) × (exact hint ≡ size_left (request.body_of asked).kind)
-      × Judged (request.head_of asked) (request.body_of asked) (exact hint) (denial_of (has_origin (request.head_of asked)) (request.head_of asked).method (lower hint)) stage
+  IsFirstStage asked stage = IsFirstOf (request.head_of asked) (request.body_of asked) (size_left (request.body_of asked).kind) stage
 
   -- ---- where it waits or ends
 

@@ -1,5 +1,5 @@
 -- What is sent at the port of the statistics (this project's own).
-use Rattle.std.specs.Prelude.{◌≡◌, ◌⊎◌, ℕ, nat_lt, ◌&&◌, MatchBool, Option, option_map, List, [], codes}
+use Rattle.std.specs.Prelude.{◌≡◌, ◌⊎◌, ℕ, nat_lt, ◌&&◌, MatchBool, Option, option_map, List, [], codes, unwrap_or}
 use Rattle.std.specs.Str.{bytes_eq}
 use Rattle.board.specs.Sheet.{Statistics}
 use Rattle.http.specs.Request as request
@@ -8,8 +8,6 @@ use Rattle.http.specs.StatusCode.{IsStatusCode}
 use Rattle.http.specs.declared.request.Parts.{Parts}
 use Rattle.http.specs.declared.request.Request.{Request}
 use Rattle.http.specs.declared.response.Response.{Response}
-use Rattle.http_body.specs.SizeHint.{exact, lower}
-use Rattle.http_body.specs.declared.size_hint.SizeHint.{SizeHint}
 use Rattle.http_body_util.specs.declared.full.Full.{Full}
 use Rattle.http_header.specs.FieldValue.{FieldValue, plain_value}
 use Rattle.http_header.specs.HeaderMap.{Entries, get, insert}
@@ -65,9 +63,10 @@ IsJudged host method path size told = MatchBool (is_foreign host) (told ≡ fore
 abbrev pub host_in : Parts → Option (List ℕ)
 host_in head = option_map (λ value. value.bytes) (get head.headers (codes "host"))
 
--- a request is judged by the host that it names, by its method, by the least size that its body can have, which is the announced one where there is one, and by its path
+-- a request is judged by the host that it names, by its method, by the size that is announced for its body, where one is, and by its path
 abbrev pub IsAnswered : Request (Incoming TcpStream) → Response (Full (List ℕ)) → Type 0
 IsAnswered asked response =
-    (hint : SizeHint) × (exact hint ≡ size_left (request.body_of asked).kind) × (told : TypedText)
-    × IsJudged (host_in (request.head_of asked)) (request.head_of asked).method (uri_path (request.head_of asked).uri) (lower hint) told
+    (told : TypedText)
+    × IsJudged (host_in (request.head_of asked)) (request.head_of asked).method (uri_path (request.head_of asked).uri)
+    (unwrap_or (size_left (request.body_of asked).kind) 0) told
     × Sends told response

@@ -1,9 +1,8 @@
 //! The service of a connection: each request gets a future of its response.
 
 ghost use Rattle.std.specs.Prelude.{◌≡◌, ℕ, Ok, None, IfOk};
-ghost use Rattle.sqs_server.specs.Head as head_spec;
 ghost use Rattle.sqs_server.specs.Responses as response;
-ghost use Rattle.sqs_server.specs.Responses.{Begins, Comes, IsFirstStage, IsGiven, Judged, Responds};
+ghost use Rattle.sqs_server.specs.Responses.{Begins, Comes, IsFirstStage, IsGiven, IsFirstOf, Responds};
 
 use crate::arriving::{Arriving, KeptRequest};
 use crate::bodies::{Bodies, Part};
@@ -115,19 +114,19 @@ fn has_origin(head: &Parts) -> bool
     }
 }
 
-/// The stage that a request begins with, by its head, by the least size that its body can have, and by the size that is
-/// announced, where one is.
+/// The stage that a request begins with, by its head and by the size that is announced, where one is: without one no
+/// body is too large yet.
 fn judged<R: Wait + Drop>(
     alloc: Global,
     bodies: &Arc<Bodies>,
     head: Parts,
     body: Incoming,
-    size: u64,
     announced: Option<u64>,
 ) -> Stage<R>
-    ensures { Judged head body announced (head_spec.denial_of (response.has_origin head) head.method size) result }
+    ensures { IsFirstOf head body announced result }
 {
-    match denial_of(has_origin(&head), head.method.as_str(), size) {
+    let least = announced.unwrap_or(0);
+    match denial_of(has_origin(&head), head.method.as_str(), least) {
         Some(denial) => Stage::Sending(denied(denial)),
         None => match Bodies::part(bodies, announced) {
             Some(part) => collecting(alloc, head, body, part),
@@ -146,7 +145,8 @@ fn first_stage<R: Wait + Drop>(
 {
     let (head, body) = request.into_parts();
     let hint = body.size_hint();
-    judged(alloc, bodies, head, body, hint.lower(), hint.exact())
+    let announced = hint.exact();
+    judged(alloc, bodies, head, body, announced)
 }
 
 impl<R: Wait + Clock + Drop> Future for Answering<R> {

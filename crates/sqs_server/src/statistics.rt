@@ -222,7 +222,8 @@ impl<R: Wait + Drop> StatisticsFront<R> {
         ensures { IsAnswered request result }
     {
         let (head, body) = request.into_parts();
-        let size = body.size_hint().lower();
+        let announced = body.size_hint().exact();
+        let size = announced.unwrap_or(0);
         let host = host_of(&head);
         let told = self.judged(host, head.method.as_str(), head.uri.path(), size);
         response_of(self.alloc, told)
