@@ -52,8 +52,17 @@ pub struct Answering<R: Wait + Drop> {
     way: Way<R>,
 }
 
-/// How a response comes to a request that begins with a stage. What is known by the head needs no memory; for the rest
-/// there may be none.
+/// What is sent where there is no memory to begin. What is known by the head needs none.
+fn without_memory<R: Wait + Drop>(stage: Stage<R>) -> Sent
+    ensures { result ≡ response.without_memory stage }
+{
+    match stage {
+        Stage::Sending(sent) => sent,
+        _ => refused(Fault::OutOfMemory),
+    }
+}
+
+/// How a response comes to a request that begins with a stage.
 fn way_of<R: Wait + Drop>(
     alloc: Global,
     front: Result<Front<R>, Fault>,
@@ -63,23 +72,20 @@ fn way_of<R: Wait + Drop>(
     requires { IfOk front (λ front. front.port ≡ port) }
     ensures { Begins port stage result }
 {
-    let stage = match stage {
-        Stage::Sending(sent) => return Way::Known(sent),
-        stage => stage,
-    };
     let Ok(front) = front else {
-        return Way::Known(refused(Fault::OutOfMemory));
+        return Way::Known(without_memory(stage));
     };
-    match Box::new(
-        alloc,
-        Progress {
-            front,
-            stage,
-            kept: None,
-        },
-    ) {
-        Ok(progress) => Way::Stages(progress),
-        Err(_refused) => Way::Known(refused(Fault::OutOfMemory)),
+    let progress = Progress {
+        front,
+        stage: Stage::Over,
+        kept: None,
+    };
+    match Box::new(alloc, progress) {
+        Ok(mut progress) => {
+            progress.stage = stage;
+            Way::Stages(progress)
+        }
+        Err(_refused) => Way::Known(without_memory(stage)),
     }
 }
 
