@@ -30,7 +30,7 @@ How it keeps from flattering:
   - nginx has a worker for each processor and reads a request at once, and its replies are the server's own, to the byte.
   - Runs take turns: nginx, the server, nginx, the server. A part of nginx's rate is that of a run and of the run of nginx just before it.
     The table has the middle of all runs, with the slowest and the fastest, and the middle of their p50 and p99.
-  - Sends that are refused by their heads ask no queue: their reply is a constant here too, so they show what HTTP alone takes.
+  - Sends that are refused by their heads ask no queue: their reply is a constant here too, and the log is off, so they show what HTTP alone takes.
   - Each run has a new queue, so that none profits from what another left.
   - Each reply has to have status 200, and the MD5 of what was sent or an empty list of failures. Behind each run the statistics of the queue
     have to tell as many messages sent, received and deleted as wrk has replies to, and neither a refusal nor an empty receive. Where heads are

@@ -123,7 +123,7 @@ class Server(Started):
         policy = [f'dead_letter_queue = "queue-{(it + 1) % queues}"\nmax_receive_count = 5\n' if has_letters else "" for it in range(queues)]
         tables = "".join(f'[[queue]]\nname = "queue-{it}"\n{policy[it]}' for it in range(queues))
         config = write(f"{room}/{name}.toml", f"[limits]\nmax_lines = 16777216\n{tables}")
-        way = {**os.environ, "JUTKARIQ_PORT": "0", "JUTKARIQ_STATISTICS_PORT": "0"}
+        way = {**os.environ, "JUTKARIQ_PORT": "0", "JUTKARIQ_STATISTICS_PORT": "0", "JUTKARIQ_LOG": "none"}
         self.clock = None
         if is_early:
             self.clock = write(f"{room}/{name}.clock", f"-{60 * AGE}")
