@@ -7,7 +7,7 @@ use Rattle.std.proofs.lemmas.List.Elements.{All-head, All-tail, filter-append}
 use Rattle.std.proofs.lemmas.Bool.Decides.{nat_tests}
 use Rattle.journal.specs.declared.entry.Entry.{Entry}
 use Rattle.journal.specs.declared.entry.Event.{Event}
-use Rattle.journal.specs.declared.entry.Event.TheVariants.{Opened, Sent, Arrived, Received, Changed, Deleted, DeletedAgain, Purged, Set, Settled, Orphaned, Refused, Closed, Base}
+use Rattle.journal.specs.declared.entry.Event.TheVariants.{Sent}
 use Rattle.metric_window.specs.declared.flows.Flows.{Flows}
 use Rattle.metric_window.specs.Flows.{no_flows, flows_of, added, total, capped, minute_of, entries_in, flows_total, minute_flows}
 use Rattle.journal.specs.Mark.{mark_event, mark_of}
@@ -104,20 +104,8 @@ module _ {C : Type 0} (size : C → ℕ) where
 
 module _ {C : Type 0} (size : C → ℕ) where
   flows_of-marks : (event : Event C) → flows_of (λ n. n) (mark_event size event) ≡ flows_of size event
-  flows_of-marks (Opened uid settings) = refl
   flows_of-marks (Sent delay content) = refl
-  flows_of-marks (Arrived origin content) = refl
-  flows_of-marks (Received timeout offered leaving target) = refl
-  flows_of-marks (Changed number timeout) = refl
-  flows_of-marks (Deleted number) = refl
-  flows_of-marks DeletedAgain = refl
-  flows_of-marks Purged = refl
-  flows_of-marks (Set settings) = refl
-  flows_of-marks (Settled number) = refl
-  flows_of-marks (Orphaned target) = refl
-  flows_of-marks (Refused fault) = refl
-  flows_of-marks Closed = refl
-  flows_of-marks (Base base) = refl
+  flows_of-marks event = refl
 
   flows_total-marks : (minute : ℕ) (es : List (Entry C)) → flows_total (λ n. n) (entries_in minute (map (mark_of size) es)) ≡ flows_total size (entries_in minute es)
   flows_total-marks minute [] = refl

@@ -75,22 +75,15 @@ takes_memory outcome = outcome.rebases || adds_entry outcome || hands_over outco
 abbrev pub has_room : QueueHistory → Bool
 has_room q = nat_le 1 q.spare
 
--- whether an entry needs no memory but for its own place: a clause for each event, and none left out
+-- whether an entry needs memory for no more than its own place: it does not begin the queue or a message, and is no receive and no checkpoint. The default is
+-- the strong side: the code must be proved to need none ([room] of `add`), so a wrong default is refused
 abbrev pub wants_place_alone : Event ContentText → Bool
 wants_place_alone (Opened uid settings) = false
 wants_place_alone (Sent delay content) = false
 wants_place_alone (Arrived origin content) = false
 wants_place_alone (Received timeout offered leaving target) = false
-wants_place_alone (Changed number timeout) = true
-wants_place_alone (Deleted number) = true
-wants_place_alone DeletedAgain = true
-wants_place_alone Purged = true
-wants_place_alone (Set settings) = true
-wants_place_alone (Settled number) = true
-wants_place_alone (Orphaned target) = true
-wants_place_alone (Refused fault) = true
-wants_place_alone Closed = true
 wants_place_alone (Base base) = false
+wants_place_alone event = true
 
 -- what adds no entry, hands over no parcel and makes no checkpoint needs no memory: its answer is the outcome's reply, never OutOfMemory
 abbrev pub IsExact : Outcome → Result Reply Fault → Type 0

@@ -82,8 +82,9 @@ impl<'a> Effect<'a> {
     }
 }
 
-/// What an event does. No event is left out, and no other function of these asks which one it was. What begins with a
-/// checkpoint stands in that alone.
+/// What an event does, and no other function of these asks which one it was. The last arm is for those without an effect:
+/// `change` holds it to the definition, which has a clause for each event. What begins with a checkpoint stands in that
+/// alone.
 pub(crate) fn effect_of(event: &Event<Content>) -> Effect<'_>
     ensures births { (effect_of event.now).since ≡ None → option_to_list result.birth ≡ (effect_of event.now).births }
     ensures accepted { (effect_of event.now).since ≡ None → accepted_with result.birth ≡ (effect_of event.now).accepted }
@@ -91,7 +92,6 @@ pub(crate) fn effect_of(event: &Event<Content>) -> Effect<'_>
     ensures change { effect_of event.now ≡ record (changed_by result.change result.birth) { settings = result.settings; opens = opens event.now } }
 {
     match event {
-        Event::DeletedAgain | Event::Refused { .. } => Effect::of(Change::Nothing),
         Event::Opened { settings, .. } => Effect {
             settings: Some(*settings),
             ..Effect::of(Change::Nothing)
@@ -137,5 +137,6 @@ pub(crate) fn effect_of(event: &Event<Content>) -> Effect<'_>
             settings: Some(base.settings()),
             ..Effect::of(Change::Base(base))
         },
+        _ => Effect::of(Change::Nothing),
     }
 }
