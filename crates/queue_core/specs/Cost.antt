@@ -8,8 +8,8 @@ use Rattle.queue_core.specs.declared.command.TimedCommand.{TimedCommand}
 use Rattle.queue_core.specs.declared.reply.Reply.{Reply}
 use Rattle.queue_core.specs.declared.facts.MessageState.{MessageState}
 use Rattle.queue_core.specs.Messages.{message_count, awaits_transfer, due_time, receive_count}
-use Rattle.queue_core.specs.States.{kept_count, is_live, state_of, same_state, message_numbered, is_numbered}
-use Rattle.queue_core.specs.Queue.{QueueHistory, after_answer}
+use Rattle.queue_core.specs.States.{kept_count, is_live, state_of, same_state, message_numbered}
+use Rattle.queue_core.specs.Queue.{QueueHistory, is_pending, after_answer}
 
 abbrev pub binary_digits : ℕ → ℕ
 binary_digits n = length (digits_of 2 n)
@@ -29,10 +29,6 @@ alike false b = not b
 -- the state of the message of a number, where it is live
 abbrev pub state_numbered : QueueHistory → ℕ → Option MessageState
 state_numbered q number = option_and_then (λ m. state_of q.lines q.clock m) (message_numbered q.lines number)
-
--- whether it waits for a dead-letter queue
-abbrev pub waits_numbered : QueueHistory → ℕ → Bool
-waits_numbered q number = is_numbered (λ m. awaits_transfer q.lines m) q.lines number
 
 -- when it is due, where it is live or waits
 abbrev pub due_numbered : QueueHistory → ℕ → Option ℕ
@@ -54,7 +50,7 @@ same_count a b = (a == b) && nat_lt a greatest
 -- dead-letter queue is a state too, and so is being gone
 abbrev pub is_touched : QueueHistory → QueueHistory → ℕ → Bool
 is_touched q r number = not (same_standing (state_numbered q number) (state_numbered r number)
-    && alike (waits_numbered q number) (waits_numbered r number)
+    && alike (is_pending q number) (is_pending r number)
     && same_due (due_numbered q number) (due_numbered r number)
     && same_count (receive_count q.lines number) (receive_count r.lines number))
 

@@ -27,14 +27,9 @@ state_of lines clock m = if is_live lines clock m then Some (waiting_state lines
 
 abbrev pub same_state : MessageState → MessageState → Bool
 same_state Visible Visible = true
-same_state Visible Delayed = false
-same_state Visible InFlight = false
-same_state Delayed Visible = false
 same_state Delayed Delayed = true
-same_state Delayed InFlight = false
-same_state InFlight Visible = false
-same_state InFlight Delayed = false
 same_state InFlight InFlight = true
+same_state _ _ = false
 
 abbrev pub is_in_state : {C : Type 0} → MessageState → List (Entry C) → ℕ → Message → Bool
 is_in_state state lines clock m = option_map_or (λ s. same_state state s) (state_of lines clock m) false

@@ -12,10 +12,10 @@ use Rattle.queue_core.specs.declared.facts.Status.{Status}
 use Rattle.queue_core.specs.declared.facts.Status.TheVariants.{Present, Removed, Waiting, Transferred}
 use Rattle.queue_core.specs.Messages.{messages, message_count, receive_count, course_of, is_expired, is_present_status, is_returned, due_time, is_waiting_status, awaits_status, awaits_transfer, waits_for}
 use Rattle.queue_core.specs.States.{is_live, waiting_state, state_of, message_numbered, is_numbered}
-use Rattle.queue_core.specs.Queue.{QueueHistory, waiting_count}
+use Rattle.queue_core.specs.Queue.{QueueHistory, is_pending, waiting_count}
 use Rattle.queue_core.specs.Summary.{KnownMessage, Summary, known_message, summary_of}
 use Rattle.queue_core.specs.Standing.{StandsFor}
-use Rattle.queue_core.specs.Cost.{same_standing, alike, state_numbered, waits_numbered, due_numbered, same_due, same_count, is_touched, touched_count}
+use Rattle.queue_core.specs.Cost.{same_standing, alike, state_numbered, due_numbered, same_due, same_count, is_touched, touched_count}
 use Rattle.queue_core.specs.private.Spending.{state_weight, queue_weight, queue_kept}
 use Rattle.queue_core.proofs.records.FactLemmas.{Line, numbered-number, IsSound}
 use Rattle.queue_core.proofs.entries.TallyLemmas.{received-count}
@@ -200,7 +200,7 @@ module _ (q w : QueueHistory) (same : StandsFor q w) where
   pub due_same : (n : ℕ) → due_numbered q n ≡ due_numbered w n
   due_same n = due_told q.lines q.clock n ∙ ap (λ (x : Summary). option_map_or (λ k. Some k.due) (x.known n) None) same.summary ∙ sym (due_told w.lines w.clock n)
 
-  pub awaits_same : (n : ℕ) → waits_numbered q n ≡ waits_numbered w n
+  pub awaits_same : (n : ℕ) → is_pending q n ≡ is_pending w n
   awaits_same n = awaits_told q.lines q.clock n ∙ ap (λ (x : Summary). option_map_or awaits_known (x.known n) false) same.summary ∙ sym (awaits_told w.lines w.clock n)
 
   pub weight_same : queue_weight q ≡ queue_weight w
@@ -233,7 +233,7 @@ module _ (q w : QueueHistory) (same : StandsFor q w) where
       (λ n below.
       let counted = counted_same n (omega (arith, below)) in
       λ i.
-      not (same_standing (state_same n i) (state_numbered r n) && alike (awaits_same n i) (waits_numbered r n) && same_due (due_same n i) (due_numbered r n)
+      not (same_standing (state_same n i) (state_numbered r n) && alike (awaits_same n i) (is_pending r n) && same_due (due_same n i) (due_numbered r n)
       && same_count (counted i) (receive_count r.lines n)))
       ∙ ap (λ (count : ℕ). count_by (λ n. is_touched w r n) (range_with_len 0 count)) numbers_same
 
@@ -243,6 +243,6 @@ module _ (q w : QueueHistory) (same : StandsFor q w) where
     touched_alike p =
         λ i.
         count_by
-        (λ n. not (same_standing (state_numbered p n) (state_same n i) && alike (waits_numbered p n) (awaits_same n i) && same_due (due_numbered p n) (due_same n i)
+        (λ n. not (same_standing (state_numbered p n) (state_same n i) && alike (is_pending p n) (awaits_same n i) && same_due (due_numbered p n) (due_same n i)
         && same_count (receive_count p.lines n) (received_same q w sound other same n i)))
         (range_with_len 0 (message_count p.lines))

@@ -22,12 +22,12 @@ use Rattle.queue_core.specs.declared.facts.Status.TheVariants.{Present, Removed,
 use Rattle.queue_core.specs.declared.facts.MessageState.TheVariants.{InFlight}
 use Rattle.queue_core.specs.declared.command.Command.{Command}
 use Rattle.queue_core.specs.declared.reply.Reply.{Reply}
-use Rattle.queue_core.specs.Messages.{Since, effect_of, messages, settings_of, is_expired, receive_count, first_receive_time, last_receive_time, course_after, course_from, course_of, is_closed, opens, created_time, pending_transfers, has_accepted}
+use Rattle.queue_core.specs.Messages.{Since, effect_of, messages, settings_of, is_expired, receive_count, first_receive_time, last_receive_time, course_after, course_from, is_closed, opens, created_time, pending_transfers, has_accepted}
 use Rattle.queue_core.specs.States.{is_live, is_in_state, is_numbered}
 use Rattle.queue_core.specs.Queue.{QueueHistory, rebased_where, rebases, reached, outcome_of, outcome_at, with_event, with_optional_event, after_outcome, after_answer, is_valid_handle}
 use Rattle.queue_core.specs.Lasting.{StandsAs, left_by_refusal, refusal_event}
 use Rattle.queue_core.specs.private.Recorded.{ran_out_before, runs_out_by}
-use Rattle.queue_core.proofs.PushLemmas.{count-upto, capped-same, first-alone, first-push, last-push, or_false, settings_from-push, closed-push, accepted-push, course-push, ran_out-push, expired-split, receives-push, messages-push, numbered-place}
+use Rattle.queue_core.proofs.PushLemmas.{count-upto, capped-same, first-alone, first-push, last-push, or_false, settings_from-push, closed-push, accepted-push, ran_out-push, expired-split, receives-push, messages-push, numbered-place}
 use Rattle.queue_core.proofs.PendingLemmas.{filter_all, pending_transfers-push}
 use Rattle.queue_core.proofs.entries.TallyLemmas.{modified_from-push}
 use Rattle.queue_core.proofs.minutes.CountedLemmas.{recorded_in}
@@ -78,11 +78,6 @@ module _ (at : ℕ) (fault : Fault) where
     abbrev more : List (Entry ContentText)
     more = lines ++ refused ∷ []
 
-    course_of-refused : (m : Message) → m.place < length lines → course_of more m ≡ course_of lines m
-    course_of-refused m h =
-        let c = course_of lines m in
-        course-push lines refused m h ∙ course_after-refused m.number c.status c.due c.returned
-
     expired-refused : (clock : ℕ) (m : Message) → m.place < length lines → is_expired more clock m ≡ is_expired lines clock m
     expired-refused clock m h =
         let count = length-append lines (refused ∷ []) in
@@ -92,7 +87,7 @@ module _ (at : ℕ) (fault : Fault) where
         ∙ sym (expired-split lines clock m h)
 
     alike-refused : (clock : ℕ) (m : Message) → m.place < length lines → IsAlike more lines clock m
-    alike-refused clock m h = record { course = course_of-refused m h; expired = expired-refused clock m h; receives = receive_count-refused m.number lines }
+    alike-refused clock m h = record { course = course_from-refused m.number m.begun m.place lines; expired = expired-refused clock m h; receives = receive_count-refused m.number lines }
 
 -- each message's place is that of an entry
 pub all-placed : (lines : List (Entry ContentText)) → All (λ m. m.place < length lines) (messages lines)

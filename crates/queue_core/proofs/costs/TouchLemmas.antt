@@ -19,10 +19,10 @@ use Rattle.queue_core.specs.declared.facts.Status.{Status}
 use Rattle.queue_core.specs.declared.facts.Status.TheVariants.{Present, Removed, Waiting, Transferred}
 use Rattle.queue_core.specs.Messages.{messages, message_count, contains_number, receive_count, course_of, status_after, is_present_status, is_expired, awaits_status, awaits_transfer, is_waiting_status, waits_for}
 use Rattle.queue_core.specs.States.{waiting_state, state_of, is_in_state, is_numbered, message_numbered}
-use Rattle.queue_core.specs.Queue.{QueueHistory, at_moment, waiting_count, with_event}
+use Rattle.queue_core.specs.Queue.{QueueHistory, at_moment, is_pending, waiting_count, with_event}
 use Rattle.queue_core.specs.private.Slots.{one_if}
 use Rattle.queue_core.specs.Standing.{StandsFor}
-use Rattle.queue_core.specs.Cost.{same_standing, alike, state_numbered, waits_numbered, due_numbered, same_due, same_count, is_touched, touched_count}
+use Rattle.queue_core.specs.Cost.{same_standing, alike, state_numbered, due_numbered, same_due, same_count, is_touched, touched_count}
 use Rattle.queue_core.specs.private.Spending.{event_adds, state_weight, queue_weight}
 use Rattle.queue_core.proofs.indexed.SlotCountLemmas.{count_members}
 use Rattle.queue_core.proofs.records.FactLemmas.{Line, IsAbout, course-push, receives-push, numbered-place, numbered-below}
@@ -87,7 +87,7 @@ weight-by s t false h = omega (arith, weight-upto s)
 weight-touched : (p r : QueueHistory) (n : ℕ) → state_weight (state_numbered p n) ≤ state_weight (state_numbered r n) + 12 * one_if (is_touched p r n)
 weight-touched p r n =
     let standing = same_standing (state_numbered p n) (state_numbered r n) in
-    let waiting = alike (waits_numbered p n) (waits_numbered r n) in
+    let waiting = alike (is_pending p n) (is_pending r n) in
     let due = same_due (due_numbered p n) (due_numbered r n) in
     let received = same_count (receive_count p.lines n) (receive_count r.lines n) in
     weight-by (state_numbered p n) (state_numbered r n) (standing && waiting && due && received)
@@ -203,7 +203,7 @@ module _ (p q : QueueHistory) (at : ℕ) (same : StandsFor q (at_moment p at)) w
 
     touched-offered : (n : ℕ) → contains_number n offered ≡ true → is_touched p received n ≡ true
     touched-offered n h =
-        touched_by-received (same_standing (state_numbered p n) (state_numbered received n)) (alike (waits_numbered p n) (waits_numbered received n))
+        touched_by-received (same_standing (state_numbered p n) (state_numbered received n)) (alike (is_pending p n) (is_pending received n))
         (same_due (due_numbered p n) (due_numbered received n)) (same_count (receive_count p.lines n) (receive_count received.lines n))
         (count-rises (receive_count p.lines n) (receive_count received.lines n) (contains_number n offered)
         (receives-push q.lines (line_of q.clock (Received timeout offered leaving target)) n refl
@@ -239,13 +239,13 @@ module _ (p q : QueueHistory) (at : ℕ) (same : StandsFor q (at_moment p at)) w
     abbrev waits : ℕ → Bool
     waits n = is_numbered (λ m. waits_for q.lines target m) q.lines n
 
-    waited : (n : ℕ) → waits n ≡ true → waits_numbered p n ≡ true
+    waited : (n : ℕ) → waits n ≡ true → is_pending p n ≡ true
     waited n h = sym (awaits_same q (at_moment p at) same n) ∙ found-awaits q.lines target (message_numbered q.lines n) h
 
-    returned : (n : ℕ) → waits n ≡ true → waits_numbered orphaned n ≡ false
+    returned : (n : ℕ) → waits n ≡ true → is_pending orphaned n ≡ false
     returned n h = by_message (message_numbered q.lines n) refl h
       where
-        by_message : (found : Option Message) → message_numbered q.lines n ≡ found → option_map_or (λ m. waits_for q.lines target m) found false ≡ true → waits_numbered orphaned n ≡ false
+        by_message : (found : Option Message) → message_numbered q.lines n ≡ found → option_map_or (λ m. waits_for q.lines target m) found false ≡ true → is_pending orphaned n ≡ false
         by_message None is h = absurd (false≢true h)
         by_message (Some m) is h =
             let e : Line = line_of q.clock (Orphaned target) in
@@ -259,9 +259,9 @@ module _ (p q : QueueHistory) (at : ℕ) (same : StandsFor q (at_moment p at)) w
     waiting-weight n true h =
         let touched : one_if (is_touched p orphaned n) ≡ 1 =
         ap one_if
-        (touched_by-waiting (same_standing (state_numbered p n) (state_numbered orphaned n)) (alike (waits_numbered p n) (waits_numbered orphaned n))
+        (touched_by-waiting (same_standing (state_numbered p n) (state_numbered orphaned n)) (alike (is_pending p n) (is_pending orphaned n))
         (same_due (due_numbered p n) (due_numbered orphaned n)) (same_count (receive_count p.lines n) (receive_count orphaned.lines n))
-        (alike-differs (waits_numbered p n) (waits_numbered orphaned n) (waited n h) (returned n h))) in
+        (alike-differs (is_pending p n) (is_pending orphaned n) (waited n h) (returned n h))) in
         let none : state_weight (state_numbered p n) ≡ 0 = weight-waiting p (message_numbered p.lines n) (waited n h) in
         omega arith
     waiting-weight n false h = omega (arith, weight-touched p orphaned n)
