@@ -1,11 +1,13 @@
 //! What a program is started with.
 
-ghost use Rattle.std.specs.Prelude.{◌≡◌, []};
+ghost use Rattle.std.specs.Prelude.{◌≡◌, [], IfOk, IfErr};
+ghost use Rattle.message.specs.declared.fault.Fault.TheVariants.{OutOfMemory};
+ghost use Rattle.queue_config.specs.Config.{rules_of};
 
 use crate::alarm_rule::AlarmRule;
 use crate::limits::Limits;
 use crate::settings::Settings;
-use message::QueueName;
+use message::{Fault, QueueName};
 use std::alloc::Global;
 use std::marker::Model;
 
@@ -62,4 +64,23 @@ impl Config {
             alarms: Vec::new(alloc),
         }
     }
+}
+
+/// The rules of the alarms of the configured queue of a uid, in the order of the configuration.
+/// `OutOfMemory` is the only refusal.
+pub fn rules_of(
+    alloc: Global,
+    alarms: &[ConfiguredAlarm],
+    uid: u64,
+) -> Result<Vec<AlarmRule>, Fault>
+    ensures ok { IfOk result (λ rules. rules.items ≡ rules_of alarms.now uid) }
+    ensures errors { IfErr result (λ fault. fault ≡ OutOfMemory) }
+{
+    let mut rules = Vec::new(alloc);
+    for alarm in alarms {
+        if alarm.queue == uid {
+            rules.push(alarm.rule)?;
+        }
+    }
+    Ok(rules)
 }

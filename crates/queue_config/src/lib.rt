@@ -14,8 +14,8 @@
 //! - [`Limits`]: how many entries a journal has and how many messages may be in flight.
 //! - [`AlarmRule`]: when an alarm of a queue is on, by a [`Metric`] and an [`Operator`], each of which
 //!   has one table of names.
-//! - [`Config`]: what a program is started with, the alarms of its queues among it, and [`config_from_text`] and [`config_from_bytes`]:
-//!   its reading from TOML, or the first [`ConfigFault`].
+//! - [`Config`]: what a program is started with, the alarms of its queues among it, those of one queue by [`rules_of`];
+//!   [`config_from_text`] and [`config_from_bytes`]: its reading from TOML, or the first [`ConfigFault`].
 //! - [`decimal_number`]: the number that a text of decimal digits is.
 //! - The function of [`laws`] is empty: its contract is a law about the definitions in `specs/`.
 //!
@@ -42,7 +42,7 @@ mod tests;
 mod wish;
 
 pub use alarm_rule::{ALARM_LIMIT, AlarmRule};
-pub use config::{Config, ConfiguredAlarm, ConfiguredQueue, QUEUE_LIMIT};
+pub use config::{Config, ConfiguredAlarm, ConfiguredQueue, QUEUE_LIMIT, rules_of};
 pub use config_fault::ConfigFault;
 pub use config_text::{config_from_bytes, config_from_text};
 pub use decimal::decimal_number;

@@ -354,6 +354,15 @@ fn refused_memory(rt: HostRuntime) -> Result<(), Fail> {
     let read = config_from_text(alloc, CONFIGURATION);
     let config = read.or_else(|_| config_from_text(alloc, CONFIGURATION))?;
     let (limits, bytes) = (config.limits, CONFIGURATION.as_bytes());
+    let alarms = config.alarms.as_slice();
+    let rules = rules_of(alloc, alarms, 2);
+    let rules = rules.or_else(|_| rules_of(alloc, alarms, 2))?;
+    assert_eq!(rt; rules.as_slice().len(), 1);
+    assert!(rt;
+        rules.as_slice().iter().all(|rule| rule.threshold == 4),
+        "the rule of b"
+    );
+    assert_eq!(rt; rules_of(alloc, alarms, 1)?.as_slice().len(), 0);
     tell(&mut told, Ok(config))?;
     assert_eq!(rt; told.as_str(), READ);
     let read = config_from_bytes(alloc, bytes);

@@ -31,30 +31,6 @@ module _ {X K : Type 0} (e : K → K → Bool) (key : X → K) where
   find-apart [] k h = refl
   find-apart (x ∷ xs) k h = rw (h.0) (find-apart xs k h.1)
 
--- ---- the rules of one queue
-
-rules_of-more : (alarms : List ConfiguredAlarm) (uid i : ℕ) (alarm : ConfiguredAlarm) → i < length alarms → alarm ≡ get_or alarms i alarm
-    → rules_of (take (i + 1) alarms) uid ≡ map (λ a. a.rule) (filter (λ a. nat_eq a.queue uid) (take i alarms) ++ cond (nat_eq alarm.queue uid) (alarm ∷ []) [])
-rules_of-more alarms uid i alarm inside here =
-    ap (map (λ (a : ConfiguredAlarm). a.rule)) (filter_more (λ (a : ConfiguredAlarm). nat_eq a.queue uid) alarms i alarm inside
-    ∙ ap (λ (a : ConfiguredAlarm). filter (λ a. nat_eq a.queue uid) (take i alarms) ++ cond (nat_eq a.queue uid) (a ∷ []) []) (sym here))
-
-pub rules_of-own : (alarms : List ConfiguredAlarm) (uid i : ℕ) (alarm : ConfiguredAlarm) → i < length alarms → alarm ≡ get_or alarms i alarm → alarm.queue ≡ uid
-    → rules_of (take (i + 1) alarms) uid ≡ rules_of (take i alarms) uid ++ alarm.rule ∷ []
-rules_of-own alarms uid i alarm inside here own =
-    let yes_own : nat_eq alarm.queue uid ≡ true = grind (arith, nat_tests) in
-    rules_of-more alarms uid i alarm inside here
-    ∙ ap (λ (b : Bool). map (λ a. a.rule) (filter (λ a. nat_eq a.queue uid) (take i alarms) ++ cond b (alarm ∷ []) [])) yes_own
-    ∙ map-append (λ (a : ConfiguredAlarm). a.rule) (filter (λ a. nat_eq a.queue uid) (take i alarms)) (alarm ∷ [])
-
-pub rules_of-other : (alarms : List ConfiguredAlarm) (uid i : ℕ) (alarm : ConfiguredAlarm) → i < length alarms → alarm ≡ get_or alarms i alarm → alarm.queue ≢ uid
-    → rules_of (take (i + 1) alarms) uid ≡ rules_of (take i alarms) uid
-rules_of-other alarms uid i alarm inside here other =
-    let no_own : nat_eq alarm.queue uid ≡ false = grind (arith, nat_tests) in
-    rules_of-more alarms uid i alarm inside here
-    ∙ ap (λ (b : Bool). map (λ a. a.rule) (filter (λ a. nat_eq a.queue uid) (take i alarms) ++ cond b (alarm ∷ []) [])) no_own
-    ∙ ap (map (λ (a : ConfiguredAlarm). a.rule)) (append-nil (filter (λ a. nat_eq a.queue uid) (take i alarms)))
-
 -- ---- the world of some queues
 
 module _ (at : ℕ) (alarms : List ConfiguredAlarm) where

@@ -4,7 +4,7 @@ ghost use Rattle.std.specs.Prelude.{◌≡◌, ◌≢◌, ℕ, ◌+◌, ◌<◌,
 ghost use Rattle.std.specs.List.{position};
 ghost use Rattle.std.specs.Option.{option_copied, option_map};
 ghost use Rattle.message.specs.Fault.{Meets};
-ghost use Rattle.queue_config.specs.Config.{names_of, configured_uid, rules_of};
+ghost use Rattle.queue_config.specs.Config.{names_of, configured_uid};
 ghost use Rattle.queue_core.specs.Queue.{QueueHistory, at_moment, outcome_at, IsExactWithRoom};
 ghost use Rattle.redrive.specs.Listed.{items_of};
 ghost use Rattle.redrive.specs.WorldRun.{metrics_of};
@@ -16,7 +16,7 @@ use crate::queues::Queues;
 use crate::steps::QueueMetrics;
 use journal::{Moment, Ticks};
 use message::{Fault, QueueName};
-use queue_config::{AlarmRule, Config, ConfiguredAlarm, Limits, Settings, Wish};
+use queue_config::{AlarmRule, Config, Limits, Settings, Wish, rules_of};
 use queue_core::{Command, QueueState, Reply};
 use std::alloc::Global;
 use std::marker::Model;
@@ -89,20 +89,6 @@ fn has_target(queue: &QueueState, uid: u64) -> bool
         Some(policy) => policy.target == uid,
         None => false,
     }
-}
-
-/// The rules of the alarms of the configured queue of a uid, in the order of the configuration.
-fn rules_of(alloc: Global, alarms: &[ConfiguredAlarm], uid: u64) -> Result<Vec<AlarmRule>, Fault>
-    ensures ok { IfOk result (λ rules. rules.items ≡ rules_of alarms.now uid) }
-    ensures errors { IfErr result (λ fault. fault ≡ Fault.OutOfMemory) }
-{
-    let mut rules = Vec::new(alloc);
-    for alarm in alarms {
-        if alarm.queue == uid {
-            rules.push(alarm.rule)?;
-        }
-    }
-    Ok(rules)
 }
 
 /// What is told of a queue: its counts, its current minute, the row of a minute and the state of an

@@ -7,7 +7,6 @@ ghost use Rattle.board.specs.Printed.{place_of};
 ghost use Rattle.board.specs.Queue.{sheet_of};
 ghost use Rattle.desk.specs.Views.{first_knowledge};
 ghost use Rattle.message.specs.declared.fault.Fault.TheVariants.{OutOfMemory};
-ghost use Rattle.queue_config.specs.Config.{rules_of};
 ghost use Rattle.queue_core.specs.Kept.{opened_queue};
 
 use crate::clock::Day;
@@ -20,7 +19,7 @@ use message::{Fault, QueueName};
 use queue_actor::{
     Actor, Beat, Directory, Duties, Envelope, Served, Shown, TICK_MILLISECONDS, deadline_loop,
 };
-use queue_config::{AlarmRule, Config, ConfiguredAlarm, Limits, Settings};
+use queue_config::{AlarmRule, Config, Limits, Settings, rules_of};
 use queue_core::QueueState;
 use std::alloc::Global;
 use std::snapshot::Snapshot;
@@ -307,21 +306,6 @@ fn make_queue<R: Wait + Threads + Clock + Copy + Send + Drop + 'static>(
         queues.remove(rt, uid);
     }
     started
-}
-
-/// The rules of the alarms of the configured queue of a uid, in the order of the configuration. `OutOfMemory` is the only
-/// refusal.
-fn rules_of(alloc: Global, alarms: &[ConfiguredAlarm], uid: u64) -> Result<Vec<AlarmRule>, Fault>
-    ensures ok { IfOk result (λ rules. rules.items ≡ rules_of alarms.now uid) }
-    ensures errors { IfErr result (λ fault. fault ≡ OutOfMemory) }
-{
-    let mut rules = Vec::new(alloc);
-    for alarm in alarms {
-        if alarm.queue == uid {
-            rules.push(alarm.rule)?;
-        }
-    }
-    Ok(rules)
 }
 
 /// Makes the configured queues at a moment, in their order.

@@ -1,6 +1,0 @@
-use Rattle.std.proofs.Common.{◌≡◌, take}
-use Rattle.queue_config.specs.Config.{rules_of}
-use Rattle.redrive.proofs.house.rules_of.Given as goal
-
-abbrev pub invariant-loop-alarm : goal.invariant-loop-alarm
-invariant-loop-alarm l = l.rules.items ≡ rules_of (take l.alarm-index l.alarms) l.uid
