@@ -7,14 +7,14 @@ use Rattle.journal.specs.Weight.{weight_of}
 use Rattle.queue_core.specs.Metrics.{current_flows, window_rows, alarm_state_in}
 use Rattle.queue_core.specs.Queue.{QueueHistory}
 use Rattle.queue_core.specs.States.{gauges_of}
-use Rattle.board.specs.Sheet.{Statistics}
+use Rattle.board.specs.Sheet.{Sheet}
 
 -- the alarms of a queue, each by its name with its state, in the order of their rules
 abbrev pub alarms_of : QueueHistory → List (List ℕ × AlarmState)
 alarms_of q = map (λ rule. (rule.name, alarm_state_in content_size q.lines q.clock rule)) q.rules
 
 -- the statistics of a queue at its clock
-abbrev pub sheet_of : QueueHistory → Statistics
+abbrev pub sheet_of : QueueHistory → Sheet
 sheet_of q = record {
   name = q.name;
   lines = weight_of q.lines;

@@ -5,7 +5,7 @@ use Rattle.metric_window.specs.declared.flows.Flows.{Flows}
 use Rattle.metric_window.specs.declared.gauges.Gauges.{Gauges}
 use Rattle.metric_window.specs.declared.row.Row.{Row}
 
-pub record Statistics : Type 0 where
+pub record Sheet : Type 0 where
   pub name : List ℕ  -- the queue's
   pub lines : ℕ  -- how much its journal weighs: 1 for each entry, and for a checkpoint 1 more for each message that it keeps
   pub clock : ℕ  -- the time in milliseconds that all this speaks of

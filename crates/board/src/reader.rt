@@ -29,9 +29,9 @@ impl Model for Reader {
     ghost use Rattle.std.specs.Prelude.{◌≡◌};
     ghost use Rattle.std.specs.Option.{ForSome};
     ghost use Rattle.board.specs.Printed.{place_of};
-    ghost use Rattle.board.specs.Shown.{Acquaintance};
+    ghost use Rattle.board.specs.Shown.{Reader};
 
-    ghost Value = { Acquaintance };
+    ghost Value = { Reader };
 
     ghost view = { λ r. record { given = r.given; book = r.told.book; turns = r.told.turns } };
 

@@ -32,9 +32,9 @@ pub struct Sheet {
 }
 
 impl Model for Sheet {
-    ghost use Rattle.board.specs.Sheet.{Statistics};
+    ghost use Rattle.board.specs.Sheet.{Sheet};
 
-    ghost Value = { Statistics };
+    ghost Value = { Sheet };
 
     ghost view = { λ s. record { name = s.name; lines = s.lines; clock = s.clock; gauges = s.gauges; current = s.current; rows = s.rows.items; alarms = s.alarms.items } };
 }

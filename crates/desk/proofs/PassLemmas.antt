@@ -11,18 +11,18 @@ use Rattle.desk.specs.declared.view.PassStage.TheVariants.{Drawn}
 use Rattle.desk.specs.History.{IsAnswered, after_call, state_of, IsLegalHistory, calls_by, call}
 use Rattle.desk.specs.Held.{Lying}
 use Rattle.desk.specs.private.Held.{IsBehind}
-use Rattle.desk.specs.Views.{IsKnown, knowledge_of, IsLastState}
+use Rattle.desk.specs.Views.{IsKnown, pass_of, IsLastState}
 use Rattle.desk.specs.private.Steps.{at_stage, counting, HasSeen, HasPerformed, call_of, behind_call, with_call}
 use Rattle.desk.proofs.HistoryLemmas.{state_snoc, legal_snoc, own_call}
 
 -- the queue that a pass takes in its last turn
-pub last_state : (desk : TableId) (v u w : View) (ticket : ℕ) (queue : QueueHistory) → u ≡ at_stage (counting v ticket) (Drawn ticket) → HasSeen u w → queue ≡ state_of w.start w.seen → IsLastState (knowledge_of desk v) queue
+pub last_state : (desk : TableId) (v u w : View) (ticket : ℕ) (queue : QueueHistory) → u ≡ at_stage (counting v ticket) (Drawn ticket) → HasSeen u w → queue ≡ state_of w.start w.seen → IsLastState (pass_of desk v) queue
 last_state desk v u w ticket queue drawn seen left =
     let s = subst (λ (z : View). HasSeen z w) drawn seen in
     record { history = w.seen; legal = s.legal; goes_on = s.seen; own = s.own; state = left ∙ ap (λ (q : QueueHistory). state_of q w.seen) s.start }
 
 -- a pass that has seen the history knows it
-pub known_seen : (desk : TableId) (before v : View) → HasSeen before v → IsKnown (knowledge_of desk v)
+pub known_seen : (desk : TableId) (before v : View) → HasSeen before v → IsKnown (pass_of desk v)
 known_seen desk before v s = record { legal = subst (λ (q : QueueHistory). IsLegalHistory q v.seen) (sym s.start) s.legal; own = ap (λ (n : ℕ). calls_by n v.seen) s.number ∙ s.own ∙ sym s.mine }
 
 -- the call that was kept is the one that was made
@@ -35,8 +35,8 @@ pub called : (v : View) (at : ℕ) (command : Command) (reply : Result Reply Fau
 called v at command reply x queue b = ap (with_call v) b.last ∙ ap (behind_call v) (kept v.number at command reply x queue b)
 
 -- it knows the history behind its call too
-pub known_behind : (desk : TableId) (v : View) (at : ℕ) (command : Command) (reply : Result Reply Fault) (queue : QueueHistory) → IsKnown (knowledge_of desk v) → queue ≡ state_of v.start v.seen
-    → IsAnswered queue at command reply → IsKnown (knowledge_of desk (behind_call v (call v.number at command reply)))
+pub known_behind : (desk : TableId) (v : View) (at : ℕ) (command : Command) (reply : Result Reply Fault) (queue : QueueHistory) → IsKnown (pass_of desk v) → queue ≡ state_of v.start v.seen
+    → IsAnswered queue at command reply → IsKnown (pass_of desk (behind_call v (call v.number at command reply)))
 known_behind desk v at command reply queue known is answered =
     let c : Call = call v.number at command reply in
     record { legal = legal_snoc v.start v.seen c known.legal (subst (λ (q : QueueHistory). IsAnswered q at command reply) is answered); own = own_call v.number v.seen v.mine c refl known.own }

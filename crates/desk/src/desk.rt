@@ -47,7 +47,7 @@ impl<P: Press> Model for Desk<P> {
 
 impl<P: Press> Desk<P> {
     ghost use Rattle.desk.specs.declared.view.PassStage.TheVariants.{Idle, Drawn, Turn};
-    ghost use Rattle.desk.specs.Views.{most_tickets, first_knowledge, knowledge_of, HasCalled, IsKnown, IsSpent, IsBusy, SeesMore, IsNewPass, IsLastState};
+    ghost use Rattle.desk.specs.Views.{most_tickets, first_pass, pass_of, HasCalled, IsKnown, IsSpent, IsBusy, SeesMore, IsNewPass, IsLastState};
     ghost use Rattle.desk.specs.History.{state_of, calls_by, call, GoesOnFrom};
     ghost use Rattle.desk.specs.Printed.{IsToldOf};
     ghost use Rattle.desk.specs.private.Steps.{at_stage, counting, HasSeen, HasTurn, HasPerformed, behind_call, with_call};
@@ -61,7 +61,7 @@ impl<P: Press> Desk<P> {
         press: P,
     ) -> Result<(Desk<P>, Pass<P>), Fault>
         requires { P.stands press [] }
-        ensures ok { IfOk result (λ r. r.1 ≡ first_knowledge r.0 state (P.place press)) }
+        ensures ok { IfOk result (λ r. r.1 ≡ first_pass r.0 state (P.place press)) }
         ensures errors { IfErr result (λ fault. fault ≡ OutOfMemory) }
     {
         let Ok(held) = Held::new(alloc, state, press, Ticks::new(rt)) else {
@@ -198,10 +198,10 @@ impl<P: Press> Desk<P> {
     ) -> CallAnswer<P::Told>
         requires desk { seat.old.table_id ≡ self.now }
         requires turn { HasTurn seat.old.me ticket }
-        requires known { IsKnown (knowledge_of seat.old.table_id seat.old.me.0) }
+        requires known { IsKnown (pass_of seat.old.table_id seat.old.me.0) }
         ensures desk { seat.new.table_id ≡ seat.old.table_id }
         ensures called { seat.new.me ≡ (behind_call seat.old.me.0 (call seat.old.me.0.number at command.now result.reply), []) }
-        ensures known { IsKnown (knowledge_of seat.new.table_id seat.new.me.0) }
+        ensures known { IsKnown (pass_of seat.new.table_id seat.new.me.0) }
         ensures told { IfSome result.told (λ told. IsToldOf (P.tells seat.new.me.0.place) (state_of seat.new.me.0.start seat.new.me.0.seen) told) }
     {
         let mut held = self.take(seat);

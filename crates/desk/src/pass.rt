@@ -16,13 +16,13 @@ pub struct Pass<P: Press> {
 impl<P: Press> Model for Pass<P> {
     ghost use Rattle.std.specs.Prelude.{◌≡◌, []};
     ghost use Rattle.desk.specs.declared.view.PassStage.TheVariants.{Idle};
-    ghost use Rattle.desk.specs.Views.{Knowledge, IsKnown, knowledge_of};
+    ghost use Rattle.desk.specs.Views.{Pass, IsKnown, pass_of};
 
-    ghost Value = { Knowledge };
+    ghost Value = { Pass };
 
-    ghost view = { λ p. knowledge_of p.seat.table_id p.seat.me.0 };
+    ghost view = { λ p. pass_of p.seat.table_id p.seat.me.0 };
 
-    ghost invariant = { λ p. (p.seat.me.1 ≡ []) × (p.seat.me.0.stage ≡ Idle) × IsKnown (knowledge_of p.seat.table_id p.seat.me.0) };
+    ghost invariant = { λ p. (p.seat.me.1 ≡ []) × (p.seat.me.0.stage ≡ Idle) × IsKnown (pass_of p.seat.table_id p.seat.me.0) };
 }
 
 /// What a pass had seen when the note was made, for another pass of the same desk. It takes no bytes.

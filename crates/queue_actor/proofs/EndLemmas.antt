@@ -4,7 +4,7 @@ use Rattle.std.specs.Prelude.{nat_lt}
 use Rattle.std.specs.List.{All}
 use Rattle.std.proofs.lemmas.Bool.{ltb-false, ltb-true}
 use Rattle.std.proofs.lemmas.List.Elements.{All-cons, All-head, All-nil, All-push, All-same, All-tail, All-weaker}
-use Rattle.desk.specs.Views.{Knowledge}
+use Rattle.desk.specs.Views.{Pass}
 use Rattle.queue_actor.specs.declared.mail.Ask.{Ask}
 use Rattle.queue_actor.specs.declared.mail.Mail.{Mail}
 use Rattle.queue_actor.specs.declared.mail.Mail.TheVariants as mails
@@ -60,7 +60,7 @@ module _ {P S Told : Type 0} where
   kept_all Q false r others first h = h
 
   -- what holds of all polls holds of those that go on waiting behind a look
-  pub looked_all : (Q : Ask P S Told → Type 0) (limit at : ℕ) (quiet : Bool) (before after : Knowledge) (parked left : List (Ask P S Told)) (happened : List (MailboxEvent (Mail P S Told) S Answered))
+  pub looked_all : (Q : Ask P S Told → Type 0) (limit at : ℕ) (quiet : Bool) (before after : Pass) (parked left : List (Ask P S Told)) (happened : List (MailboxEvent (Mail P S Told) S Answered))
       → LooksOver limit at quiet before parked happened after left → All Q parked → All Q left
   looked_all Q limit at quiet before after [] left happened looks h = All-same Q left [] looks.2 h
   looked_all Q limit at quiet before after (r ∷ rs) left happened looks h =
@@ -68,7 +68,7 @@ module _ {P S Told : Type 0} where
       (kept_all Q looks.0 r looks.4 (All-head Q r rs h) (looked_all Q limit at looks.0 looks.3 after rs looks.4 looks.2 looks.8 (All-tail Q r rs h)))
 
   -- so those that go on waiting behind a look end no sooner
-  pub looked_ends : (soonest limit at : ℕ) (quiet : Bool) (before after : Knowledge) (parked left : List (Ask P S Told)) (happened : List (MailboxEvent (Mail P S Told) S Answered))
+  pub looked_ends : (soonest limit at : ℕ) (quiet : Bool) (before after : Pass) (parked left : List (Ask P S Told)) (happened : List (MailboxEvent (Mail P S Told) S Answered))
       → LooksOver limit at quiet before parked happened after left → EndFrom soonest parked → EndFrom soonest left
   looked_ends soonest limit at quiet before after parked left happened looks h = looked_all (λ r. soonest ≤ r.wait_until) limit at quiet before after parked left happened looks h
 

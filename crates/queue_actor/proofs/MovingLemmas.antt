@@ -8,7 +8,7 @@ use Rattle.queue_core.specs.declared.parcel.Parcel.{Parcel}
 use Rattle.queue_core.specs.declared.reply.Reply.{Reply}
 use Rattle.desk.specs.declared.view.Call.{Call}
 use Rattle.desk.specs.History.{call}
-use Rattle.desk.specs.Views.{Knowledge, HasCalled, IsSpent, IsKnown}
+use Rattle.desk.specs.Views.{Pass, HasCalled, IsSpent, IsKnown}
 use Rattle.queue_actor.specs.Answered.{Answered}
 use Rattle.queue_actor.specs.declared.parcels.Delivery.{Delivery}
 use Rattle.queue_actor.specs.declared.parcels.Delivery.TheVariants as deliveries
@@ -21,7 +21,7 @@ true_false : true ≡ false → ⊥
 true_false same = search (rules, same)
 
 -- no call
-pub made_nothing : (Are : List Call → Type 0) (k : Knowledge) → Are [] → HasMade Are k k
+pub made_nothing : (Are : List Call → Type 0) (k : Pass) → Are [] → HasMade Are k k
 made_nothing Are k none = record {
   same_desk = refl;
   same_start = refl;
@@ -34,7 +34,7 @@ made_nothing Are k none = record {
 }
 
 -- one call
-pub made_one : (Are : List Call → Type 0) (before : Knowledge) (at : ℕ) (command : Command) (reply : Result Reply Fault) (after : Knowledge)
+pub made_one : (Are : List Call → Type 0) (before : Pass) (at : ℕ) (command : Command) (reply : Result Reply Fault) (after : Pass)
     → HasCalled before at command reply after → Are (call before.number at command reply ∷ []) → HasMade Are before after
 made_one Are before at command reply after h is =
     let c : Call = call before.number at command reply in
@@ -50,7 +50,7 @@ made_one Are before at command reply after h is =
     }
 
 -- calls behind calls
-pub made_both : (First Second Both : List Call → Type 0) (a b c : Knowledge) (first : HasMade First a b) (second : HasMade Second b c) → Both (first.calls ++ second.calls) → HasMade Both a c
+pub made_both : (First Second Both : List Call → Type 0) (a b c : Pass) (first : HasMade First a b) (second : HasMade Second b c) → Both (first.calls ++ second.calls) → HasMade Both a c
 made_both First Second Both a b c first second is = record {
   same_desk = second.same_desk ∙ first.same_desk;
   same_start = second.same_start ∙ first.same_start;
@@ -63,10 +63,10 @@ made_both First Second Both a b c first second is = record {
 }
 
 -- where the desk is spent nothing more is known, but that it is
-ended : (b c : Knowledge) → IsSpent b c → HasEnded c
+ended : (b c : Pass) → IsSpent b c → HasEnded c
 ended b c spent = ap (λ k. k.begun) spent.1
 
-spent_made : (Are : List Call → Type 0) (a b c : Knowledge) → IsSpent b c → HasMade Are a b → HasMade Are a c
+spent_made : (Are : List Call → Type 0) (a b c : Pass) → IsSpent b c → HasMade Are a b → HasMade Are a c
 spent_made Are a b c spent h = subst (λ k. HasMade Are a k) (sym spent.1) (record {
   same_desk = h.same_desk;
   same_start = h.same_start;
@@ -85,12 +85,12 @@ ok_err : {A B : Type 0} {x : A} {e : B} → Ok x ≡ Err e → ⊥
 ok_err same = search (rules, same)
 
 -- what was accepted was called
-pub accepted_call : (b : Knowledge) (at : ℕ) (command : Command) (reply : Reply) (c : Knowledge) → HasAsked b at command (Ok reply) c → HasCalled b at command (Ok reply) c
+pub accepted_call : (b : Pass) (at : ℕ) (command : Command) (reply : Reply) (c : Pass) → HasAsked b at command (Ok reply) c → HasCalled b at command (Ok reply) c
 accepted_call b at command reply c (inl h) = h
 accepted_call b at command reply c (inr h) = absurd (ok_err h.0)
 
 -- an answer that is good shows that a parcel arrived
-pub has_arrived : (at : ℕ) (parcel : Parcel) (answer : Answered) (before : Knowledge) → before.start.uid ≡ parcel.target
+pub has_arrived : (at : ℕ) (parcel : Parcel) (answer : Answered) (before : Pass) → before.start.uid ≡ parcel.target
     → HasAsked before at (commands.Arrive parcel) answer.reply answer.pass → IsKnown answer.pass → (reply : Result Reply Fault) → answer.reply ≡ reply → is_ok reply ≡ true → HasArrived at parcel answer
 has_arrived at parcel answer before uid asked known (Ok reply) is good = record {
   before = before;
@@ -109,12 +109,12 @@ err_same : {A B : Type 0} {e f : B} → ◌≡◌ {A = Result A B} (Err e) (Err 
 err_same same = search (rules, same)
 
 -- what a closed queue answered was called
-closed_call : (b : Knowledge) (at : ℕ) (command : Command) (c : Knowledge) → HasAsked b at command (Err QueueDoesNotExist) c → HasCalled b at command (Err QueueDoesNotExist) c
+closed_call : (b : Pass) (at : ℕ) (command : Command) (c : Pass) → HasAsked b at command (Err QueueDoesNotExist) c → HasCalled b at command (Err QueueDoesNotExist) c
 closed_call b at command c (inl h) = h
 closed_call b at command c (inr h) = absurd (gone_spent (err_same h.0))
 
 -- an answer that a queue is closed shows that a parcel came too late
-pub has_missed : (at : ℕ) (parcel : Parcel) (answer : Answered) (before : Knowledge) → before.start.uid ≡ parcel.target
+pub has_missed : (at : ℕ) (parcel : Parcel) (answer : Answered) (before : Pass) → before.start.uid ≡ parcel.target
     → HasAsked before at (commands.Arrive parcel) answer.reply answer.pass → IsKnown answer.pass → answer.reply ≡ Err QueueDoesNotExist → HasMissed at parcel answer
 has_missed at parcel answer before uid asked known is = record {
   before = before;
@@ -143,14 +143,14 @@ module _ {T : Type 0} (told : ℕ → Parcel → Delivery T → Type 0) where
   whole_behind at (c ∷ (d ∷ rest)) ys whole then = (whole.0, whole.1, whole_behind at rest ys whole.2 then)
 
   -- a question for the first parcel, that is told none
-  pub moved_none : (at : ℕ) (a : Knowledge) (reply : Result Reply Fault) (b : Knowledge) → HasAsked a at commands.FirstParcel reply b → parcel_in reply ≡ None → HasMoved told at a b
+  pub moved_none : (at : ℕ) (a : Pass) (reply : Result Reply Fault) (b : Pass) → HasAsked a at commands.FirstParcel reply b → parcel_in reply ≡ None → HasMoved told at a b
   moved_none at a reply b (inl h) none =
       made_one (λ calls. AreMoves told at (HasEnded b) calls) a at commands.FirstParcel reply b h (record { time = refl; asked = refl; stops = inl none })
   moved_none at a reply b (inr h) none =
       spent_made (λ calls. AreMoves told at (HasEnded b) calls) a a b h.1 (made_nothing (λ calls. AreMoves told at (HasEnded b) calls) a (ended a b h.1))
 
   -- a question for the first parcel, that is told one which is refused
-  pub moved_refused : (at : ℕ) (a : Knowledge) (reply : Result Reply Fault) (b : Knowledge) (parcel : Parcel) → HasAsked a at commands.FirstParcel reply b
+  pub moved_refused : (at : ℕ) (a : Pass) (reply : Result Reply Fault) (b : Pass) (parcel : Parcel) → HasAsked a at commands.FirstParcel reply b
       → parcel_in reply ≡ Some parcel → told at parcel deliveries.Refused → HasMoved told at a b
   moved_refused at a reply b parcel (inl h) there refused =
       made_one (λ calls. AreMoves told at (HasEnded b) calls) a at commands.FirstParcel reply b h
@@ -163,7 +163,7 @@ module _ {T : Type 0} (told : ℕ → Parcel → Delivery T → Type 0) where
       ⊎ ((shown : Option T) × told at parcel (deliveries.Gone shown) × (command ≡ commands.Orphan parcel.target))
 
   -- a parcel was told and moved, by two calls
-  both_calls : (Are : List Call → Type 0) (at : ℕ) (a b c : Knowledge) (command : Command) (first second : Result Reply Fault)
+  both_calls : (Are : List Call → Type 0) (at : ℕ) (a b c : Pass) (command : Command) (first second : Result Reply Fault)
       → HasCalled a at commands.FirstParcel first b → HasCalled b at command second c
       → Are (call a.number at commands.FirstParcel first ∷ call b.number at command second ∷ []) → HasMade Are a c
   unfolding made_one
@@ -172,7 +172,7 @@ module _ {T : Type 0} (told : ℕ → Parcel → Delivery T → Type 0) where
       let two = made_one (λ calls. calls ≡ call b.number at command second ∷ []) b at command second c k refl in
       made_both _ _ Are a b c one two is
 
-  pub moved_asked : (at : ℕ) (a b c : Knowledge) (parcel : Parcel) (command : Command) (first second : Result Reply Fault) (good : Bool) → good ≡ is_ok second
+  pub moved_asked : (at : ℕ) (a b c : Pass) (parcel : Parcel) (command : Command) (first second : Result Reply Fault) (good : Bool) → good ≡ is_ok second
       → HasAsked a at commands.FirstParcel first b → parcel_in first ≡ Some parcel → HasAsked b at command second c → Confirms at parcel command
       → MatchBool good (HasMovedOne told at a c) (HasMoved told at a c)
   moved_asked at a b c parcel command first second good same (inr h) there asked is = absurd (no_parcel_spent first parcel h.0 there)
@@ -195,7 +195,7 @@ module _ {T : Type 0} (told : ℕ → Parcel → Delivery T → Type 0) where
       (made_one (λ calls. AreMoves told at (HasEnded c) calls) a at commands.FirstParcel first b h (record { time = refl; asked = refl; stops = inr (inl (ended b c k.1)) }))
 
   -- one that was moved is moved
-  one_is_moved : (at : ℕ) (a b : Knowledge) → HasMovedOne told at a b → HasMade (λ calls. AreWholeMoves at calls) a b
+  one_is_moved : (at : ℕ) (a b : Pass) → HasMovedOne told at a b → HasMade (λ calls. AreWholeMoves at calls) a b
   one_is_moved at a b h = record {
     same_desk = h.same_desk;
     same_start = h.same_start;
@@ -208,11 +208,11 @@ module _ {T : Type 0} (told : ℕ → Parcel → Delivery T → Type 0) where
   }
 
   -- one more behind those that were moved
-  pub whole_and_one : (at : ℕ) (a b c : Knowledge) → HasMade (λ calls. AreWholeMoves at calls) a b → HasMovedOne told at b c → HasMade (λ calls. AreWholeMoves at calls) a c
+  pub whole_and_one : (at : ℕ) (a b c : Pass) → HasMade (λ calls. AreWholeMoves at calls) a b → HasMovedOne told at b c → HasMade (λ calls. AreWholeMoves at calls) a c
   whole_and_one at a b c h one =
       let k = one_is_moved at b c one in
       made_both _ _ (λ calls. AreWholeMoves at calls) a b c h k (whole_behind at h.calls k.calls h.made k.made)
 
   -- the last calls behind those that moved
-  pub whole_and_last : (at : ℕ) (a b c : Knowledge) → HasMade (λ calls. AreWholeMoves at calls) a b → HasMoved told at b c → HasMoved told at a c
+  pub whole_and_last : (at : ℕ) (a b c : Pass) → HasMade (λ calls. AreWholeMoves at calls) a b → HasMoved told at b c → HasMoved told at a c
   whole_and_last at a b c h last = made_both _ _ (λ calls. AreMoves told at (HasEnded c) calls) a b c h last (moves_behind at (HasEnded c) h.calls last.calls h.made last.made)

@@ -5,13 +5,13 @@ use Rattle.queue_core.specs.declared.command.Command.{Command}
 use Rattle.queue_core.specs.declared.reply.Reply.{Reply}
 use Rattle.desk.specs.declared.view.Call.{Call}
 use Rattle.desk.specs.History.{call}
-use Rattle.desk.specs.Views.{Knowledge, HasCalled, IsBusy, SeesMore}
+use Rattle.desk.specs.Views.{Pass, HasCalled, IsBusy, SeesMore}
 
 -- it has seen no less, and knows of no fewer tickets
-abbrev pub HasTried : Knowledge → Knowledge → Type 0
+abbrev pub HasTried : Pass → Pass → Type 0
 HasTried before after = SeesMore before after × (before.begun ≤ after.begun)
 
-pub tried_nothing : (k : Knowledge) → HasTried k k
+pub tried_nothing : (k : Pass) → HasTried k k
 tried_nothing k = (
   record {
     same_desk = refl;
@@ -25,7 +25,7 @@ tried_nothing k = (
 )
 
 -- once more, and the turn was taken again
-pub tried_again : (a b c : Knowledge) → HasTried a b → SeesMore b c → IsBusy b c → HasTried a c
+pub tried_again : (a b c : Pass) → HasTried a b → SeesMore b c → IsBusy b c → HasTried a c
 tried_again a b c first more busy = (
   record {
     same_desk = more.same_desk ∙ first.0.same_desk;
@@ -42,7 +42,7 @@ tried_again a b c first more busy = (
 )
 
 -- a call that is made then is one behind all that was seen before
-pub called_then : (a b : Knowledge) (at : ℕ) (command : Command) (reply : Result Reply Fault) (c : Knowledge) → HasTried a b → HasCalled b at command reply c → HasCalled a at command reply c
+pub called_then : (a b : Pass) (at : ℕ) (command : Command) (reply : Result Reply Fault) (c : Pass) → HasTried a b → HasCalled b at command reply c → HasCalled a at command reply c
 called_then a b at command reply c tried called =
     let number : call b.number at command reply ≡ call a.number at command reply = ap (λ (n : ℕ). call n at command reply) tried.0.same_number in
     record {

@@ -10,16 +10,16 @@ use Rattle.std.proofs.lemmas.List.{get_or-set_same, get_or-set_other}
 use Rattle.std.proofs.lemmas.Bool.{cases_lt}
 use mathlib.Core.List.{IsPrefix}
 use Rattle.queue_actor.specs.declared.readers.Shown.{Shown}
-use Rattle.board.specs.Shown.{Acquaintance}
+use Rattle.board.specs.Shown.{Reader}
 use Rattle.queue_actor.specs.private.Reading.{IsLater, HasRecord}
 
 prefix_trans : {A : Type 0} (xs ys zs : List A) → IsPrefix xs ys → IsPrefix ys zs → IsPrefix xs zs
 prefix_trans xs ys zs p q = (p.0 ++ q.0, sym (append_assoc xs p.0 q.0) ∙ ap (λ l. l ++ q.0) p.1 ∙ q.1)
 
-later_self : (reader : Acquaintance) → IsLater reader reader
+later_self : (reader : Reader) → IsLater reader reader
 later_self reader = record { given = refl; book = refl; turns = ([], append-nil reader.turns) }
 
-later_after : (a b c : Acquaintance) → IsLater a b → IsLater b c → IsLater a c
+later_after : (a b c : Reader) → IsLater a b → IsLater b c → IsLater a c
 later_after a b c h k = record {
   given = k.given ∙ h.given;
   book = k.book ∙ h.book;

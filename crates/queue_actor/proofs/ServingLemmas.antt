@@ -5,7 +5,7 @@ use Rattle.std.specs.List.{All}
 use Rattle.std.proofs.lemmas.Bool.Decides.{nat_tests}
 use Rattle.std.proofs.lemmas.List.Elements.{All-head, All-tail}
 use Rattle.queue_core.specs.declared.parcel.Parcel.{Parcel}
-use Rattle.desk.specs.Views.{Knowledge}
+use Rattle.desk.specs.Views.{Pass}
 use Rattle.queue_actor.specs.declared.mail.Ask.{Ask}
 use Rattle.queue_actor.specs.Answered.{Answered}
 use Rattle.queue_actor.specs.declared.parcels.Delivery.{Delivery}
@@ -76,7 +76,7 @@ module _ {P S Told : Type 0} where
   with_last_behind others kept false r = refl
 
   -- a poll that was looked at waits where it goes on waiting
-  pub looked_waits : (limit at last : ℕ) (quiet kept : Bool) (before after : Knowledge) (r : Ask P S Told) (front back : List (Ask P S Told)) (happened : List (MailboxEvent (Mail P S Told) S Answered))
+  pub looked_waits : (limit at last : ℕ) (quiet kept : Bool) (before after : Pass) (r : Ask P S Told) (front back : List (Ask P S Told)) (happened : List (MailboxEvent (Mail P S Told) S Answered))
       → LooksAt limit at quiet before r happened kept after → WaitsBehind (front ++ r ∷ back) last happened (front ++ with_kept kept r back) last
   looked_waits limit at last quiet true before after r front back happened looks =
       subst (λ es. WaitsBehind (front ++ r ∷ back) last es (front ++ r ∷ back) last) (sym looks.0) (refl, refl)
@@ -159,8 +159,8 @@ module _ {V P S Told : Type 0} (brings : V → Mail P S Told → V → Type 0) (
   -- ---- looking over polls that wait
 
   -- of the polls that waited some are still to be looked at, and the others wait behind them, were answered, or were dropped
-  pub record Looking (limit at : ℕ) (known : Bool) (before : Knowledge) (parked : List (Ask P S Told)) (mailbox : V)
-      (quiet : Bool) (pass : Knowledge) (polls : List (Ask P S Told)) (now : V) (turns : ℕ) : Type 0 where
+  pub record Looking (limit at : ℕ) (known : Bool) (before : Pass) (parked : List (Ask P S Told)) (mailbox : V)
+      (quiet : Bool) (pass : Pass) (polls : List (Ask P S Told)) (now : V) (turns : ℕ) : Type 0 where
     pub rest : List (Ask P S Told)
     pub kept : List (Ask P S Told)
     pub happened : List (MailboxEvent (Mail P S Told) S Answered)
@@ -168,10 +168,10 @@ module _ {V P S Told : Type 0} (brings : V → Mail P S Told → V → Type 0) (
     pub count : length rest ≡ turns
     pub goes : GoesThrough brings is_over gives was_left mailbox happened now
     pub waits : WaitsBehind parked at happened (kept ++ rest) at
-    pub so_far : (more : List (MailboxEvent (Mail P S Told) S Answered)) (after : Knowledge) (left : List (Ask P S Told))
+    pub so_far : (more : List (MailboxEvent (Mail P S Told) S Answered)) (after : Pass) (left : List (Ask P S Told))
         → LooksOver limit at quiet pass rest more after left → LooksOver limit at known before parked (happened ++ more) after (kept ++ left)
 
-  pub looking_begins : (limit at : ℕ) (known : Bool) (before : Knowledge) (parked : List (Ask P S Told)) (mailbox : V) (turns : ℕ) → length parked ≡ turns
+  pub looking_begins : (limit at : ℕ) (known : Bool) (before : Pass) (parked : List (Ask P S Told)) (mailbox : V) (turns : ℕ) → length parked ≡ turns
       → Looking limit at known before parked mailbox known before parked mailbox turns
   looking_begins limit at known before parked mailbox turns count = record {
     rest = parked;
@@ -184,7 +184,7 @@ module _ {V P S Told : Type 0} (brings : V → Mail P S Told → V → Type 0) (
     so_far = λ more after left h. h;
   }
 
-  pub looking_ends : (limit at : ℕ) (known : Bool) (before : Knowledge) (parked : List (Ask P S Told)) (mailbox : V) (quiet : Bool) (pass : Knowledge) (polls : List (Ask P S Told)) (now : V)
+  pub looking_ends : (limit at : ℕ) (known : Bool) (before : Pass) (parked : List (Ask P S Told)) (mailbox : V) (quiet : Bool) (pass : Pass) (polls : List (Ask P S Told)) (now : V)
       → Looking limit at known before parked mailbox quiet pass polls now 0
       → (happened : List (MailboxEvent (Mail P S Told) S Answered)) × LooksOver limit at known before parked happened pass polls
       × GoesThrough brings is_over gives was_left mailbox happened now × WaitsBehind parked at happened polls at
@@ -206,7 +206,7 @@ module _ {V P S Told : Type 0} (brings : V → Mail P S Told → V → Type 0) (
   -- ---- looking over polls of which the wait of none is over
 
   -- where the queue is known to be quiet, they all go on waiting
-  pub all_quiet : (limit at : ℕ) (pass : Knowledge) (polls : List (Ask P S Told)) → WaitBeyond at polls → LooksOver limit at true pass polls [] pass polls
+  pub all_quiet : (limit at : ℕ) (pass : Pass) (polls : List (Ask P S Told)) → WaitBeyond at polls → LooksOver limit at true pass polls [] pass polls
   all_quiet limit at pass [] early = (refl, refl, refl)
   all_quiet limit at pass (r ∷ rs) early =
       let before : at < r.wait_until = All-head (λ (x : Ask P S Told). at < x.wait_until) r rs early in
@@ -223,27 +223,27 @@ module _ {V P S Told : Type 0} (brings : V → Mail P S Told → V → Type 0) (
       )
 
   -- of the polls that waited the first were answered, or were dropped, and the others are still to be looked at
-  pub record Passing (limit at : ℕ) (known : Bool) (before : Knowledge) (parked : List (Ask P S Told)) (mailbox : V)
-      (quiet : Bool) (pass : Knowledge) (rest : List (Ask P S Told)) (now : V) : Type 0 where
+  pub record Passing (limit at : ℕ) (known : Bool) (before : Pass) (parked : List (Ask P S Told)) (mailbox : V)
+      (quiet : Bool) (pass : Pass) (rest : List (Ask P S Told)) (now : V) : Type 0 where
     pub happened : List (MailboxEvent (Mail P S Told) S Answered)
     pub early : WaitBeyond at rest
     pub goes : GoesThrough brings is_over gives was_left mailbox happened now
     pub waits : WaitsBehind parked at happened rest at
-    pub so_far : (more : List (MailboxEvent (Mail P S Told) S Answered)) (after : Knowledge) (left : List (Ask P S Told))
+    pub so_far : (more : List (MailboxEvent (Mail P S Told) S Answered)) (after : Pass) (left : List (Ask P S Told))
         → LooksOver limit at quiet pass rest more after left → LooksOver limit at known before parked (happened ++ more) after left
 
-  pub passing_begins : (limit at : ℕ) (known : Bool) (before : Knowledge) (parked : List (Ask P S Told)) (mailbox : V) → WaitBeyond at parked
+  pub passing_begins : (limit at : ℕ) (known : Bool) (before : Pass) (parked : List (Ask P S Told)) (mailbox : V) → WaitBeyond at parked
       → Passing limit at known before parked mailbox known before parked mailbox
   passing_begins limit at known before parked mailbox early =
       record { happened = []; early = early; goes = refl; waits = (refl, refl); so_far = λ more after left h. h }
 
   -- what is said of the polls that wait, where the first of them is this one
-  abbrev pub IsOver : (limit at : ℕ) (known : Bool) (before : Knowledge) (parked : List (Ask P S Told)) (mailbox : V) (pass : Knowledge) (polls : List (Ask P S Told)) (now : V) → Type 0
+  abbrev pub IsOver : (limit at : ℕ) (known : Bool) (before : Pass) (parked : List (Ask P S Told)) (mailbox : V) (pass : Pass) (polls : List (Ask P S Told)) (now : V) → Type 0
   IsOver limit at known before parked mailbox pass polls now =
       (happened : List (MailboxEvent (Mail P S Told) S Answered)) × LooksOver limit at known before parked happened pass polls
       × GoesThrough brings is_over gives was_left mailbox happened now × WaitsBehind parked at happened polls at
 
-  pub passing_ends : (limit at : ℕ) (known : Bool) (before : Knowledge) (parked : List (Ask P S Told)) (mailbox : V) (quiet : Bool) (pass : Knowledge) (now : V)
+  pub passing_ends : (limit at : ℕ) (known : Bool) (before : Pass) (parked : List (Ask P S Told)) (mailbox : V) (quiet : Bool) (pass : Pass) (now : V)
       → Passing limit at known before parked mailbox quiet pass [] now → IsOver limit at known before parked mailbox pass [] now
   passing_ends limit at known before parked mailbox quiet pass now h = (
     h.happened ++ [],
@@ -253,7 +253,7 @@ module _ {V P S Told : Type 0} (brings : V → Mail P S Told → V → Type 0) (
   )
 
   -- the mailbox takes the answer to the poll that is looked at next
-  pub passing_takes : (limit at : ℕ) (known : Bool) (before : Knowledge) (parked : List (Ask P S Told)) (mailbox : V) (quiet : Bool) (pass : Knowledge)
+  pub passing_takes : (limit at : ℕ) (known : Bool) (before : Pass) (parked : List (Ask P S Told)) (mailbox : V) (quiet : Bool) (pass : Pass)
       (others : List (Ask P S Told)) (now : V) (r : Ask P S Told)
       → TakesAnswers brings is_over may_give gives was_left parked at mailbox
       → Passing limit at known before parked mailbox quiet pass (r ∷ others) now
@@ -262,7 +262,7 @@ module _ {V P S Told : Type 0} (brings : V → Mail P S Told → V → Type 0) (
       takes_now (r ∷ others) [] others at now r (takes_behind parked (r ∷ others) at at mailbox now h.happened takes h.goes h.waits) refl
 
   -- the poll that is looked at is served
-  pub passing_goes : (limit at : ℕ) (known : Bool) (before : Knowledge) (parked : List (Ask P S Told)) (mailbox : V) (quiet : Bool) (pass between : Knowledge)
+  pub passing_goes : (limit at : ℕ) (known : Bool) (before : Pass) (parked : List (Ask P S Told)) (mailbox : V) (quiet : Bool) (pass between : Pass)
       (others : List (Ask P S Told)) (now next : V) (r : Ask P S Told) (first : List (MailboxEvent (Mail P S Told) S Answered))
       → Passing limit at known before parked mailbox quiet pass (r ∷ others) now
       → LooksAt limit at quiet pass r first false between → GoesThrough brings is_over gives was_left now first next
@@ -278,7 +278,7 @@ module _ {V P S Told : Type 0} (brings : V → Mail P S Told → V → Type 0) (
   }
 
   -- the poll that is looked at goes on waiting, and so do those behind it
-  pub passing_stops : (limit at : ℕ) (known : Bool) (before : Knowledge) (parked : List (Ask P S Told)) (mailbox : V) (quiet : Bool) (pass between : Knowledge)
+  pub passing_stops : (limit at : ℕ) (known : Bool) (before : Pass) (parked : List (Ask P S Told)) (mailbox : V) (quiet : Bool) (pass between : Pass)
       (others : List (Ask P S Told)) (now next : V) (r : Ask P S Told) (first : List (MailboxEvent (Mail P S Told) S Answered))
       → Passing limit at known before parked mailbox quiet pass (r ∷ others) now
       → LooksAt limit at quiet pass r first true between → GoesThrough brings is_over gives was_left now first next
@@ -306,13 +306,13 @@ module _ {V P S Told : Type 0} (brings : V → Mail P S Told → V → Type 0) (
       )
 
   -- while a poll is still to be looked at there is one
-  pub one_is_left : (limit at : ℕ) (known : Bool) (before : Knowledge) (parked : List (Ask P S Told)) (mailbox : V) (quiet : Bool) (pass : Knowledge) (polls : List (Ask P S Told)) (now : V) (turns : ℕ)
+  pub one_is_left : (limit at : ℕ) (known : Bool) (before : Pass) (parked : List (Ask P S Told)) (mailbox : V) (quiet : Bool) (pass : Pass) (polls : List (Ask P S Told)) (now : V) (turns : ℕ)
       → Looking limit at known before parked mailbox quiet pass polls now turns → 0 < turns → 0 < length polls
   one_is_left limit at known before parked mailbox quiet pass polls now turns h some =
       omega (arith, some, h.count, ap length h.parts, length-append h.rest h.kept)
 
   -- the mailbox takes the answer to the poll that is looked at next
-  pub looking_takes : (limit at : ℕ) (known : Bool) (before : Knowledge) (parked : List (Ask P S Told)) (mailbox : V) (quiet : Bool) (pass : Knowledge)
+  pub looking_takes : (limit at : ℕ) (known : Bool) (before : Pass) (parked : List (Ask P S Told)) (mailbox : V) (quiet : Bool) (pass : Pass)
       (polls others : List (Ask P S Told)) (now : V) (turns : ℕ) (r : Ask P S Told)
       → TakesAnswers brings is_over may_give gives was_left parked at mailbox
       → Looking limit at known before parked mailbox quiet pass polls now (turns + 1) → polls ≡ r ∷ others
@@ -323,7 +323,7 @@ module _ {V P S Told : Type 0} (brings : V → Mail P S Told → V → Type 0) (
       (ap (λ rest. h.kept ++ rest) f.1)
 
   -- the poll that is looked at goes on waiting, behind those that were looked at, or it is served
-  pub looking_goes : (limit at : ℕ) (known : Bool) (before : Knowledge) (parked : List (Ask P S Told)) (mailbox : V) (quiet is_kept : Bool) (pass between : Knowledge)
+  pub looking_goes : (limit at : ℕ) (known : Bool) (before : Pass) (parked : List (Ask P S Told)) (mailbox : V) (quiet is_kept : Bool) (pass between : Pass)
       (polls others : List (Ask P S Told)) (now next : V) (turns : ℕ) (r : Ask P S Told) (first : List (MailboxEvent (Mail P S Told) S Answered))
       → Looking limit at known before parked mailbox quiet pass polls now (turns + 1) → polls ≡ r ∷ others
       → LooksAt limit at quiet pass r first is_kept between → GoesThrough brings is_over gives was_left now first next
@@ -350,7 +350,7 @@ module _ {V P S Told : Type 0} (brings : V → Mail P S Told → V → Type 0) (
       }
 
   -- the same, told of equal values
-  pub looking_same : (limit at : ℕ) (known : Bool) (before : Knowledge) (parked : List (Ask P S Told)) (mailbox : V) (quiet : Bool) (pass : Knowledge) (polls : List (Ask P S Told)) (now : V) (turns : ℕ)
+  pub looking_same : (limit at : ℕ) (known : Bool) (before : Pass) (parked : List (Ask P S Told)) (mailbox : V) (quiet : Bool) (pass : Pass) (polls : List (Ask P S Told)) (now : V) (turns : ℕ)
       (quiet' : Bool) (polls' : List (Ask P S Told)) → quiet ≡ quiet' → polls ≡ polls'
       → Looking limit at known before parked mailbox quiet pass polls now turns → Looking limit at known before parked mailbox quiet' pass polls' now turns
   looking_same limit at known before parked mailbox quiet pass polls now turns quiet' polls' same_quiet same_polls h =
@@ -380,14 +380,14 @@ module _ {P S Told : Type 0} where
 module _ {P S Told V T : Type 0} (told : ℕ → Parcel → Delivery T → Type 0) (taken_out : ℕ → Type 0) (retargeted : ℕ → ℕ → Type 0)
     (brings : V → Mail P S Told → V → Type 0) (is_over : V → V → Type 0) (gives : V → S → Answered → V → Type 0) (was_left : V → S → Type 0) where
   -- what was served so far, where these polls wait now
-  pub record Serving (uid limit : ℕ) (before : Knowledge) (mailbox : V) (pass : Knowledge) (parked : List (Ask P S Told)) (last : ℕ) (now : V) : Type 0 where
+  pub record Serving (uid limit : ℕ) (before : Pass) (mailbox : V) (pass : Pass) (parked : List (Ask P S Told)) (last : ℕ) (now : V) : Type 0 where
     pub mails : List (Mail P S Told)
     pub events : List (MailboxEvent (Mail P S Told) S Answered)
     pub goes : GoesThrough brings is_over gives was_left mailbox events now
-    pub so_far : (ms : List (Mail P S Told)) (more : List (MailboxEvent (Mail P S Told) S Answered)) (after : Knowledge)
+    pub so_far : (ms : List (Mail P S Told)) (more : List (MailboxEvent (Mail P S Told) S Answered)) (after : Pass)
         → Serves told taken_out retargeted uid limit pass parked last ms more after → Serves told taken_out retargeted uid limit before [] 0 (mails ++ ms) (events ++ more) after
 
-  pub serving_begins : (uid limit : ℕ) (before : Knowledge) (mailbox : V) (parked : List (Ask P S Told)) → parked ≡ []
+  pub serving_begins : (uid limit : ℕ) (before : Pass) (mailbox : V) (parked : List (Ask P S Told)) → parked ≡ []
       → Serving uid limit before mailbox before parked 0 mailbox
   serving_begins uid limit before mailbox parked none = record {
     mails = [];
@@ -397,8 +397,8 @@ module _ {P S Told V T : Type 0} (told : ℕ → Parcel → Delivery T → Type 
   }
 
   -- what was served so far, and then a mail, and then what is served behind that
-  served_so_far : (uid limit : ℕ) (before : Knowledge) (mailbox : V) (pass : Knowledge) (parked : List (Ask P S Told)) (last : ℕ) (now : V)
-      (h : Serving uid limit before mailbox pass parked last now) (mail : Mail P S Told) (happened more : List (MailboxEvent (Mail P S Told) S Answered)) (ms : List (Mail P S Told)) (after : Knowledge)
+  served_so_far : (uid limit : ℕ) (before : Pass) (mailbox : V) (pass : Pass) (parked : List (Ask P S Told)) (last : ℕ) (now : V)
+      (h : Serving uid limit before mailbox pass parked last now) (mail : Mail P S Told) (happened more : List (MailboxEvent (Mail P S Told) S Answered)) (ms : List (Mail P S Told)) (after : Pass)
       → Serves told taken_out retargeted uid limit pass parked last (mail ∷ ms) (happened ++ more) after
       → Serves told taken_out retargeted uid limit before [] 0 ((h.mails ++ mail ∷ []) ++ ms) ((h.events ++ happened) ++ more) after
   served_so_far uid limit before mailbox pass parked last now h mail happened more ms after s =
@@ -407,8 +407,8 @@ module _ {P S Told V T : Type 0} (told : ℕ → Parcel → Delivery T → Type 
       (h.so_far (mail ∷ ms) (happened ++ more) after s))
 
   -- one mail more that does not end it
-  pub serving_goes : (uid limit : ℕ) (before : Knowledge) (mailbox : V) (pass : Knowledge) (parked : List (Ask P S Told)) (last : ℕ) (now : V)
-      (mail : Mail P S Told) (at : ℕ) (first second : List (MailboxEvent (Mail P S Told) S Answered)) (wait left : List (Ask P S Told)) (between : Knowledge) (fetched taken next : V)
+  pub serving_goes : (uid limit : ℕ) (before : Pass) (mailbox : V) (pass : Pass) (parked : List (Ask P S Told)) (last : ℕ) (now : V)
+      (mail : Mail P S Told) (at : ℕ) (first second : List (MailboxEvent (Mail P S Told) S Answered)) (wait left : List (Ask P S Told)) (between : Pass) (fetched taken next : V)
       → Serving uid limit before mailbox pass parked last now
       → brings now mail fetched
       → TakesIn taken_out retargeted uid mail last parked first wait at false → GoesThrough brings is_over gives was_left fetched first taken
@@ -434,8 +434,8 @@ module _ {P S Told V T : Type 0} (told : ℕ → Parcel → Delivery T → Type 
       }
 
   -- it ends, where no mail will come any more
-  pub serving_ends : (uid limit : ℕ) (before : Knowledge) (mailbox : V) (pass : Knowledge) (parked : List (Ask P S Told)) (last : ℕ) (now : V)
-      (happened : List (MailboxEvent (Mail P S Told) S Answered)) (after : Knowledge) (ended next : V)
+  pub serving_ends : (uid limit : ℕ) (before : Pass) (mailbox : V) (pass : Pass) (parked : List (Ask P S Told)) (last : ℕ) (now : V)
+      (happened : List (MailboxEvent (Mail P S Told) S Answered)) (after : Pass) (ended next : V)
       → Serving uid limit before mailbox pass parked last now
       → is_over now ended → Ends told taken_out retargeted last pass parked happened after → GoesThrough brings is_over gives was_left ended happened next
       → (ms : List (Mail P S Told)) × (events : List (MailboxEvent (Mail P S Told) S Answered)) × Serves told taken_out retargeted uid limit before [] 0 ms events after
@@ -448,8 +448,8 @@ module _ {P S Told V T : Type 0} (told : ℕ → Parcel → Delivery T → Type 
   )
 
   -- it ends, where a mail says so, or the queue was closed
-  pub serving_is_ended : (uid limit : ℕ) (before : Knowledge) (mailbox : V) (pass : Knowledge) (parked : List (Ask P S Told)) (last : ℕ) (now : V)
-      (mail : Mail P S Told) (at : ℕ) (first rest : List (MailboxEvent (Mail P S Told) S Answered)) (wait : List (Ask P S Told)) (after : Knowledge) (fetched taken next : V)
+  pub serving_is_ended : (uid limit : ℕ) (before : Pass) (mailbox : V) (pass : Pass) (parked : List (Ask P S Told)) (last : ℕ) (now : V)
+      (mail : Mail P S Told) (at : ℕ) (first rest : List (MailboxEvent (Mail P S Told) S Answered)) (wait : List (Ask P S Told)) (after : Pass) (fetched taken next : V)
       → Serving uid limit before mailbox pass parked last now
       → brings now mail fetched
       → TakesIn taken_out retargeted uid mail last parked first wait at true → GoesThrough brings is_over gives was_left fetched first taken

@@ -7,7 +7,7 @@ use Rattle.crossbeam_channel.specs.declared.err.SendError.TheVariants as Send
 use Rattle.futures.specs.Channel.{completed_source}
 use Rattle.queue_core.specs.declared.command.Command.{Command}
 use Rattle.queue_core.specs.declared.command.Command.TheVariants as commands
-use Rattle.desk.specs.Views.{Knowledge}
+use Rattle.desk.specs.Views.{Pass}
 use Rattle.queue_actor.specs.Answered.{Answered}
 use Rattle.queue_actor.specs.declared.fault.AskFault.{AskFault}
 use Rattle.queue_actor.specs.declared.future.Progress.{Progress}
@@ -24,7 +24,7 @@ is_for_actor _ = false
 -- The mail with this question was put, and its answer comes to the slot whose source has this number; or the mail never left, and the pass is kept; or what came was given
 pub data Asking : Type 0 where
   Sent : Question → ℕ → Asking
-  Unsent : Knowledge → Asking
+  Unsent : Pass → Asking
   Over : Asking
 
 abbrev pub asking_of : {P T : Type 0} → Progress P T → Asking
@@ -39,7 +39,7 @@ IfSent (Asking.Unsent pass) P = ⊤
 IfSent Asking.Over P = ⊤
 
 -- a fact of the pass of a mail that never left
-abbrev pub IfUnsent : Asking → (Knowledge → Type 0) → Type 0
+abbrev pub IfUnsent : Asking → (Pass → Type 0) → Type 0
 IfUnsent (Asking.Sent asked source) P = ⊤
 IfUnsent (Asking.Unsent pass) P = P pass
 IfUnsent Asking.Over P = ⊤
@@ -55,7 +55,7 @@ waiting_question (Asking.Unsent pass) = None
 waiting_question Asking.Over = None
 
 -- the pass of a mail that never left
-abbrev pub kept_pass : Asking → Option Knowledge
+abbrev pub kept_pass : Asking → Option Pass
 kept_pass (Asking.Sent asked source) = None
 kept_pass (Asking.Unsent pass) = Some pass
 kept_pass Asking.Over = None

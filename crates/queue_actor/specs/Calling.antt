@@ -9,13 +9,13 @@ use Rattle.queue_core.specs.declared.reply.Reply.TheVariants as replies
 use Rattle.queue_core.specs.declared.parcel.Parcel.{Parcel}
 use Rattle.desk.specs.declared.view.Call.{Call}
 use Rattle.desk.specs.History.{GoesOnFrom}
-use Rattle.desk.specs.Views.{Knowledge, HasCalled, IsSpent, IsKnown, most_tickets}
+use Rattle.desk.specs.Views.{Pass, HasCalled, IsSpent, IsKnown, most_tickets}
 use Rattle.queue_actor.specs.Answered.{Answered}
 use Rattle.queue_actor.specs.declared.parcels.Delivery.{Delivery}
 use Rattle.queue_actor.specs.declared.parcels.Delivery.TheVariants as deliveries
 
 -- a call was made with a pass, or its desk is spent
-abbrev pub HasAsked : Knowledge → ℕ → Command → Result Reply Fault → Knowledge → Type 0
+abbrev pub HasAsked : Pass → ℕ → Command → Result Reply Fault → Pass → Type 0
 HasAsked before at command reply after = HasCalled before at command reply after ⊎ ((reply ≡ Err Spent) × IsSpent before after)
 
 -- a look shows that nothing is visible and that the in-flight limit is not reached
@@ -24,17 +24,17 @@ is_quiet limit (Ok (replies.Looked look)) = (look.gauges.visible == 0) && nat_lt
 is_quiet limit _ = false
 
 -- whether the queue is quiet at a moment: the actor looks, unless its last look has shown it and nothing was asked since
-abbrev pub Finds : ℕ → ℕ → Bool → Bool → Knowledge → Knowledge → Type 0
+abbrev pub Finds : ℕ → ℕ → Bool → Bool → Pass → Pass → Type 0
 Finds limit at true found before after = (found ≡ true) × (after ≡ before)
 Finds limit at false found before after = (reply : Result Reply Fault) × HasAsked before at commands.Look reply after × (found ≡ is_quiet limit reply)
 
 -- whether a poll that may wait until a time goes on waiting at a moment: that time is to come, and the queue is quiet
-abbrev pub KeepsWaiting : ℕ → ℕ → Bool → ℕ → Bool → Knowledge → Knowledge → Type 0
+abbrev pub KeepsWaiting : ℕ → ℕ → Bool → ℕ → Bool → Pass → Pass → Type 0
 KeepsWaiting limit at quiet until keeps before after =
     MatchBool (nat_lt at until) (Finds limit at quiet keeps before after) ((keeps ≡ false) × (after ≡ before))
 
 -- whether the queue is known to be quiet at the moment of a mail, before the polls are looked over: at a tick the actor looks, and else it asks nothing
-abbrev pub LooksAtTick : ℕ → ℕ → Bool → Bool → Knowledge → Knowledge → Type 0
+abbrev pub LooksAtTick : ℕ → ℕ → Bool → Bool → Pass → Pass → Type 0
 LooksAtTick limit at is_tick quiet before after =
     MatchBool is_tick (Finds limit at false quiet before after) ((quiet ≡ false) × (after ≡ before))
 
@@ -44,11 +44,11 @@ parcel_in (Ok (replies.Parcel parcel)) = parcel
 parcel_in _ = None
 
 -- all tickets of a pass's desk are drawn: it asks nothing any more
-abbrev pub HasEnded : Knowledge → Type 0
+abbrev pub HasEnded : Pass → Type 0
 HasEnded pass = pass.begun ≡ most_tickets
 
 -- Calls were made with a pass, of which this is true: others may have called in between. No fewer tickets were drawn than the pass knew before: behind an answer of a spent desk no call follows
-pub record HasMade (Are : List Call → Type 0) (before after : Knowledge) : Type 0 where
+pub record HasMade (Are : List Call → Type 0) (before after : Pass) : Type 0 where
   pub same_desk : after.desk ≡ before.desk
   pub same_start : after.start ≡ before.start
   pub same_number : after.number ≡ before.number
@@ -60,7 +60,7 @@ pub record HasMade (Are : List Call → Type 0) (before after : Knowledge) : Typ
 
 -- an answer says that a parcel arrived at a moment: its pass is of a desk of the uid that the parcel is for, and its last call is the arrival there, which was accepted
 pub record HasArrived (at : ℕ) (parcel : Parcel) (answer : Answered) : Type 0 where
-  pub before : Knowledge
+  pub before : Pass
   pub reply : Reply
   pub uid : before.start.uid ≡ parcel.target
   pub accepted : answer.reply ≡ Ok reply
@@ -69,7 +69,7 @@ pub record HasArrived (at : ℕ) (parcel : Parcel) (answer : Answered) : Type 0 
 
 -- an answer says that a parcel came too late: its pass is of a desk of the uid that the parcel is for, and its last call is the arrival there at a moment, to which the queue answered that it is closed
 pub record HasMissed (at : ℕ) (parcel : Parcel) (answer : Answered) : Type 0 where
-  pub before : Knowledge
+  pub before : Pass
   pub uid : before.start.uid ≡ parcel.target
   pub closed : answer.reply ≡ Err QueueDoesNotExist
   pub called : HasCalled before at (commands.Arrive parcel) (Err QueueDoesNotExist) answer.pass
@@ -111,9 +111,9 @@ module _ {T : Type 0} (told : ℕ → Parcel → Delivery T → Type 0) where
   AreMoves at ended (c ∷ (d ∷ rest)) = IsMove at c d × MatchBool (is_ok d.reply) (AreMoves at ended rest) (rest ≡ [])
 
   -- nothing was asked with the actor's pass but what moves dead letters, at this moment, until there is none or something is refused
-  abbrev pub HasMoved : ℕ → Knowledge → Knowledge → Type 0
+  abbrev pub HasMoved : ℕ → Pass → Pass → Type 0
   HasMoved at before after = HasMade (λ calls. AreMoves at (HasEnded after) calls) before after
 
   -- one dead letter was moved
-  abbrev pub HasMovedOne : ℕ → Knowledge → Knowledge → Type 0
+  abbrev pub HasMovedOne : ℕ → Pass → Pass → Type 0
   HasMovedOne at before after = HasMade (λ calls. (asks moves : Call) × (calls ≡ asks ∷ moves ∷ []) × IsMove at asks moves × (is_ok moves.reply ≡ true)) before after

@@ -4,7 +4,7 @@ use Rattle.std.specs.Arc.{arc_value}
 use Rattle.atomic_table.specs.Seated.{TableId}
 use Rattle.queue_core.specs.declared.command.Command.{Command}
 use Rattle.queue_core.specs.declared.command.Command.TheVariants as commands
-use Rattle.desk.specs.Views.{Knowledge, HasCalled, IsKnown}
+use Rattle.desk.specs.Views.{Pass, HasCalled, IsKnown}
 use Rattle.queue_actor.specs.Answered.{Answered}
 use Rattle.queue_actor.specs.Calling.{HasAsked}
 use Rattle.queue_actor.specs.declared.mail.Ask.{Ask}
@@ -14,12 +14,12 @@ use Rattle.queue_actor.specs.declared.mail.Mail.TheVariants as mails
 -- what an ask asks: of which desk, with what its pass knows, at which moment, which command, and until when it may wait
 pub record Question : Type 0 where
   pub desk : TableId
-  pub pass : Knowledge
+  pub pass : Pass
   pub moment : ℕ
   pub command : Command
   pub wait_until : ℕ
 
-abbrev pub question : TableId → Knowledge → ℕ → Command → ℕ → Question
+abbrev pub question : TableId → Pass → ℕ → Command → ℕ → Question
 question desk pass moment command wait_until =
     record { desk = desk; pass = pass; moment = moment; command = command; wait_until = wait_until }
 

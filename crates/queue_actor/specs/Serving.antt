@@ -7,7 +7,7 @@ use Rattle.queue_core.specs.declared.command.Command.{Command}
 use Rattle.queue_core.specs.declared.command.Command.TheVariants as commands
 use Rattle.queue_core.specs.declared.parcel.Parcel.{Parcel}
 use Rattle.queue_core.specs.declared.reply.Reply.{Reply}
-use Rattle.desk.specs.Views.{Knowledge}
+use Rattle.desk.specs.Views.{Pass}
 use Rattle.queue_actor.specs.declared.mail.Ask.{Ask}
 use Rattle.queue_actor.specs.declared.mail.Mail.{Mail}
 use Rattle.queue_actor.specs.declared.mail.Mail.TheVariants as mails
@@ -63,7 +63,7 @@ module _ {P S Told : Type 0} where
       (first rest : List (MailboxEvent (Mail P S Told) S Answered)) × IsServedAt at r first × (happened ≡ first ++ rest) × AreServedAt at rs rest
 
   -- A poll that waits is looked at, at a moment, and it is told whether it goes on waiting: it does not where nobody waits for its answer any more, and where it is asked
-  abbrev pub LooksAt : ℕ → ℕ → Bool → Knowledge → Ask P S Told → List (MailboxEvent (Mail P S Told) S Answered) → Bool → Knowledge → Type 0
+  abbrev pub LooksAt : ℕ → ℕ → Bool → Pass → Ask P S Told → List (MailboxEvent (Mail P S Told) S Answered) → Bool → Pass → Type 0
   LooksAt limit at quiet before r happened true after = (happened ≡ []) × KeepsWaiting limit at quiet r.wait_until true before after
   LooksAt limit at quiet before r happened false after =
       ((happened ≡ MailboxEvent.Left r.reply ∷ []) × (after ≡ before))
@@ -75,10 +75,10 @@ module _ {P S Told : Type 0} where
   with_kept false r others = others
 
   -- the polls that wait are looked at one after another at a moment, in the order in which they came
-  abbrev pub LooksOver : ℕ → ℕ → Bool → Knowledge → List (Ask P S Told) → List (MailboxEvent (Mail P S Told) S Answered) → Knowledge → List (Ask P S Told) → Type 0
+  abbrev pub LooksOver : ℕ → ℕ → Bool → Pass → List (Ask P S Told) → List (MailboxEvent (Mail P S Told) S Answered) → Pass → List (Ask P S Told) → Type 0
   LooksOver limit at quiet before [] happened after left = (happened ≡ []) × (after ≡ before) × (left ≡ [])
   LooksOver limit at quiet before (r ∷ rs) happened after left =
-      (kept : Bool) × (first rest : List (MailboxEvent (Mail P S Told) S Answered)) × (between : Knowledge) × (others : List (Ask P S Told))
+      (kept : Bool) × (first rest : List (MailboxEvent (Mail P S Told) S Answered)) × (between : Pass) × (others : List (Ask P S Told))
       × LooksAt limit at quiet before r first kept between × (happened ≡ first ++ rest) × (left ≡ with_kept kept r others)
       × LooksOver limit at kept between rs rest after others
 
@@ -105,29 +105,29 @@ module _ {P S Told : Type 0} (taken_out : ℕ → Type 0) (retargeted : ℕ → 
 -- what deliveries of dead letters tell
 module _ {P S Told T : Type 0} (told : ℕ → Parcel → Delivery T → Type 0) (taken_out : ℕ → Type 0) (retargeted : ℕ → ℕ → Type 0) where
   -- what the actor does at the moment of each mail: at a tick it looks at its queue; then it looks over the polls that wait, and moves its parcels
-  abbrev pub Goes : ℕ → ℕ → Bool → Knowledge → List (Ask P S Told) → List (MailboxEvent (Mail P S Told) S Answered) → Knowledge → List (Ask P S Told) → Type 0
+  abbrev pub Goes : ℕ → ℕ → Bool → Pass → List (Ask P S Told) → List (MailboxEvent (Mail P S Told) S Answered) → Pass → List (Ask P S Told) → Type 0
   Goes limit at is_tick before parked happened after left =
-      (quiet : Bool) × (looked between : Knowledge) × LooksAtTick limit at is_tick quiet before looked
+      (quiet : Bool) × (looked between : Pass) × LooksAtTick limit at is_tick quiet before looked
       × LooksOver limit at quiet looked parked happened between left × HasMoved told at between after
 
   -- at the end each poll that waits is asked, at the moment of the last mail
-  abbrev pub Ends : ℕ → Knowledge → List (Ask P S Told) → List (MailboxEvent (Mail P S Told) S Answered) → Knowledge → Type 0
+  abbrev pub Ends : ℕ → Pass → List (Ask P S Told) → List (MailboxEvent (Mail P S Told) S Answered) → Pass → Type 0
   Ends last before parked happened after = AreServedAt last parked happened × HasMoved told last before after
 
   -- What the actor of the queue of a uid does with mails that come one after another, where these polls wait and the last mail came at a moment: all that happens at
   -- its mailbox, in order. It ends where no mail will come any more, at the mail that says so, and behind a Close that was accepted.
-  abbrev pub Serves : ℕ → ℕ → Knowledge → List (Ask P S Told) → ℕ → List (Mail P S Told) → List (MailboxEvent (Mail P S Told) S Answered) → Knowledge → Type 0
+  abbrev pub Serves : ℕ → ℕ → Pass → List (Ask P S Told) → ℕ → List (Mail P S Told) → List (MailboxEvent (Mail P S Told) S Answered) → Pass → Type 0
   Serves uid limit before parked last [] events after =
       (happened : List (MailboxEvent (Mail P S Told) S Answered)) × (events ≡ MailboxEvent.Over ∷ happened) × Ends last before parked happened after
   Serves uid limit before parked last (m ∷ ms) events after =
       (first rest : List (MailboxEvent (Mail P S Told) S Answered)) × (wait : List (Ask P S Told)) × (at : ℕ) × (ends : Bool)
       × TakesIn taken_out retargeted uid m last parked first wait at ends × (events ≡ MailboxEvent.Brought m ∷ (first ++ rest))
       × MatchBool ends ((ms ≡ []) × Ends at before wait rest after)
-      ((second more : List (MailboxEvent (Mail P S Told) S Answered)) × (between : Knowledge) × (left : List (Ask P S Told))
+      ((second more : List (MailboxEvent (Mail P S Told) S Answered)) × (between : Pass) × (left : List (Ask P S Told))
       × Goes limit at (is_tick m) before wait second between left × (rest ≡ second ++ more) × Serves uid limit between left at ms more after)
 
   -- mails that came one after another from the front of these, until the actor ended, which it does where none is left, and all the answers that were given: those of a mailbox in memory
-  abbrev pub AllServed : ℕ → ℕ → Knowledge → List (Mail P S Told) → List (S × Answered) → Knowledge → Type 0
+  abbrev pub AllServed : ℕ → ℕ → Pass → List (Mail P S Told) → List (S × Answered) → Pass → Type 0
   AllServed uid limit before all given after =
       (served left : List (Mail P S Told)) × (events : List (MailboxEvent (Mail P S Told) S Answered)) × Serves uid limit before [] 0 served events after
       × (all ≡ brought_in events ++ left) × (given ≡ given_in events) × (HasOver events → left ≡ [])

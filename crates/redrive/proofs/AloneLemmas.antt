@@ -8,14 +8,14 @@ use Rattle.queue_core.specs.declared.command.Command.{Command}
 use Rattle.queue_core.specs.declared.parcel.Parcel.{Parcel}
 use Rattle.redrive.specs.declared.steps.HouseStep.{HouseStep}
 use Rattle.redrive.specs.declared.steps.HouseStep.TheVariants as steps
-use Rattle.redrive.specs.World.{World, queue_of_uid, step_refusal, first_parcel_in, delivery_of, accepted_number}
-use Rattle.redrive.specs.WorldRun.{HouseAnswer, Act, perform_act, hand_over_act, confirm_act, act_of, answer_of_act, answer_of_step, answer_alone}
+use Rattle.redrive.specs.House.{House, queue_of_uid, step_refusal, first_parcel_in, delivery_of, accepted_number}
+use Rattle.redrive.specs.HouseSteps.{HouseAnswer, Act, perform_act, hand_over_act, confirm_act, act_of, answer_of_act, answer_of_step, answer_alone}
 
 when-own : (b : Bool) (x : HouseAnswer) (P : HouseAnswer → Type 0) → (b ≡ true → P x) → IfSome (cond b (Some x) None) P
 when-own true x P h = h refl
 when-own false x P h = tt
 
-module _ (w : World) (uid : ℕ) (answer : HouseAnswer) where
+module _ (w : House) (uid : ℕ) (answer : HouseAnswer) where
   -- an act for the queue of one uid
   act-alone : (act : Act) (own : ℕ) → act.uid ≡ Some own → Meets answer (answer_of_act w act)
       → IfSome (cond (option_map_or (λ own. nat_eq own uid) act.uid true) (Some (act.answer (queue_of_uid w uid))) None) (λ wanted. Meets answer wanted)

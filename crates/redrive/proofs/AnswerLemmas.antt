@@ -20,11 +20,11 @@ use Rattle.redrive.specs.declared.moved.Moved.TheVariants as moved
 use Rattle.redrive.specs.declared.steps.HouseReply.{HouseReply}
 use Rattle.redrive.specs.declared.steps.HouseReply.TheVariants.{Created, Deleted, Performed, HandedOver, Confirmed}
 use Rattle.redrive.specs.declared.steps.HouseStep.TheVariants as steps
-use Rattle.redrive.specs.World.{World, with_queue, new_queue, queue_named, queue_of_uid, has_queue, target_uid, opens_queue, created_answer, create_answer, world_after_create, step_refusal, queue_answer, step_answer, takes_memory_in, takes_memory_at, world_after_command, world_after_step, taken_alone, take_answer, world_after_delete, first_parcel_in, delivery_of, moved_of, as_moved, delivered_answer, arrive_answer, hand_over_takes_memory, world_after_hand_over, is_accepted, accepted_number, confirm_takes_memory, world_after_confirm, IsRegistry}
+use Rattle.redrive.specs.House.{House, with_queue, new_queue, queue_named, queue_of_uid, has_queue, target_uid, opens_queue, created_answer, create_answer, house_after_create, step_refusal, queue_answer, step_answer, takes_memory_in, takes_memory_at, house_after_command, house_after_step, taken_alone, take_answer, house_after_delete, first_parcel_in, delivery_of, moved_of, as_moved, delivered_answer, arrive_answer, hand_over_takes_memory, house_after_hand_over, is_accepted, accepted_number, confirm_takes_memory, house_after_confirm, IsRegistry}
 use Rattle.redrive.specs.private.Halves as halves
 use Rattle.redrive.specs.Cost.{command_ticks, step_ticks, deletion_ticks, hand_over_ticks, confirm_ticks, ticks_of_change}
 use Rattle.redrive.specs.private.Cost.{IsDone}
-use Rattle.redrive.specs.WorldRun.{HouseAnswer, as_house_reply, Nothing, Opens, performs, perform_act, hand_over_act, confirm_act, act_of, found_for, answer_of_act, world_changed}
+use Rattle.redrive.specs.HouseSteps.{HouseAnswer, as_house_reply, Nothing, Opens, performs, perform_act, hand_over_act, confirm_act, act_of, found_for, answer_of_act, house_changed}
 use Rattle.redrive.proofs.KeyedLemmas.{find-unique, find-unused}
 
 either : (b : Bool) (P : Type 0) → P → MatchBool b ⊤ P
@@ -64,8 +64,8 @@ module _ {T : Type 0} (form : T → HouseReply) where
 
 -- ---- commands
 
-module _ (w new : World) (at uid : ℕ) (command : Command) (form : Reply → HouseReply) (r : Result Reply Fault) (before after : ℕ) where
-  asked-done : Meets r (queue_answer w uid at command) → (takes_memory_in w uid at command ≡ false → r ≡ queue_answer w uid at command) → new ≡ world_after_command w uid at command r
+module _ (w new : House) (at uid : ℕ) (command : Command) (form : Reply → HouseReply) (r : Result Reply Fault) (before after : ℕ) where
+  asked-done : Meets r (queue_answer w uid at command) → (takes_memory_in w uid at command ≡ false → r ≡ queue_answer w uid at command) → new ≡ house_after_command w uid at command r
       → after ≤ before + command_ticks w uid at command r → IsDone w (performs at uid command form) (as_house_reply form r) new before after
   asked-done meets exact left cost = record {
     meets = form-meets form r (queue_answer w uid at command) meets;
@@ -74,10 +74,10 @@ module _ (w new : World) (at uid : ℕ) (command : Command) (form : Reply → Ho
     cost = rw (form-memory form r) cost;
   }
 
-module _ (w new : World) (at uid : ℕ) (command : Command) (r : Result Reply Fault) (before after : ℕ) where
+module _ (w new : House) (at uid : ℕ) (command : Command) (r : Result Reply Fault) (before after : ℕ) where
   performed-by : (refused : Option Fault) → Meets r (option_map_or (λ fault. Err fault) refused (queue_answer w uid at command))
       → (option_map_or (λ fault. false) refused (takes_memory_in w uid at command) ≡ false → r ≡ option_map_or (λ fault. Err fault) refused (queue_answer w uid at command))
-      → new ≡ option_map_or (λ fault. w) refused (world_after_command w uid at command r) → after ≤ before + option_map_or (λ fault. 0) refused (command_ticks w uid at command r)
+      → new ≡ option_map_or (λ fault. w) refused (house_after_command w uid at command r) → after ≤ before + option_map_or (λ fault. 0) refused (command_ticks w uid at command r)
       → IsDone w (perform_act at uid command refused) (as_house_reply Performed r) new before after
   performed-by None meets exact left cost = asked-done w new at uid command Performed r before after meets exact left cost
   performed-by (Some fault) meets exact left cost = record {
@@ -87,13 +87,13 @@ module _ (w new : World) (at uid : ℕ) (command : Command) (r : Result Reply Fa
     cost = cost;
   }
 
-  pub performed-done : Meets r (step_answer w uid at command) → (takes_memory_at w uid at command ≡ false → r ≡ step_answer w uid at command) → new ≡ world_after_step w uid at command r
+  pub performed-done : Meets r (step_answer w uid at command) → (takes_memory_at w uid at command ≡ false → r ≡ step_answer w uid at command) → new ≡ house_after_step w uid at command r
       → after ≤ before + step_ticks w uid at command r → IsDone w (act_of w (steps.Perform at uid command)) (as_house_reply Performed r) new before after
   performed-done meets exact left cost = performed-by (step_refusal w uid command) meets exact left cost
 
 -- ---- the halves of a move
 
-module _ (w new : World) (at source : ℕ) (before after : ℕ) where
+module _ (w new : House) (at source : ℕ) (before after : ℕ) where
   source-there : (p : Parcel) → first_parcel_in w source ≡ Some p → has_queue w source ≡ true
   source-there p h = option_and_then_some (λ q. first_parcel_of q) (queue_of_uid w source) p h (λ q here k. ap is_some here)
 
@@ -104,7 +104,7 @@ module _ (w new : World) (at source : ℕ) (before after : ℕ) where
       → Meets r (cond (has_queue w source) (option_map_or (λ n. queue_answer w source at (Settle n)) number (Ok (Settled false))) (Err QueueDoesNotExist))
       → (option_map_or (λ n. takes_memory_in w source at (Settle n)) number false ≡ false
       → r ≡ cond (has_queue w source) (option_map_or (λ n. queue_answer w source at (Settle n)) number (Ok (Settled false))) (Err QueueDoesNotExist))
-      → new ≡ option_map_or (λ n. world_after_command w source at (Settle n) r) number w → after ≤ before + option_map_or (λ n. command_ticks w source at (Settle n) r) number 0
+      → new ≡ option_map_or (λ n. house_after_command w source at (Settle n) r) number w → after ≤ before + option_map_or (λ n. command_ticks w source at (Settle n) r) number 0
       → IsDone w (confirm_act at source number) (as_house_reply Confirmed r) new before after
   confirmed-by r None there meets exact left cost = record {
     meets = subst (λ (a : HouseAnswer). Meets (as_form Confirmed r) a) (idle-answer Confirmed (Settled false) (has_queue w source))
@@ -119,7 +119,7 @@ module _ (w new : World) (at source : ℕ) (before after : ℕ) where
       (λ none. exact none ∙ ap (λ (b : Bool). cond b (queue_answer w source at (Settle n)) (Err QueueDoesNotExist)) (there n refl)) left cost
 
   pub confirmed-done : (r : Result Reply Fault) → Meets r (halves.confirmed w source at) → (confirm_takes_memory w source at ≡ false → r ≡ halves.confirmed w source at)
-      → new ≡ world_after_confirm w source at r → after ≤ before + confirm_ticks w source at r → IsDone w (act_of w (steps.Confirm at source)) (as_house_reply Confirmed r) new before after
+      → new ≡ house_after_confirm w source at r → after ≤ before + confirm_ticks w source at r → IsDone w (act_of w (steps.Confirm at source)) (as_house_reply Confirmed r) new before after
   confirmed-done r meets exact left cost = confirmed-by r (accepted_number w source) accepted-there meets exact left cost
 
   moved-form : (r : Result Reply Fault) → as_house_reply HandedOver (as_moved r) ≡ as_house_reply (λ reply. HandedOver (moved_of reply)) r
@@ -140,8 +140,8 @@ module _ (w new : World) (at source : ℕ) (before after : ℕ) where
   handed-takes (Some p) = refl
 
   handed-left : (r : Result Moved Fault) (o : Option Parcel)
-      → new ≡ option_map_or (λ p. world_after_command w (delivery_of w source p).uid at (delivery_of w source p).command r) o w
-      → new ≡ world_changed w (hand_over_act w at source o).at (hand_over_act w at source o).change (as_house_reply HandedOver r)
+      → new ≡ option_map_or (λ p. house_after_command w (delivery_of w source p).uid at (delivery_of w source p).command r) o w
+      → new ≡ house_changed w (hand_over_act w at source o).at (hand_over_act w at source o).change (as_house_reply HandedOver r)
   handed-left r None left = left
   handed-left r (Some p) left = rw (form-memory HandedOver r) left
 
@@ -152,7 +152,7 @@ module _ (w new : World) (at source : ℕ) (before after : ℕ) where
   handed-cost r (Some p) cost = rw (form-memory HandedOver r) cost
 
   pub handed-done : (r : Result Moved Fault) → Meets r (arrive_answer w source at) → (hand_over_takes_memory w source at ≡ false → r ≡ arrive_answer w source at)
-      → new ≡ world_after_hand_over w source at r → after ≤ before + hand_over_ticks w source at r
+      → new ≡ house_after_hand_over w source at r → after ≤ before + hand_over_ticks w source at r
       → IsDone w (act_of w (steps.HandOver at source)) (as_house_reply HandedOver r) new before after
   handed-done r meets exact left cost =
       let o : Option Parcel = first_parcel_in w source in
@@ -165,18 +165,18 @@ module _ (w new : World) (at source : ℕ) (before after : ℕ) where
 
 -- ---- creating and deleting
 
-module _ (w : World) (name : List ℕ) (h : IsRegistry w) where
+module _ (w : House) (name : List ℕ) (h : IsRegistry w) where
   -- the queue that a create is for has the name
   named-uid : (o : Option QueueHistory) → queue_named w name ≡ o → queue_of_uid w (option_map_or (λ q. q.uid) o w.next_uid) ≡ o
   named-uid None e = find-unused (λ (q : QueueHistory). q.uid) w.next_uid w.queues h.used
   named-uid (Some q) e = find-unique nat_eq (λ (q : QueueHistory). q.uid) (λ x. bytes_eq x.name name) w.queues q h.uids (eq-eqb q.uid q.uid refl) e
 
-  module _ (new : World) (at : ℕ) (wish : RequestedAttributes) (r : Result ℕ Fault) (before after : ℕ) where
+  module _ (new : House) (at : ℕ) (wish : RequestedAttributes) (r : Result ℕ Fault) (before after : ℕ) where
     created-as : as_house_reply Created (create_answer w name wish) ≡ answer_of_act w (act_of w (steps.Create at name wish))
     created-as = sym (ap (λ (o : Option QueueHistory). as_house_reply Created (created_answer w name wish o)) (named-uid (queue_named w name) refl))
 
     created-left : (opens : Bool) (r : Result ℕ Fault) → cond (is_out_of_memory r) w (cond opens (with_queue w (new_queue w at name wish)) w)
-        ≡ world_changed w at (cond opens (Opens name (settings_with default_settings wish (target_uid w wish))) Nothing) (as_house_reply Created r)
+        ≡ house_changed w at (cond opens (Opens name (settings_with default_settings wish (target_uid w wish))) Nothing) (as_house_reply Created r)
     created-left true (Ok uid) = refl
     created-left true (Err fault) = refl
     created-left false r = same-either (is_out_of_memory r) where
@@ -189,7 +189,7 @@ module _ (w : World) (name : List ℕ) (h : IsRegistry w) where
     created-cost true calm = omega arith
     created-cost false calm = omega arith
 
-    pub created-done : Meets r (create_answer w name wish) → (opens_queue w name wish ≡ false → r ≡ create_answer w name wish) → new ≡ world_after_create w at name wish r → after ≡ before
+    pub created-done : Meets r (create_answer w name wish) → (opens_queue w name wish ≡ false → r ≡ create_answer w name wish) → new ≡ house_after_create w at name wish r → after ≡ before
         → IsDone w (act_of w (steps.Create at name wish)) (as_house_reply Created r) new before after
     created-done meets known left calm = record {
       meets = subst (λ (a : HouseAnswer). Meets (as_form Created r) a) created-as (form-meets Created r (create_answer w name wish) meets);
@@ -198,8 +198,8 @@ module _ (w : World) (name : List ℕ) (h : IsRegistry w) where
       cost = created-cost (opens_queue w name wish) calm;
     }
 
-pub deleted-done : (w new : World) (at uid : ℕ) (r : Result QueueHistory Fault) (before after : ℕ) → Meets r (take_answer w uid at) → (queue_of_uid w uid ≡ None → r ≡ Err QueueDoesNotExist)
-    → new ≡ world_after_delete w uid at r → after ≤ before + deletion_ticks w uid at r → IsDone w (act_of w (steps.Delete at uid)) (as_house_reply Deleted r) new before after
+pub deleted-done : (w new : House) (at uid : ℕ) (r : Result QueueHistory Fault) (before after : ℕ) → Meets r (take_answer w uid at) → (queue_of_uid w uid ≡ None → r ≡ Err QueueDoesNotExist)
+    → new ≡ house_after_delete w uid at r → after ≤ before + deletion_ticks w uid at r → IsDone w (act_of w (steps.Delete at uid)) (as_house_reply Deleted r) new before after
 deleted-done w new at uid r before after meets absent left cost = record {
   meets = form-meets Deleted r (take_answer w uid at) meets;
   exact = λ none.

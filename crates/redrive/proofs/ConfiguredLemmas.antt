@@ -12,7 +12,7 @@ use Rattle.queue_config.specs.Config.{Configuration, configured_uid, names_of, r
 use Rattle.queue_config.specs.declared.config.ConfiguredAlarm.{ConfiguredAlarm}
 use Rattle.queue_config.specs.declared.config.ConfiguredQueue.{ConfiguredQueue}
 use Rattle.queue_core.specs.Queue.{QueueHistory}
-use Rattle.redrive.specs.World.{World, empty_world, new_world, next_queue, with_queue, found_uid}
+use Rattle.redrive.specs.House.{House, empty_house, new_house, next_queue, with_queue, found_uid}
 
 same_either_way : (xs ys : List ℕ) → bytes_eq xs ys ≡ bytes_eq ys xs
 same_either_way xs ys = by_tests (bytes_eq xs ys) (bytes_eq ys xs) (bytes_eq-Decides xs ys) (bytes_eq-Decides ys xs) where
@@ -31,10 +31,10 @@ found_step None true q i later is = ap (λ (n : ℕ). Some n) is
 found_step None false q i later is = refl
 
 module _ (at : ℕ) (alarms : List ConfiguredAlarm) (name : List ℕ) where
-  abbrev opened : World → List ConfiguredQueue → World
+  abbrev opened : House → List ConfiguredQueue → House
   opened w qs = fold (λ w q. with_queue w (next_queue w at q.name q.settings (rules_of alarms w.next_uid))) w qs
 
-  found_in : (qs : List ConfiguredQueue) (w : World) (i : ℕ) → w.next_uid ≡ i + 1
+  found_in : (qs : List ConfiguredQueue) (w : House) (i : ℕ) → w.next_uid ≡ i + 1
       → found_uid (opened w qs) name ≡ option_or (found_uid w name) (option_map (λ place. place + 1) (position_from (λ other. bytes_eq name other) i (names_of qs)))
   found_in [] w i is = sym (or_none (found_uid w name)) where
     or_none : (o : Option ℕ) → option_or o None ≡ o
@@ -50,7 +50,7 @@ module _ (at : ℕ) (alarms : List ConfiguredAlarm) (name : List ℕ) where
       ∙ ap (λ (o : Option QueueHistory). option_or (option_map (λ q. q.uid) o) (option_map (λ place. place + 1) later)) more
       ∙ found_step (found w.queues) (bytes_eq name q.name) next i later is
 
-pub found-configured : (config : Configuration) (at : ℕ) (name : List ℕ) → found_uid (new_world config at) name ≡ configured_uid name (names_of config.queues)
+pub found-configured : (config : Configuration) (at : ℕ) (name : List ℕ) → found_uid (new_house config at) name ≡ configured_uid name (names_of config.queues)
 found-configured config at name =
-    found_in at config.alarms name config.queues (empty_world config.limits) 0 (omega arith)
+    found_in at config.alarms name config.queues (empty_house config.limits) 0 (omega arith)
     ∙ ap (λ (o : Option ℕ). option_map (λ place. place + 1) o) (sym (position_from-zero (λ (other : List ℕ). bytes_eq name other) (names_of config.queues)))

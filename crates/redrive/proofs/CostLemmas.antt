@@ -5,7 +5,7 @@ use Rattle.std.proofs.lemmas.Option.{slice_get-get_or}
 use Rattle.std.proofs.lemmas.List.Sums.{sum_by_more}
 use Rattle.queue_core.specs.Queue.{QueueHistory, at_moment}
 use Rattle.queue_core.specs.Cost.{most_ticks}
-use Rattle.redrive.specs.World.{World}
+use Rattle.redrive.specs.House.{House}
 use Rattle.redrive.specs.Cost.{moment_ticks}
 use Rattle.redrive.proofs.RegistryLemmas.{item-next}
 
@@ -24,14 +24,14 @@ looked-next at qs now i item new begun spent spent' is l read changed so_far mor
     within spent spent' begun a b b' c h k same all = omega arith
 
 -- what is so of the queue at a place
-pub at-place : {w x : World} (place : ℕ) (q : QueueHistory) (P : QueueHistory → Type 0) → w ≡ x → place < length x.queues → q ≡ get_or w.queues place q → P q → IfSome (slice_get x.queues place) P
+pub at-place : {w x : House} (place : ℕ) (q : QueueHistory) (P : QueueHistory → Type 0) → w ≡ x → place < length x.queues → q ≡ get_or w.queues place q → P q → IfSome (slice_get x.queues place) P
 at-place {w} {x} place q P same l is h =
-    let within : place < length w.queues = subst (λ (w : World). place < length w.queues) (sym same) l in
-    subst (λ (w : World). IfSome (slice_get w.queues place) P) same
+    let within : place < length w.queues = subst (λ (w : House). place < length w.queues) (sym same) l in
+    subst (λ (w : House). IfSome (slice_get w.queues place) P) same
     (subst (λ (o : Option QueueHistory). IfSome o P) (sym (slice_get-get_or w.queues place q within)) (subst P is h))
 
 -- the queue at a place is changed
-pub done-at : {w x : World} (place : ℕ) (q new : QueueHistory) (change : QueueHistory → QueueHistory) (ticks ticks' : ℕ) → w ≡ x → place < length x.queues → q ≡ get_or w.queues place q → new ≡ change q
+pub done-at : {w x : House} (place : ℕ) (q new : QueueHistory) (change : QueueHistory → QueueHistory) (ticks ticks' : ℕ) → w ≡ x → place < length x.queues → q ≡ get_or w.queues place q → new ≡ change q
     → ticks' ≤ ticks + most_ticks q new → IfSome (slice_get x.queues place) (λ q. ticks' ≤ ticks + most_ticks q (change q))
 done-at {w} {x} place q new change ticks ticks' same l is changed cost =
     at-place place q (λ q. ticks' ≤ ticks + most_ticks q (change q)) same l is (subst (λ (r : QueueHistory). ticks' ≤ ticks + most_ticks q r) changed cost)

@@ -18,7 +18,7 @@ use Rattle.queue_core.specs.declared.reply.Reply.{Reply}
 use Rattle.queue_core.specs.declared.reply.Reply.TheVariants as replies
 use Rattle.queue_core.specs.Queue.{QueueHistory, Outcome, at_moment, rebased_where, outcome_of, outcome_at, takes_memory, hands_over, reply_without_memory, with_optional_event, after_answer, as_reply, first_parcel_of}
 use Rattle.redrive.specs.declared.moved.Moved.{Moved}
-use Rattle.redrive.specs.World.{World, queue_of_uid, has_queue, queue_answer, takes_memory_in, with_queue_changed, world_after_command, first_parcel_in, delivery_of, as_moved, hand_over_answer, hand_over_takes_memory, world_after_hand_over, IsRegistry}
+use Rattle.redrive.specs.House.{House, queue_of_uid, has_queue, queue_answer, takes_memory_in, with_queue_changed, house_after_command, first_parcel_in, delivery_of, as_moved, hand_over_answer, hand_over_takes_memory, house_after_hand_over, IsRegistry}
 use Rattle.queue_core.specs.Cost.{most_ticks}
 use Rattle.redrive.specs.Cost.{change_ticks, command_ticks, hand_over_ticks}
 use Rattle.redrive.proofs.PlaceLemmas.{changed-alike}
@@ -28,7 +28,7 @@ use Rattle.redrive.proofs.AnswerLemmas.{meets-itself}
 -- ---- the parcel that waits first
 
 -- what its origin and its queue are told of
-pub record IsFirst (w : World) (source : ℕ) (origin : Origin) (target : ℕ) : Type 0 where
+pub record IsFirst (w : House) (source : ℕ) (origin : Origin) (target : ℕ) : Type 0 where
   pub parcel : Parcel
   pub first : first_parcel_in w source ≡ Some parcel
   pub from : parcel.origin ≡ origin
@@ -41,7 +41,7 @@ first-of (Some p) origin target h =
     let same = same_Some (p.origin, p.target) (origin, target) h in
     (p, (refl, (ap (λ x. x.0) same, ap (λ x. x.1) same)))
 
-pub is-first : (w : World) (source : ℕ) (origin : Origin) (target : ℕ) → option_map {U = Origin × ℕ} (λ p. (p.origin, p.target)) (first_parcel_in w source) ≡ Some (origin, target)
+pub is-first : (w : House) (source : ℕ) (origin : Origin) (target : ℕ) → option_map {U = Origin × ℕ} (λ p. (p.origin, p.target)) (first_parcel_in w source) ≡ Some (origin, target)
     → IsFirst w source origin target
 is-first w source origin target h =
     let found = first-of (first_parcel_in w source) origin target h in
@@ -50,21 +50,21 @@ is-first w source origin target h =
 -- ---- a hand-over, by the command that it is
 
 -- the parcel is handed over by this command in the queue of this uid
-pub record IsDelivery (w : World) (source uid : ℕ) (command : Command) : Type 0 where
+pub record IsDelivery (w : House) (source uid : ℕ) (command : Command) : Type 0 where
   pub parcel : Parcel
   pub there : has_queue w source ≡ true
   pub first : first_parcel_in w source ≡ Some parcel
   pub uid_is : (delivery_of w source parcel).uid ≡ uid
   pub command_is : (delivery_of w source parcel).command ≡ command
 
-module _ (w : World) (source uid : ℕ) (command : Command) (d : IsDelivery w source uid command) (at : ℕ) where
+module _ (w : House) (source uid : ℕ) (command : Command) (d : IsDelivery w source uid command) (at : ℕ) where
   pub delivered-answer : hand_over_answer w source at ≡ as_moved (queue_answer w uid at command)
   delivered-answer = rw (d.first, d.uid_is, d.command_is) refl
 
   pub delivered-takes : hand_over_takes_memory w source at ≡ takes_memory_in w uid at command
   delivered-takes = rw (d.first, d.uid_is, d.command_is) refl
 
-  pub delivered-left : {T : Type 0} (answer : Result T Fault) → world_after_hand_over w source at answer ≡ world_after_command w uid at command answer
+  pub delivered-left : {T : Type 0} (answer : Result T Fault) → house_after_hand_over w source at answer ≡ house_after_command w uid at command answer
   delivered-left answer = rw (d.first, d.uid_is, d.command_is) refl
 
   pub delivered-ticks : {T : Type 0} (answer : Result T Fault) → hand_over_ticks w source at answer ≡ command_ticks w uid at command answer
@@ -72,7 +72,7 @@ module _ (w : World) (source uid : ℕ) (command : Command) (d : IsDelivery w so
       ap (λ (o : Option Parcel). option_map_or (λ p. command_ticks w (delivery_of w source p).uid at (delivery_of w source p).command answer) o 0) d.first
       ∙ (ap (λ (u : ℕ). command_ticks w u at (delivery_of w source d.parcel).command answer) d.uid_is ∙ ap (λ (k : Command). command_ticks w uid at k answer) d.command_is)
 
-module _ (w : World) (source : ℕ) (there : has_queue w source ≡ true) (origin : Origin) (target : ℕ) (f : IsFirst w source origin target) where
+module _ (w : House) (source : ℕ) (there : has_queue w source ≡ true) (origin : Origin) (target : ℕ) (f : IsFirst w source origin target) where
   pub orphan-delivery : has_queue w target ≡ false → IsDelivery w source source (Orphan target)
   orphan-delivery gone =
       let absent : has_queue w f.parcel.target ≡ false = ap (has_queue w) f.goes_to ∙ gone in
@@ -125,7 +125,7 @@ module _ (at : ℕ) (p : Parcel) where
   told-by None answer h = absurd (none-some answer h)
   told-by (Some q) answer h = (q, (refl, told (takes_memory (asked q)) (asked q).reply answer h))
 
-  module _ (w : World) (source target : ℕ) (there : has_queue w source ≡ true) (first : first_parcel_in w source ≡ Some p) (goes_to : p.target ≡ target) where
+  module _ (w : House) (source target : ℕ) (there : has_queue w source ≡ true) (first : first_parcel_in w source ≡ Some p) (goes_to : p.target ≡ target) where
     delivery : has_queue w target ≡ true → IsDelivery w source target (Arrive p)
     delivery here =
         arrive-delivery w source there p.origin target (record { parcel = p; first = first; from = refl; goes_to = goes_to }) here
@@ -139,7 +139,7 @@ module _ (at : ℕ) (p : Parcel) where
           let t = told-by (queue_of_uid w target) answer (sym is) in
           sym (delivered-answer w source target (Arrive p) (delivery here) at ∙ rw t.1.0 (ap as_moved t.1.1.1))
 
-      pub left-asked : {T : Type 0} (r : Result T Fault) → IsRegistry w → with_queue_changed w target (λ q. at_moment q at) ≡ world_after_hand_over w source at r
+      pub left-asked : {T : Type 0} (r : Result T Fault) → IsRegistry w → with_queue_changed w target (λ q. at_moment q at) ≡ house_after_hand_over w source at r
       left-asked r registry =
           let t = told-by (queue_of_uid w target) answer (sym is) in
           changed-alike w target t.0 t.1.0 (λ q. at_moment q at) (λ q. after_answer q at (Arrive p) r) registry
@@ -161,14 +161,14 @@ come-there : (at : ℕ) (p : Parcel) (o : Option QueueHistory) → option_and_th
 come-there at p None = refl
 come-there at p (Some q) = refl
 
-module _ (w : World) (source at : ℕ) (there : has_queue w source ≡ true) (origin : Origin) (target : ℕ) (f : IsFirst w source origin target) (here : has_queue w target ≡ true) (between : World) (came : between ≡ with_queue_changed w target (λ q. at_moment q at)) (o : Option (Result Arrival Fault))
+module _ (w : House) (source at : ℕ) (there : has_queue w source ≡ true) (origin : Origin) (target : ℕ) (f : IsFirst w source origin target) (here : has_queue w target ≡ true) (between : House) (came : between ≡ with_queue_changed w target (λ q. at_moment q at)) (o : Option (Result Arrival Fault))
     (tells : (parcel : Parcel) → parcel.origin ≡ origin → option_map (λ answer. as_reply (λ x. replies.Arrived x) answer) o
     ≡ option_and_then (λ q. reply_without_memory (outcome_of q (Arrive parcel))) (queue_of_uid between target)) where
   told-there : option_map (λ answer. as_reply (λ x. replies.Arrived x) answer) o ≡ option_and_then (λ q. reply_without_memory (outcome_at q at (Arrive f.parcel))) (queue_of_uid w target)
   told-there =
       tells f.parcel f.from
       ∙ ap (λ (o : Option QueueHistory). option_and_then (λ q. reply_without_memory (outcome_of q (Arrive f.parcel))) o)
-      (ap (λ (v : World). queue_of_uid v target) came ∙ changed-queue w target target (λ q. at_moment q at) true (λ q. refl) (eq-eqb target target refl))
+      (ap (λ (v : House). queue_of_uid v target) came ∙ changed-queue w target target (λ q. at_moment q at) true (λ q. refl) (eq-eqb target target refl))
       ∙ come-there at f.parcel (queue_of_uid w target)
 
   -- it is one to accept, or a checkpoint comes first
@@ -190,7 +190,7 @@ module _ (w : World) (source at : ℕ) (there : has_queue w source ≡ true) (or
     pub answered-ticks : {T : Type 0} (r : Result T Fault) → change_ticks w target (λ q. at_moment q at) ≡ hand_over_ticks w source at r
     answered-ticks r = ticks-asked at f.parcel w source target there f.first f.goes_to here (as_reply (λ x. replies.Arrived x) answer) told-so r
 
-    pub answered-left : {T : Type 0} (r : Result T Fault) → IsRegistry w → between ≡ world_after_hand_over w source at r
+    pub answered-left : {T : Type 0} (r : Result T Fault) → IsRegistry w → between ≡ house_after_hand_over w source at r
     answered-left r registry = came ∙ left-asked at f.parcel w source target there f.first f.goes_to here (as_reply (λ x. replies.Arrived x) answer) told-so r registry
 
 -- ---- where no memory is found for a parcel that its queue wants
@@ -206,8 +206,8 @@ ran-out {T} fault x h = same_memory Moved T fault ∙ by_test (is_out_of_memory 
   by_test true h = refl
   by_test false h = absurd cc
 
-module _ (w : World) (source at : ℕ) (target : ℕ) (p : Parcel) (d : IsDelivery w source target (Arrive p)) (fault : Fault) (memory : is_out_of_memory {T = Moved} (Err fault) ≡ true) where
-  pub unmade-left : (new : World) → new ≡ with_queue_changed w target (λ q. at_moment q at) → new ≡ world_after_hand_over {T = Moved} w source at (Err fault)
+module _ (w : House) (source at : ℕ) (target : ℕ) (p : Parcel) (d : IsDelivery w source target (Arrive p)) (fault : Fault) (memory : is_out_of_memory {T = Moved} (Err fault) ≡ true) where
+  pub unmade-left : (new : House) → new ≡ with_queue_changed w target (λ q. at_moment q at) → new ≡ house_after_hand_over {T = Moved} w source at (Err fault)
   unmade-left new e =
       e ∙ ap (λ (b : Bool). with_queue_changed w target (λ q. cond b (at_moment q at) (with_optional_event (rebased_where (outcome_at q at (Arrive p)).rebases (at_moment q at)) (outcome_at q at (Arrive p)).event))) (sym memory)
       ∙ sym (delivered-left w source target (Arrive p) d at {T = Moved} (Err fault))
@@ -217,12 +217,12 @@ module _ (w : World) (source at : ℕ) (target : ℕ) (p : Parcel) (d : IsDelive
       ap (λ (b : Bool). change_ticks w target (λ q. cond b (at_moment q at) (with_optional_event (rebased_where (outcome_at q at (Arrive p)).rebases (at_moment q at)) (outcome_at q at (Arrive p)).event))) (sym memory)
       ∙ sym (delivered-ticks w source target (Arrive p) d at {T = Moved} (Err fault))
 
-no-parcel : (w : World) (source : ℕ) → has_queue w source ≡ false → first_parcel_in w source ≡ None
+no-parcel : (w : House) (source : ℕ) → has_queue w source ≡ false → first_parcel_in w source ≡ None
 no-parcel w source h = by_found (queue_of_uid w source) h where
   by_found : (o : Option QueueHistory) → is_some o ≡ false → option_and_then (λ q. first_parcel_of q) o ≡ None
   by_found None h = refl
   by_found (Some q) h = absurd cc
 
 -- a hand-over of a queue that is not there leaves everything as it was
-pub absent-left : (w : World) (source at : ℕ) (answer : Result Moved Fault) → has_queue w source ≡ false → w ≡ world_after_hand_over w source at answer
+pub absent-left : (w : House) (source at : ℕ) (answer : Result Moved Fault) → has_queue w source ≡ false → w ≡ house_after_hand_over w source at answer
 absent-left w source at answer gone = rw (no-parcel w source gone) refl

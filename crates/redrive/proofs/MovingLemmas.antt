@@ -25,7 +25,7 @@ use Rattle.queue_core.proofs.SoundLemmas.{IsSound}
 use Rattle.queue_core.proofs.WholeLemmas.{acting_alike, parcel_alike}
 use Rattle.redrive.specs.declared.moved.Moved.{Moved}
 use Rattle.redrive.specs.declared.moved.Moved.TheVariants as moved
-use Rattle.redrive.specs.World.{World, queue_of_uid, has_queue, first_parcel_in, AddressedCommand, delivery_of, as_moved, delivered_answer, arrive_answer, world_after_command, world_after_hand_over, needs_confirmation, is_accepted, accepted_number, confirm_answer, confirm_takes_memory, world_after_confirm, answer_of_halves, IsHandedOver, IsMoved}
+use Rattle.redrive.specs.House.{House, queue_of_uid, has_queue, first_parcel_in, AddressedCommand, delivery_of, as_moved, delivered_answer, arrive_answer, house_after_command, house_after_hand_over, needs_confirmation, is_accepted, accepted_number, confirm_answer, confirm_takes_memory, house_after_confirm, answer_of_halves, IsHandedOver, IsMoved}
 use Rattle.redrive.specs.Cost.{hand_over_ticks, confirm_ticks, CostsMove}
 use Rattle.queue_core.proofs.PushLemmas.{Line, accepted-push, content-push, numbered-kept}
 use Rattle.queue_core.proofs.PendingLemmas.{filter_all, pending_transfers-push}
@@ -82,7 +82,7 @@ arrival-first q p first (Some fault) accepted h = h
 arrival-first q p first None true h = h
 arrival-first q p first None false h = first-arrival q.clock p q first h
 
--- ---- the world between the halves
+-- ---- the house between the halves
 
 -- an orphaning is nothing to be confirmed
 orphaned-moved : (q : QueueHistory) (target : ℕ) (refused : Option Fault) (m : Moved) → Ok m ≡ as_moved (unless_refused refused (orphan_outcome q target)).reply → needs_confirmation (Ok m) ≡ true → ⊥
@@ -95,11 +95,11 @@ present : (o : Option QueueHistory) → is_some o ≡ true → (q : QueueHistory
 present None h = absurd cc
 present (Some q) h = (q, refl)
 
-abbrev pub delivery : World → ℕ → Parcel → Bool → AddressedCommand
+abbrev pub delivery : House → ℕ → Parcel → Bool → AddressedCommand
 delivery w source p there = cond there (record { uid = p.target; command = Arrive p }) (record { uid = source; command = Orphan p.target })
 
 -- a parcel is there, and its queue was answered so
-pub answered-parcel : (w : World) (source at : ℕ) (m : Moved) (there : Bool) (o : Option Parcel) → (m ≡ moved.None → ⊥)
+pub answered-parcel : (w : House) (source at : ℕ) (m : Moved) (there : Bool) (o : Option Parcel) → (m ≡ moved.None → ⊥)
     → Ok m ≡ cond there (option_map_or (λ p. delivered_answer w at (delivery_of w source p)) o (Ok moved.None)) (Err QueueDoesNotExist)
     → (p : Parcel) × (o ≡ Some p) × (Ok m ≡ delivered_answer w at (delivery_of w source p))
 answered-parcel w source at m false o some k = absurd cc
@@ -110,14 +110,14 @@ answered-parcel w source at m true (Some p) some k = (p, refl, k)
 abbrev pub acting_at : QueueHistory → ℕ → Command → QueueHistory
 acting_at q at command = rebased_where (outcome_at q at command).rebases (at_moment q at)
 
-module _ (w : World) (source at : ℕ) (m : Moved) (confirmed : needs_confirmation (Ok m) ≡ true) (sound : (s : QueueHistory) → queue_of_uid w source ≡ Some s → IsSound s.lines s.clock) where
+module _ (w : House) (source at : ℕ) (m : Moved) (confirmed : needs_confirmation (Ok m) ≡ true) (sound : (s : QueueHistory) → queue_of_uid w source ≡ Some s → IsSound s.lines s.clock) where
   module _ (p : Parcel) (t s : QueueHistory) (there : queue_of_uid w p.target ≡ Some t) (here : queue_of_uid w source ≡ Some s) (first : first_parcel_of s ≡ Some p)
       (answered : Ok m ≡ as_moved (outcome_at t at (Arrive p)).reply) where
     abbrev arrived : QueueHistory → QueueHistory
     arrived q = after_answer {T = Moved} q at (Arrive p) (Ok m)
 
-    abbrev received : World
-    received = world_after_command w p.target at (Arrive p) (Ok m)
+    abbrev received : House
+    received = house_after_command w p.target at (Arrive p) (Ok m)
 
     first-between : (own : Bool) → nat_eq p.target source ≡ own → first_parcel_in received source ≡ Some p
     first-between true e =
@@ -141,7 +141,7 @@ module _ (w : World) (source at : ℕ) (m : Moved) (confirmed : needs_confirmati
 
   delivered-number : (p : Parcel) (s : QueueHistory) (there : Bool) (o : Option QueueHistory) → queue_of_uid w p.target ≡ o → is_some o ≡ there
       → queue_of_uid w source ≡ Some s → first_parcel_of s ≡ Some p → Ok m ≡ delivered_answer w at (delivery w source p there)
-      → accepted_number (world_after_command w (delivery w source p there).uid at (delivery w source p there).command (Ok m)) source ≡ Some p.origin.number
+      → accepted_number (house_after_command w (delivery w source p there).uid at (delivery w source p there).command (Ok m)) source ≡ Some p.origin.number
   delivered-number p s true None is there here first h = absurd cc
   delivered-number p s true (Some t) is there here first h = number-between p t s is here first (rw is at h)
   delivered-number p s false o is there here first h = absurd (orphaned-moved (acting_at s at (Orphan p.target)) p.target (first_refusal (acting_at s at (Orphan p.target))) m (rw here at h) confirmed)
@@ -150,12 +150,12 @@ module _ (w : World) (source at : ℕ) (m : Moved) (confirmed : needs_confirmati
   at-source p h = option_and_then_some _ (queue_of_uid w source) p h (λ s here first. (s, (here, first)))
 
   pub moved-number : Ok m ≡ arrive_answer w source at
-      → (p : Parcel) × ((first_parcel_in w source ≡ Some p) × (accepted_number (world_after_hand_over {T = Moved} w source at (Ok m)) source ≡ Some p.origin.number))
+      → (p : Parcel) × ((first_parcel_in w source ≡ Some p) × (accepted_number (house_after_hand_over {T = Moved} w source at (Ok m)) source ≡ Some p.origin.number))
   moved-number h =
       let handed = answered-parcel w source at m (has_queue w source) (first_parcel_in w source) (λ none. false≢true (subst (λ (m : Moved). needs_confirmation (Ok m) ≡ true) none confirmed)) h in
       let p = handed.0 in
       let found = at-source p handed.1 in
-      let left : Option Parcel → World = λ o. option_map_or (λ p. world_after_command {T = Moved} w (delivery_of w source p).uid at (delivery_of w source p).command (Ok m)) o w in
+      let left : Option Parcel → House = λ o. option_map_or (λ p. house_after_command {T = Moved} w (delivery_of w source p).uid at (delivery_of w source p).command (Ok m)) o w in
       (p, (handed.1, ap (λ (o : Option Parcel). accepted_number (left o) source) handed.1 ∙ (delivered-number p found.0 (has_queue w p.target) (queue_of_uid w p.target) refl refl found.1.0 found.1.1 handed.2)))
 
 -- ---- the whole move
@@ -164,17 +164,17 @@ pub needs-Ok : (answer : Result Moved Fault) → needs_confirmation answer ≡ t
 needs-Ok (Ok m) h = (m, refl)
 needs-Ok (Err fault) h = absurd cc
 
-pub handed-Ok : (old between : World) (source at : ℕ) (m : Moved) → IsHandedOver old source at (Ok m) between → between ≡ world_after_hand_over {T = Moved} old source at (Ok m)
+pub handed-Ok : (old between : House) (source at : ℕ) (m : Moved) → IsHandedOver old source at (Ok m) between → between ≡ house_after_hand_over {T = Moved} old source at (Ok m)
 handed-Ok old between source at m h = h.left
 
-module _ (old between new : World) (source at : ℕ) (sound : (s : QueueHistory) → queue_of_uid old source ≡ Some s → IsSound s.lines s.clock) (half : Result Moved Fault) (meets : Meets half (arrive_answer old source at)) (first_half : IsHandedOver old source at half between) where
+module _ (old between new : House) (source at : ℕ) (sound : (s : QueueHistory) → queue_of_uid old source ≡ Some s → IsSound s.lines s.clock) (half : Result Moved Fault) (meets : Meets half (arrive_answer old source at)) (first_half : IsHandedOver old source at half between) where
   -- with a confirmation
   abbrev pub IsMoved-confirmed : (m : Moved) (answer : Result Moved Fault) (confirmed : Result Reply Fault) → half ≡ Ok m → needs_confirmation (Ok m) ≡ true
       → Meets confirmed (confirm_answer between source at) → (confirm_takes_memory between source at ≡ false → confirmed ≡ confirm_answer between source at)
-      → answer ≡ answer_of_halves (Ok m) confirmed → new ≡ world_after_confirm between source at confirmed
+      → answer ≡ answer_of_halves (Ok m) confirmed → new ≡ house_after_confirm between source at confirmed
       → IsMoved old source at answer new
   IsMoved-confirmed m answer confirmed is needs second exact answered left =
-      let same : between ≡ world_after_hand_over {T = Moved} old source at (Ok m) = handed-Ok old between source at m (subst (λ (r : Result Moved Fault). IsHandedOver old source at r between) is first_half) in
+      let same : between ≡ house_after_hand_over {T = Moved} old source at (Ok m) = handed-Ok old between source at m (subst (λ (r : Result Moved Fault). IsHandedOver old source at r between) is first_half) in
       let number = moved-number old source at m needs sound (subst (λ (r : Result Moved Fault). Meets r (arrive_answer old source at)) is meets) in
       record {
         handed_over = half;
@@ -196,7 +196,7 @@ module _ (old between new : World) (source at : ℕ) (sound : (s : QueueHistory)
 
   pub CostsMove-confirmed : (m : Moved) (answer : Result Moved Fault) (confirmed : Result Reply Fault) → half ≡ Ok m → needs_confirmation (Ok m) ≡ true
       → Meets confirmed (confirm_answer between source at) → (confirm_takes_memory between source at ≡ false → confirmed ≡ confirm_answer between source at)
-      → answer ≡ answer_of_halves (Ok m) confirmed → new ≡ world_after_confirm between source at confirmed
+      → answer ≡ answer_of_halves (Ok m) confirmed → new ≡ house_after_confirm between source at confirmed
       → (begun spent spent' : ℕ) → spent ≤ begun + hand_over_ticks old source at half → spent' ≤ spent + confirm_ticks between source at confirmed
       → CostsMove old source at answer new begun spent'
   CostsMove-confirmed m answer confirmed is needs second exact answered left begun spent spent' first_cost second_cost =
@@ -216,7 +216,7 @@ module _ (old between new : World) (source at : ℕ) (sound : (s : QueueHistory)
       two-halves begun spent spent' a b b' h k same = omega arith
 
 -- with none
-pub CostsMove-unconfirmed : (old new : World) (source at : ℕ) (half answer : Result Moved Fault) → Meets half (arrive_answer old source at) → IsHandedOver old source at half new
+pub CostsMove-unconfirmed : (old new : House) (source at : ℕ) (half answer : Result Moved Fault) → Meets half (arrive_answer old source at) → IsHandedOver old source at half new
     → needs_confirmation half ≡ false → answer ≡ half → (begun spent : ℕ) → spent ≤ begun + hand_over_ticks old source at half → CostsMove old source at answer new begun spent
 CostsMove-unconfirmed old new source at half answer meets first_half never same begun spent cost = record {
   move = record {

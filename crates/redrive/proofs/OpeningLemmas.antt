@@ -12,7 +12,7 @@ use Rattle.queue_config.specs.declared.config.ConfiguredAlarm.{ConfiguredAlarm}
 use Rattle.queue_config.specs.Limits.{QueueLimits}
 use Rattle.queue_config.specs.declared.config.ConfiguredQueue.{ConfiguredQueue}
 use Rattle.queue_core.specs.Queue.{QueueHistory}
-use Rattle.redrive.specs.World.{World, empty_world, new_world, next_queue, with_queue, queue_named, has_no_place}
+use Rattle.redrive.specs.House.{House, empty_house, new_house, next_queue, with_queue, queue_named, has_no_place}
 use Rattle.redrive.proofs.ListingLemmas.{map-push}
 
 -- ---- names that are apart
@@ -31,13 +31,13 @@ module _ {X K : Type 0} (e : K → K → Bool) (key : X → K) where
   find-apart [] k h = refl
   find-apart (x ∷ xs) k h = rw (h.0) (find-apart xs k h.1)
 
--- ---- the world of some queues
+-- ---- the house of some queues
 
 module _ (at : ℕ) (alarms : List ConfiguredAlarm) where
-  opened : World → List ConfiguredQueue → World
+  opened : House → List ConfiguredQueue → House
   opened w qs = fold (λ w q. with_queue w (next_queue w at q.name q.settings (rules_of alarms w.next_uid))) w qs
 
-  names-opened : (w : World) (qs : List ConfiguredQueue) → map (λ q. q.name) (opened w qs).queues ≡ map (λ q. q.name) w.queues ++ map (λ q. q.name) qs
+  names-opened : (w : House) (qs : List ConfiguredQueue) → map (λ q. q.name) (opened w qs).queues ≡ map (λ q. q.name) w.queues ++ map (λ q. q.name) qs
   unfolding opened
   names-opened w [] = sym (append-nil (map (λ (q : QueueHistory). q.name) w.queues))
   names-opened w (q ∷ qs) =
@@ -45,29 +45,29 @@ module _ (at : ℕ) (alarms : List ConfiguredAlarm) where
       ∙ ap (λ (names : List (List ℕ)). names ++ map (λ (q : ConfiguredQueue). q.name) qs) (map-push (λ (q : QueueHistory). q.name) w.queues (next_queue w at q.name q.settings (rules_of alarms w.next_uid)))
       ∙ append_assoc (map (λ (q : QueueHistory). q.name) w.queues) (q.name ∷ []) (map (λ (q : ConfiguredQueue). q.name) qs)
 
-  length-opened : (w : World) (qs : List ConfiguredQueue) → length (opened w qs).queues ≡ length w.queues + length qs
+  length-opened : (w : House) (qs : List ConfiguredQueue) → length (opened w qs).queues ≡ length w.queues + length qs
   unfolding opened
   length-opened w [] = omega arith
   length-opened w (q ∷ qs) =
       omega (arith, length-opened (with_queue w (next_queue w at q.name q.settings (rules_of alarms w.next_uid))) qs, length-append w.queues (next_queue w at q.name q.settings (rules_of alarms w.next_uid) ∷ []))
 
-  next-opened : (w : World) (qs : List ConfiguredQueue) → (opened w qs).next_uid ≡ w.next_uid + length qs
+  next-opened : (w : House) (qs : List ConfiguredQueue) → (opened w qs).next_uid ≡ w.next_uid + length qs
   unfolding opened
   next-opened w [] = omega arith
   next-opened w (q ∷ qs) = omega (arith, next-opened (with_queue w (next_queue w at q.name q.settings (rules_of alarms w.next_uid))) qs)
 
 -- one queue more
-pub opened-more : (limits : QueueLimits) (alarms : List ConfiguredAlarm) (at : ℕ) (qs : List ConfiguredQueue) (i : ℕ) (q : ConfiguredQueue) (w : World)
-    → w ≡ new_world (record { limits = limits; queues = take i qs; alarms = alarms }) at → i < length qs → q ≡ get_or qs i q
-    → with_queue w (next_queue w at q.name q.settings (rules_of alarms w.next_uid)) ≡ new_world (record { limits = limits; queues = take (i + 1) qs; alarms = alarms }) at
+pub opened-more : (limits : QueueLimits) (alarms : List ConfiguredAlarm) (at : ℕ) (qs : List ConfiguredQueue) (i : ℕ) (q : ConfiguredQueue) (w : House)
+    → w ≡ new_house (record { limits = limits; queues = take i qs; alarms = alarms }) at → i < length qs → q ≡ get_or qs i q
+    → with_queue w (next_queue w at q.name q.settings (rules_of alarms w.next_uid)) ≡ new_house (record { limits = limits; queues = take (i + 1) qs; alarms = alarms }) at
 opened-more limits alarms at qs i q w is inside here =
-    ap (λ (w : World). with_queue w (next_queue w at q.name q.settings (rules_of alarms w.next_uid))) is
-    ∙ sym (ap (λ (xs : List ConfiguredQueue). new_world (record { limits = limits; queues = xs; alarms = alarms }) at) (take_more qs i q inside ∙ ap (λ (x : ConfiguredQueue). take i qs ++ x ∷ []) (sym here))
-    ∙ fold_push (λ (w : World) (q : ConfiguredQueue). with_queue w (next_queue w at q.name q.settings (rules_of alarms w.next_uid))) (empty_world limits) (take i qs) q)
+    ap (λ (w : House). with_queue w (next_queue w at q.name q.settings (rules_of alarms w.next_uid))) is
+    ∙ sym (ap (λ (xs : List ConfiguredQueue). new_house (record { limits = limits; queues = xs; alarms = alarms }) at) (take_more qs i q inside ∙ ap (λ (x : ConfiguredQueue). take i qs ++ x ∷ []) (sym here))
+    ∙ fold_push (λ (w : House) (q : ConfiguredQueue). with_queue w (next_queue w at q.name q.settings (rules_of alarms w.next_uid))) (empty_house limits) (take i qs) q)
 
 -- the name of the next queue is new
-pub next_name-new : (house : World) (limits : QueueLimits) (alarms : List ConfiguredAlarm) (at : ℕ) (qs : List ConfiguredQueue) (i : ℕ) (q : ConfiguredQueue)
-    → house ≡ new_world (record { limits = limits; queues = take i qs; alarms = alarms }) at → i < length qs → q ≡ get_or qs i q → AreConfigured qs → queue_named house q.name ≡ None
+pub next_name-new : (house : House) (limits : QueueLimits) (alarms : List ConfiguredAlarm) (at : ℕ) (qs : List ConfiguredQueue) (i : ℕ) (q : ConfiguredQueue)
+    → house ≡ new_house (record { limits = limits; queues = take i qs; alarms = alarms }) at → i < length qs → q ≡ get_or qs i q → AreConfigured qs → queue_named house q.name ≡ None
 unfolding opened
 next_name-new house limits alarms at qs i q is l here h =
     let split : qs ≡ take i qs ++ q ∷ drop (i + 1) qs = sym (take-append-drop i qs) ∙ ap (λ (rest : List ConfiguredQueue). take i qs ++ rest) (drop_more qs i q l ∙ ap (λ x. x ∷ drop (i + 1) qs) (sym here)) in
@@ -76,19 +76,19 @@ next_name-new house limits alarms at qs i q is l here h =
     let differ : AllByRecursion (λ y. bytes_eq y q.name ≡ false) (map (λ (q : ConfiguredQueue). q.name) (take i qs)) =
     apart bytes_eq (λ (q : ConfiguredQueue). q.name) (map (λ (q : ConfiguredQueue). q.name) (take i qs)) q.name (map (λ (q : ConfiguredQueue). q.name) (drop (i + 1) qs)) (subst (λ (ns : List (List ℕ)). IsDistinct bytes_eq ns) names h.names) in
     let there : map (λ (q : QueueHistory). q.name) house.queues ≡ map (λ (q : ConfiguredQueue). q.name) (take i qs) =
-    ap (λ (w : World). map (λ (q : QueueHistory). q.name) w.queues) is ∙ names-opened at alarms (empty_world limits) (take i qs) in
+    ap (λ (w : House). map (λ (q : QueueHistory). q.name) w.queues) is ∙ names-opened at alarms (empty_house limits) (take i qs) in
     find-apart bytes_eq (λ (q : QueueHistory). q.name) house.queues q.name (subst (λ (ns : List (List ℕ)). AllByRecursion (λ y. bytes_eq y q.name ≡ false) ns) (sym there) differ)
 
 few : (n m : ℕ) → n < 1000 → m ≤ 1000 → (nat_le 1000 n || nat_le (2 ^ 62) m) ≡ false
 few n m h k = grind (arith, nat_tests)
 
 -- and there is a place for it
-pub next_name-place : (house : World) (limits : QueueLimits) (alarms : List ConfiguredAlarm) (at : ℕ) (qs : List ConfiguredQueue) (i : ℕ)
-    → house ≡ new_world (record { limits = limits; queues = take i qs; alarms = alarms }) at → i < length qs → AreConfigured qs → has_no_place house ≡ false
+pub next_name-place : (house : House) (limits : QueueLimits) (alarms : List ConfiguredAlarm) (at : ℕ) (qs : List ConfiguredQueue) (i : ℕ)
+    → house ≡ new_house (record { limits = limits; queues = take i qs; alarms = alarms }) at → i < length qs → AreConfigured qs → has_no_place house ≡ false
 unfolding opened
 next_name-place house limits alarms at qs i is l h =
     let count = h.count in
     let some : length (take i qs) ≡ i = length-take-le i qs (omega arith) in
-    let here : length house.queues ≡ 0 + length (take i qs) = ap (λ (w : World). length w.queues) is ∙ length-opened at alarms (empty_world limits) (take i qs) in
-    let next : house.next_uid ≡ 1 + length (take i qs) = ap (λ (w : World). w.next_uid) is ∙ next-opened at alarms (empty_world limits) (take i qs) in
+    let here : length house.queues ≡ 0 + length (take i qs) = ap (λ (w : House). length w.queues) is ∙ length-opened at alarms (empty_house limits) (take i qs) in
+    let next : house.next_uid ≡ 1 + length (take i qs) = ap (λ (w : House). w.next_uid) is ∙ next-opened at alarms (empty_house limits) (take i qs) in
     few (length house.queues) house.next_uid (omega arith) (omega arith)

@@ -18,7 +18,7 @@ use Rattle.queue_core.specs.Messages.{is_closed}
 use Rattle.queue_core.specs.Queue.{QueueHistory, at_moment, outcome_at, takes_memory, IsExactWithRoom, after_answer}
 use Rattle.queue_core.specs.Cost.{most_ticks}
 use Rattle.redrive.specs.Cost.{change_ticks}
-use Rattle.redrive.specs.World.{World, queue_named, queue_of_uid, found_uid, queue_answer, takes_memory_in, with_queue_changed, world_after_command, closed_queue, take_answer, without_queue, world_after_delete, IsRegistry}
+use Rattle.redrive.specs.House.{House, queue_named, queue_of_uid, found_uid, queue_answer, takes_memory_in, with_queue_changed, house_after_command, closed_queue, take_answer, without_queue, house_after_delete, IsRegistry}
 use Rattle.redrive.specs.Keys.{KeyLists}
 use Rattle.redrive.specs.private.ByPlace.{with_place_changed, without_place, closes_queue, IsKept}
 use Rattle.redrive.proofs.KeyedLemmas.{find-unique, find-position, find-no_position, position-own, found-there, map-present, map-remove, remove-present}
@@ -31,10 +31,10 @@ abbrev name_of : QueueHistory → List ℕ
 name_of q = q.name
 
 -- its place in the list that is shown is its place in the list that is kept
-pub place-shown : {w x : World} {o : Option ℕ} {place : ℕ} (uid : ℕ) → w ≡ x → o ≡ position (λ q. nat_eq q.uid uid) x.queues → o ≡ Some place → position (λ q. nat_eq q.uid uid) w.queues ≡ Some place
-place-shown uid same found is = ap (λ (w : World). position (λ q. nat_eq q.uid uid) w.queues) same ∙ sym found ∙ is
+pub place-shown : {w x : House} {o : Option ℕ} {place : ℕ} (uid : ℕ) → w ≡ x → o ≡ position (λ q. nat_eq q.uid uid) x.queues → o ≡ Some place → position (λ q. nat_eq q.uid uid) w.queues ≡ Some place
+place-shown uid same found is = ap (λ (w : House). position (λ q. nat_eq q.uid uid) w.queues) same ∙ sym found ∙ is
 
-module _ (w : World) (uid place : ℕ) (here : position (λ q. nat_eq q.uid uid) w.queues ≡ Some place) where
+module _ (w : House) (uid place : ℕ) (here : position (λ q. nat_eq q.uid uid) w.queues ≡ Some place) where
   -- the queue that stands there
   abbrev there : QueueHistory
   there = get_or w.queues place some_queue
@@ -88,11 +88,11 @@ module _ (w : World) (uid place : ℕ) (here : position (λ q. nat_eq q.uid uid)
       → IfSome (queue_of_uid w uid) (λ q. IsExactWithRoom q (outcome_at q at command) r)
   room-at at command r room = rw found (rw stands at room)
 
-  pub step-at : {T : Type 0} (at : ℕ) (command : Command) (r : Result T Fault) (new : World) → IsRegistry w
-      → new ≡ with_place_changed w place (λ q. after_answer q at command r) → new ≡ world_after_command w uid at command r
+  pub step-at : {T : Type 0} (at : ℕ) (command : Command) (r : Result T Fault) (new : House) → IsRegistry w
+      → new ≡ with_place_changed w place (λ q. after_answer q at command r) → new ≡ house_after_command w uid at command r
   step-at at command r new kept is = is ∙ changed-at (λ q. after_answer q at command r) kept
 
-  pub IsKept-step_at : {T : Type 0} (k : KeyLists) (at : ℕ) (command : Command) (r : Result T Fault) (new : World) → IsKept w k → closes_queue command ≡ false
+  pub IsKept-step_at : {T : Type 0} (k : KeyLists) (at : ℕ) (command : Command) (r : Result T Fault) (new : House) → IsKept w k → closes_queue command ≡ false
       → new ≡ with_place_changed w place (λ q. after_answer q at command r) → IsKept new k
   IsKept-step_at k at command r new kept stays is =
       rw (is ∙ changed-at (λ q. after_answer q at command r) kept.registry) (IsKept-after_step w k kept uid at command r stays)
@@ -102,28 +102,28 @@ module _ (w : World) (uid place : ℕ) (here : position (λ q. nat_eq q.uid uid)
   pub take-at : (at : ℕ) (r : Result QueueHistory Fault) → IfSome (slice_get w.queues place) (λ q. Meets r (Ok (closed_queue q at))) → Meets r (take_answer w uid at)
   take-at at r meets = rw found (rw stands at meets)
 
-  pub left-at : {T : Type 0} (r : Result T Fault) (new : World) → IsRegistry w → OnOk r (new ≡ without_place w place) → OnOk r (new ≡ without_queue w uid)
+  pub left-at : {T : Type 0} (r : Result T Fault) (new : House) → IsRegistry w → OnOk r (new ≡ without_place w place) → OnOk r (new ≡ without_queue w uid)
   left-at (Ok q) new kept ok = ok ∙ without-at kept
   left-at (Err fault) new kept ok = tt
 
-  pub delete-at : {T : Type 0} (at : ℕ) (r : Result T Fault) (new : World) → IsRegistry w → OnOk r (new ≡ without_place w place)
-      → OnErr r (new ≡ with_place_changed w place (λ q. at_moment q at)) → IfErr r (λ fault. fault ≡ OutOfMemory) → new ≡ world_after_delete w uid at r
+  pub delete-at : {T : Type 0} (at : ℕ) (r : Result T Fault) (new : House) → IsRegistry w → OnOk r (new ≡ without_place w place)
+      → OnErr r (new ≡ with_place_changed w place (λ q. at_moment q at)) → IfErr r (λ fault. fault ≡ OutOfMemory) → new ≡ house_after_delete w uid at r
   delete-at at (Ok q) new kept ok err errors = ok ∙ without-at kept
   delete-at at (Err fault) new kept ok err errors = rw errors (err ∙ changed-at (λ q. at_moment q at) kept)
 
   -- the keys of the queue at the place are taken out with it
-  pub IsKept-taken : (k l : KeyLists) (new : World) → IsKept w k → new ≡ without_place w place → l.uids ≡ remove k.uids place → l.names ≡ remove k.names place → IsKept new l
+  pub IsKept-taken : (k l : KeyLists) (new : House) → IsKept w k → new ≡ without_place w place → l.uids ≡ remove k.uids place → l.names ≡ remove k.names place → IsKept new l
   IsKept-taken k l new kept is uids names = record {
     registry = rw (is ∙ without-at kept.registry) (IsRegistry-without w uid kept.registry);
-    uids = uids ∙ ap (λ (us : List ℕ). remove us place) kept.uids ∙ sym (map-remove uid_of w.queues place) ∙ ap (λ (w : World). map uid_of w.queues) (sym is);
-    names = names ∙ ap (λ (ns : List (List ℕ)). remove ns place) kept.names ∙ sym (map-remove name_of w.queues place) ∙ ap (λ (w : World). map name_of w.queues) (sym is);
+    uids = uids ∙ ap (λ (us : List ℕ). remove us place) kept.uids ∙ sym (map-remove uid_of w.queues place) ∙ ap (λ (w : House). map uid_of w.queues) (sym is);
+    names = names ∙ ap (λ (ns : List (List ℕ)). remove ns place) kept.names ∙ sym (map-remove name_of w.queues place) ∙ ap (λ (w : House). map name_of w.queues) (sym is);
   }
 
-  pub IsKept-moved_at : (k : KeyLists) (at : ℕ) (new : World) → IsKept w k → new ≡ with_place_changed w place (λ q. at_moment q at) → IsKept new k
+  pub IsKept-moved_at : (k : KeyLists) (at : ℕ) (new : House) → IsKept w k → new ≡ with_place_changed w place (λ q. at_moment q at) → IsKept new k
   IsKept-moved_at k at new kept is = rw (is ∙ changed-at (λ q. at_moment q at) kept.registry) (IsKept-moved w k kept uid at)
 
 -- two changes that are alike for the queue of a uid
-pub changed-alike : (w : World) (uid : ℕ) (q : QueueHistory) → queue_of_uid w uid ≡ Some q → (f g : QueueHistory → QueueHistory) → IsRegistry w → f q ≡ g q
+pub changed-alike : (w : House) (uid : ℕ) (q : QueueHistory) → queue_of_uid w uid ≡ Some q → (f g : QueueHistory → QueueHistory) → IsRegistry w → f q ≡ g q
     → with_queue_changed w uid f ≡ with_queue_changed w uid g
 changed-alike w uid q here f g r same = by_place (position (λ q. nat_eq q.uid uid) w.queues) refl where
   by_place : (o : Option ℕ) → position (λ q. nat_eq q.uid uid) w.queues ≡ o → with_queue_changed w uid f ≡ with_queue_changed w uid g
@@ -133,7 +133,7 @@ changed-alike w uid q here f g r same = by_place (position (λ q. nat_eq q.uid u
       alike-at w uid place e f g r (ap f is ∙ same ∙ sym (ap g is))
 
 -- the queue of a uid that was found by a name is the queue of the name
-pub named-found : (w : World) (name : List ℕ) (uid : ℕ) (q : QueueHistory) → IsRegistry w → Some uid ≡ found_uid w name → queue_of_uid w uid ≡ Some q → Some q ≡ queue_named w name
+pub named-found : (w : House) (name : List ℕ) (uid : ℕ) (q : QueueHistory) → IsRegistry w → Some uid ≡ found_uid w name → queue_of_uid w uid ≡ Some q → Some q ≡ queue_named w name
 named-found w name uid q r found there = by_name (queue_named w name) refl found where
   by_name : (o : Option QueueHistory) → queue_named w name ≡ o → Some uid ≡ option_map uid_of o → Some q ≡ o
   by_name None e is = absurd (none-some uid (sym is))
@@ -143,7 +143,7 @@ named-found w name uid q r found there = by_name (queue_named w name) refl found
 
 -- ---- the queue of a name, where it stands
 
-module _ (w : World) (name : List ℕ) (place : ℕ) (here : position (λ q. bytes_eq q.name name) w.queues ≡ Some place) where
+module _ (w : House) (name : List ℕ) (place : ℕ) (here : position (λ q. bytes_eq q.name name) w.queues ≡ Some place) where
   pub named-within : place < length w.queues
   named-within = (position-Some (λ q. bytes_eq q.name name) w.queues place some_queue here).0
 

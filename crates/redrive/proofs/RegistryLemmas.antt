@@ -23,19 +23,19 @@ use Rattle.queue_core.specs.Messages.{is_closed}
 use Rattle.queue_core.specs.Queue.{QueueHistory, at_moment, leaves_clock, reached, outcome_at, with_event, with_optional_event, after_answer, rebased, rebased_where}
 use Rattle.queue_core.specs.Whole.{without_limit, is_journal_full, whole_after}
 use Rattle.redrive.specs.declared.place.QueuePlace.{QueuePlace}
-use Rattle.redrive.specs.World.{World, has_no_place, empty_world, queue_named, queue_of_uid, found_uid, StandsAt, with_queue, next_queue, without_queue, queue_answer, with_queue_changed, world_after_command, world_at_moment, IsRegistry}
+use Rattle.redrive.specs.House.{House, has_no_place, empty_house, queue_named, queue_of_uid, found_uid, StandsAt, with_queue, next_queue, without_queue, queue_answer, with_queue_changed, house_after_command, house_at_moment, IsRegistry}
 use Rattle.redrive.specs.Keys.{KeyLists}
 use Rattle.redrive.specs.private.ByPlace.{closes_queue, IsKept}
 use Rattle.redrive.proofs.KeyedLemmas.{find-map, find-passes, places_left, IsDistinct-push, IsDistinct-filter, map-key, find-unused, filter-absent, find-position, find-no_position, map-absent, placed-by}
 use Rattle.redrive.proofs.ClosingLemmas.{unclosed-after_answer}
 
-pub IsRegistry-empty : (limits : QueueLimits) → IsRegistry (empty_world limits)
+pub IsRegistry-empty : (limits : QueueLimits) → IsRegistry (empty_house limits)
 unfolding IsDistinct
 IsRegistry-empty limits = record { count = omega arith; names = tt; uids = tt; used = All-nil _; first = All-nil _; begun = omega arith; last = omega arith; limits = All-nil _; unclosed = All-nil _ }
 
 -- ---- one queue more
 
-pub IsRegistry-with_queue : (w : World) (q : QueueHistory) → IsRegistry w → queue_named w q.name ≡ None → q.uid ≡ w.next_uid → q.limits ≡ w.limits
+pub IsRegistry-with_queue : (w : House) (q : QueueHistory) → IsRegistry w → queue_named w q.name ≡ None → q.uid ≡ w.next_uid → q.limits ≡ w.limits
     → is_closed q.lines ≡ false → has_no_place w ≡ false → IsRegistry (with_queue w q)
 IsRegistry-with_queue w q h none uid limits unclosed place =
     let left = places_left (length w.queues) w.next_uid place in
@@ -53,7 +53,7 @@ IsRegistry-with_queue w q h none uid limits unclosed place =
       unclosed = All-push (λ x. is_closed x.lines ≡ false) w.queues q h.unclosed unclosed;
     }
 
-pub IsRegistry-opened : (w new : World) (at : ℕ) (name : List ℕ) (settings : QueueSettings) (rules : List Rule) (r : Result ℕ Fault) → IsRegistry w → queue_named w name ≡ None
+pub IsRegistry-opened : (w new : House) (at : ℕ) (name : List ℕ) (settings : QueueSettings) (rules : List Rule) (r : Result ℕ Fault) → IsRegistry w → queue_named w name ≡ None
     → has_no_place w ≡ false → OnOk r (new ≡ with_queue w (next_queue w at name settings rules)) → OnErr r (new ≡ w) → IsRegistry new
 IsRegistry-opened w new at name settings rules (Ok uid) h none place ok err = rw ok (IsRegistry-with_queue w (next_queue w at name settings rules) h none refl refl refl place)
 IsRegistry-opened w new at name settings rules (Err fault) h none place ok err = rw err h
@@ -61,7 +61,7 @@ IsRegistry-opened w new at name settings rules (Err fault) h none place ok err =
 -- ---- queues changed, each under its uid, name and limits
 
 module _ (f : QueueHistory → QueueHistory) where
-  pub IsRegistry-map : (w : World) → ((q : QueueHistory) → (f q).uid ≡ q.uid) → ((q : QueueHistory) → (f q).name ≡ q.name) → ((q : QueueHistory) → (f q).limits ≡ q.limits)
+  pub IsRegistry-map : (w : House) → ((q : QueueHistory) → (f q).uid ≡ q.uid) → ((q : QueueHistory) → (f q).name ≡ q.name) → ((q : QueueHistory) → (f q).limits ≡ q.limits)
       → ((q : QueueHistory) → is_closed q.lines ≡ false → is_closed (f q).lines ≡ false) → IsRegistry w → IsRegistry (record w { queues = map f w.queues })
   IsRegistry-map w uid name limits unclosed h = record {
     count = rw (length-map w.queues f) h.count;
@@ -114,33 +114,33 @@ at_uid-unclosed : (b : Bool) (q next : QueueHistory) → (is_closed q.lines ≡ 
 at_uid-unclosed true q next h k = h k
 at_uid-unclosed false q next h k = k
 
-IsRegistry-changed : (w : World) (uid : ℕ) (f : QueueHistory → QueueHistory) → ((q : QueueHistory) → (f q).uid ≡ q.uid) → ((q : QueueHistory) → (f q).name ≡ q.name)
+IsRegistry-changed : (w : House) (uid : ℕ) (f : QueueHistory → QueueHistory) → ((q : QueueHistory) → (f q).uid ≡ q.uid) → ((q : QueueHistory) → (f q).name ≡ q.name)
     → ((q : QueueHistory) → (f q).limits ≡ q.limits) → ((q : QueueHistory) → is_closed q.lines ≡ false → is_closed (f q).lines ≡ false) → IsRegistry w → IsRegistry (with_queue_changed w uid f)
 IsRegistry-changed w uid f own name limits unclosed h =
     IsRegistry-map (λ q. cond (nat_eq q.uid uid) (f q) q) w
     (λ q. at_uid-keeps (λ q. q.uid) (nat_eq q.uid uid) q (f q) (own q)) (λ q. at_uid-keeps (λ q. q.name) (nat_eq q.uid uid) q (f q) (name q))
     (λ q. at_uid-keeps (λ q. q.limits) (nat_eq q.uid uid) q (f q) (limits q)) (λ q. at_uid-unclosed (nat_eq q.uid uid) q (f q) (unclosed q)) h
 
-pub IsRegistry-after_step : {T : Type 0} (w : World) (uid at : ℕ) (command : Command) (answer : Result T Fault) → closes_queue command ≡ false → IsRegistry w
+pub IsRegistry-after_step : {T : Type 0} (w : House) (uid at : ℕ) (command : Command) (answer : Result T Fault) → closes_queue command ≡ false → IsRegistry w
     → IsRegistry (with_queue_changed w uid (λ q. after_answer q at command answer))
 IsRegistry-after_step w uid at command answer stays h =
     IsRegistry-changed w uid (λ q. after_answer q at command answer) (after_answer-uid at command answer)
     (after_answer-keeps (λ q. q.name) (λ q at. refl) (λ q event. refl) (λ q. refl) at command answer) (after_answer-keeps (λ q. q.limits) (λ q at. refl) (λ q event. refl) (λ q. refl) at command answer)
     (λ q. unclosed-after_answer at command answer q stays) h
 
-pub IsRegistry-at_moment : (w : World) (at : ℕ) → IsRegistry w → IsRegistry (world_at_moment w at)
+pub IsRegistry-at_moment : (w : House) (at : ℕ) → IsRegistry w → IsRegistry (house_at_moment w at)
 IsRegistry-at_moment w at h = IsRegistry-map (λ q. at_moment q at) w (λ q. refl) (λ q. refl) (λ q. refl) (λ q k. k) h
 
 -- ---- the keys that are kept beside the queues
 
-pub IsKept-empty : (limits : QueueLimits) (k : KeyLists) → k.uids ≡ [] → k.names ≡ [] → IsKept (empty_world limits) k
+pub IsKept-empty : (limits : QueueLimits) (k : KeyLists) → k.uids ≡ [] → k.names ≡ [] → IsKept (empty_house limits) k
 IsKept-empty limits k uids names = record { registry = IsRegistry-empty limits; uids = uids; names = names }
 
 -- the same keys
-pub IsKept-same : (w : World) (k l : KeyLists) → l.uids ≡ k.uids → l.names ≡ k.names → IsKept w k → IsKept w l
+pub IsKept-same : (w : House) (k l : KeyLists) → l.uids ≡ k.uids → l.names ≡ k.names → IsKept w k → IsKept w l
 IsKept-same w k l uids names h = record { registry = h.registry; uids = uids ∙ h.uids; names = names ∙ h.names }
 
-pub IsKept-with_queue : (w : World) (q : QueueHistory) (k l : KeyLists) → IsKept w k → IsRegistry (with_queue w q) → l.uids ≡ k.uids ++ q.uid ∷ [] → l.names ≡ k.names ++ q.name ∷ []
+pub IsKept-with_queue : (w : House) (q : QueueHistory) (k l : KeyLists) → IsKept w k → IsRegistry (with_queue w q) → l.uids ≡ k.uids ++ q.uid ∷ [] → l.names ≡ k.names ++ q.name ∷ []
     → IsKept (with_queue w q) l
 IsKept-with_queue w q k l h registry uids names = record {
   registry = registry;
@@ -148,7 +148,7 @@ IsKept-with_queue w q k l h registry uids names = record {
   names = names ∙ ap (λ (ns : List (List ℕ)). ns ++ q.name ∷ []) h.names ∙ sym (map-append (λ (x : QueueHistory). x.name) w.queues (q ∷ []));
 }
 
-module _ (w : World) (k : KeyLists) (h : IsKept w k) where
+module _ (w : House) (k : KeyLists) (h : IsKept w k) where
   IsKept-map : (f : QueueHistory → QueueHistory) → ((q : QueueHistory) → (f q).uid ≡ q.uid) → ((q : QueueHistory) → (f q).name ≡ q.name) → IsRegistry (record w { queues = map f w.queues })
       → IsKept (record w { queues = map f w.queues }) k
   IsKept-map f uid name registry = record {
@@ -165,7 +165,7 @@ module _ (w : World) (k : KeyLists) (h : IsKept w k) where
       (λ q. at_uid-keeps (λ q. q.name) (nat_eq q.uid uid) q (after_answer q at command answer) (after_answer-keeps (λ q. q.name) (λ q at. refl) (λ q event. refl) (λ q. refl) at command answer q))
       (IsRegistry-after_step w uid at command answer stays h.registry)
 
-  pub IsKept-at_moment : (at : ℕ) → IsKept (world_at_moment w at) k
+  pub IsKept-at_moment : (at : ℕ) → IsKept (house_at_moment w at) k
   IsKept-at_moment at = IsKept-map (λ q. at_moment q at) (λ q. refl) (λ q. refl) (IsRegistry-at_moment w at h.registry)
 
   pub IsKept-moved : (uid at : ℕ) → IsKept (with_queue_changed w uid (λ q. at_moment q at)) k
@@ -180,27 +180,27 @@ uid_of q = q.uid
 
 -- some queue, read only past the end of a list
 pub some_queue : QueueHistory
-some_queue = next_queue (empty_world default_limits) 0 [] default_settings []
+some_queue = next_queue (empty_house default_limits) 0 [] default_settings []
 
-pub present-absent : (w : World) (uid place : ℕ) → position (λ q. nat_eq q.uid uid) w.queues ≡ Some place → queue_of_uid w uid ≡ None → ⊥
+pub present-absent : (w : House) (uid place : ℕ) → position (λ q. nat_eq q.uid uid) w.queues ≡ Some place → queue_of_uid w uid ≡ None → ⊥
 present-absent w uid place h none =
     let here : find (λ q. nat_eq q.uid uid) w.queues ≡ Some (get_or w.queues place some_queue) = find-position uid_of uid w.queues place some_queue h in
     cc
 
-pub command-absent_answer : (w : World) (uid at : ℕ) (command : Command) → position (λ q. nat_eq q.uid uid) w.queues ≡ None → queue_answer w uid at command ≡ Err QueueDoesNotExist
+pub command-absent_answer : (w : House) (uid at : ℕ) (command : Command) → position (λ q. nat_eq q.uid uid) w.queues ≡ None → queue_answer w uid at command ≡ Err QueueDoesNotExist
 command-absent_answer w uid at command h = rw (find-no_position uid_of uid w.queues h) refl
 
 -- a queue that is not there
-pub changed-none : (w : World) (uid : ℕ) (f : QueueHistory → QueueHistory) → queue_of_uid w uid ≡ None → with_queue_changed w uid f ≡ w
+pub changed-none : (w : House) (uid : ℕ) (f : QueueHistory → QueueHistory) → queue_of_uid w uid ≡ None → with_queue_changed w uid f ≡ w
 changed-none w uid f none = ap (λ (queues : List QueueHistory). record w { queues = queues }) (map-absent uid_of uid f w.queues none)
 
-pub without-none : (w : World) (uid : ℕ) → queue_of_uid w uid ≡ None → without_queue w uid ≡ w
+pub without-none : (w : House) (uid : ℕ) → queue_of_uid w uid ≡ None → without_queue w uid ≡ w
 without-none w uid none = ap (λ (queues : List QueueHistory). record w { queues = queues }) (filter-absent uid_of uid w.queues none)
 
-pub changed-absent : (w : World) (uid : ℕ) (f : QueueHistory → QueueHistory) → position (λ q. nat_eq q.uid uid) w.queues ≡ None → with_queue_changed w uid f ≡ w
+pub changed-absent : (w : House) (uid : ℕ) (f : QueueHistory → QueueHistory) → position (λ q. nat_eq q.uid uid) w.queues ≡ None → with_queue_changed w uid f ≡ w
 changed-absent w uid f h = changed-none w uid f (find-no_position uid_of uid w.queues h)
 
-module _ (w : World) (own uid : ℕ) where
+module _ (w : House) (own uid : ℕ) where
   uid-found : (q : QueueHistory) → queue_of_uid w uid ≡ Some q → q.uid ≡ uid
   uid-found q here = eqb-true q.uid uid (find-passes (λ x. nat_eq x.uid uid) w.queues q here)
 
@@ -221,7 +221,7 @@ module _ (w : World) (own uid : ℕ) where
 
 -- ---- where queues stand, and what names find, after a command
 
-module _ (w : World) (own : ℕ) (f : QueueHistory → QueueHistory) (same_uid : (q : QueueHistory) → (f q).uid ≡ q.uid) where
+module _ (w : House) (own : ℕ) (f : QueueHistory → QueueHistory) (same_uid : (q : QueueHistory) → (f q).uid ≡ q.uid) where
   abbrev changed : QueueHistory → QueueHistory
   changed q = cond (nat_eq q.uid own) (f q) q
 
@@ -243,24 +243,24 @@ module _ (w : World) (own : ℕ) (f : QueueHistory → QueueHistory) (same_uid :
       (find-map (λ q. bytes_eq q.name name) changed (λ q. ap (λ (n : List ℕ). bytes_eq n name) (at_uid-keeps (λ q. q.name) (nat_eq q.uid own) q (f q) (same_name q))) w.queues)
       ∙ uid-changed (queue_named w name)
 
-module _ {T : Type 0} (w new : World) (at : ℕ) (command : Command) (answer : Result T Fault) where
-  pub stays-after_command : (found : QueuePlace) → new ≡ world_after_command w found.uid at command answer → StandsAt w found → StandsAt new found
+module _ {T : Type 0} (w new : House) (at : ℕ) (command : Command) (answer : Result T Fault) where
+  pub stays-after_command : (found : QueuePlace) → new ≡ house_after_command w found.uid at command answer → StandsAt w found → StandsAt new found
   stays-after_command found is here =
-      ap (λ (w : World). position (λ q. nat_eq q.uid found.uid) w.queues) is
+      ap (λ (w : House). position (λ q. nat_eq q.uid found.uid) w.queues) is
       ∙ place-changed w found.uid (λ q. after_answer q at command answer) (after_answer-uid at command answer) found.uid ∙ here
 
-  pub found-after_command : (uid : ℕ) → new ≡ world_after_command w uid at command answer → (name : List ℕ) → found_uid new name ≡ found_uid w name
+  pub found-after_command : (uid : ℕ) → new ≡ house_after_command w uid at command answer → (name : List ℕ) → found_uid new name ≡ found_uid w name
   found-after_command uid is name =
-      ap (λ (w : World). found_uid w name) is
+      ap (λ (w : House). found_uid w name) is
       ∙ found-changed w uid (λ q. after_answer q at command answer) (after_answer-uid at command answer)
       (after_answer-keeps (λ q. q.name) (λ q at. refl) (λ q event. refl) (λ q. refl) at command answer) name
 
 -- ---- a queue deleted
 
-pub delete-absent_state : (w : World) (uid : ℕ) → position (λ q. nat_eq q.uid uid) w.queues ≡ None → without_queue w uid ≡ w
+pub delete-absent_state : (w : House) (uid : ℕ) → position (λ q. nat_eq q.uid uid) w.queues ≡ None → without_queue w uid ≡ w
 delete-absent_state w uid h = without-none w uid (find-no_position uid_of uid w.queues h)
 
-pub IsRegistry-without : (w : World) (uid : ℕ) → IsRegistry w → IsRegistry (without_queue w uid)
+pub IsRegistry-without : (w : House) (uid : ℕ) → IsRegistry w → IsRegistry (without_queue w uid)
 IsRegistry-without w uid h =
     let stays : QueueHistory → Bool = λ q. not (nat_eq q.uid uid) in
     record {
@@ -276,7 +276,7 @@ IsRegistry-without w uid h =
     }
 
 -- a queue whose clock alone has moved
-pub IsRegistry-moved : (w : World) (uid at : ℕ) → IsRegistry w → IsRegistry (with_queue_changed w uid (λ q. at_moment q at))
+pub IsRegistry-moved : (w : House) (uid at : ℕ) → IsRegistry w → IsRegistry (with_queue_changed w uid (λ q. at_moment q at))
 IsRegistry-moved w uid at h = IsRegistry-changed w uid (λ q. at_moment q at) (λ q. refl) (λ q. refl) (λ q. refl) (λ q k. k) h
 
 -- ---- names after a create
@@ -285,7 +285,7 @@ bytes_eq-false : (xs ys : List ℕ) (b : Bool) → Decides b (xs ≡ ys) → (xs
 bytes_eq-false xs ys true d h = absurd (h (d.0 refl))
 bytes_eq-false xs ys false d h = refl
 
-found-new : (w : World) (q : QueueHistory) → queue_named w q.name ≡ None → found_uid (with_queue w q) q.name ≡ Some q.uid
+found-new : (w : House) (q : QueueHistory) → queue_named w q.name ≡ None → found_uid (with_queue w q) q.name ≡ Some q.uid
 found-new w q none =
     rw (find-append (λ x. bytes_eq x.name q.name) w.queues (q ∷ []), none, (bytes_eq-Decides q.name q.name).1 refl) refl
 
@@ -293,19 +293,19 @@ same-or : (o : Option QueueHistory) → option_map (λ q. q.uid) (option_or o No
 same-or None = refl
 same-or (Some q) = refl
 
-found-other : (w : World) (q : QueueHistory) (other : List ℕ) → other ≢ q.name → found_uid (with_queue w q) other ≡ found_uid w other
+found-other : (w : House) (q : QueueHistory) (other : List ℕ) → other ≢ q.name → found_uid (with_queue w q) other ≡ found_uid w other
 found-other w q other differs =
     rw (find-append (λ x. bytes_eq x.name other) w.queues (q ∷ []), bytes_eq-false q.name other (bytes_eq q.name other) (bytes_eq-Decides q.name other) (λ e. differs (sym e)))
     (same-or (find (λ x. bytes_eq x.name other) w.queues))
 
-pub found-opened : (old new : World) (at : ℕ) (name : List ℕ) (settings : QueueSettings) (rules : List Rule) (r : Result ℕ Fault) → queue_named old name ≡ None → Meets r (Ok old.next_uid)
+pub found-opened : (old new : House) (at : ℕ) (name : List ℕ) (settings : QueueSettings) (rules : List Rule) (r : Result ℕ Fault) → queue_named old name ≡ None → Meets r (Ok old.next_uid)
     → OnOk r (new ≡ with_queue old (next_queue old at name settings rules)) → IfOk r (λ uid. found_uid new name ≡ Some uid)
 found-opened old new at name settings rules (Ok uid) none meets ok =
     let e : uid ≡ old.next_uid = cc in
     rw (ok, e) (found-new old (next_queue old at name settings rules) none)
 found-opened old new at name settings rules (Err fault) none meets ok = tt
 
-pub others-opened : (old new : World) (at : ℕ) (name : List ℕ) (settings : QueueSettings) (rules : List Rule) (r : Result ℕ Fault)
+pub others-opened : (old new : House) (at : ℕ) (name : List ℕ) (settings : QueueSettings) (rules : List Rule) (r : Result ℕ Fault)
     → OnOk r (new ≡ with_queue old (next_queue old at name settings rules)) → OnErr r (new ≡ old) → (other : List ℕ) → other ≢ name → found_uid new other ≡ found_uid old other
 others-opened old new at name settings rules (Ok uid) ok err other differs = rw ok (found-other old (next_queue old at name settings rules) other differs)
 others-opened old new at name settings rules (Err fault) ok err other differs = rw err refl

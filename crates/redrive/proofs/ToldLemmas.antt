@@ -14,8 +14,8 @@ use Rattle.queue_core.specs.Queue.{QueueHistory, Outcome, at_moment, rebased_whe
 use Rattle.redrive.specs.declared.steps.HouseReply.TheVariants.{Performed}
 use Rattle.redrive.specs.declared.steps.HouseStep.{HouseStep}
 use Rattle.redrive.specs.declared.steps.HouseStep.TheVariants as steps
-use Rattle.redrive.specs.World.{World, queue_of_uid, has_queue, AddressedCommand, delivery_of, target_uid, opens_queue, step_refusal, reply_alone, first_parcel_in, accepted_number}
-use Rattle.redrive.specs.WorldRun.{HouseAnswer, as_house_reply, Nothing, Opens, Act, perform_act, hand_over_act, confirm_act, answer_of_act, answer_of_step, IsTold, IsToldIn, IsToldBy}
+use Rattle.redrive.specs.House.{House, queue_of_uid, has_queue, AddressedCommand, delivery_of, target_uid, opens_queue, step_refusal, reply_alone, first_parcel_in, accepted_number}
+use Rattle.redrive.specs.HouseSteps.{HouseAnswer, as_house_reply, Nothing, Opens, Act, perform_act, hand_over_act, confirm_act, answer_of_act, answer_of_step, IsTold, IsToldIn, IsToldBy}
 
 offered : (q : QueueHistory) (maximum : ℕ) (timeout : Option ℕ) (refused : Option Fault) (full : Bool) (reply : Reply) (o : Outcome) → o.reply ≡ Ok (replies.Received (offers_of q (offered_candidates q maximum)))
     → (unless_refused refused (cond full (refusal OverLimit) o)).reply ≡ Ok reply → IsTold q (commands.Receive maximum timeout) reply
@@ -55,7 +55,7 @@ told_by : (o : Option QueueHistory) (at : ℕ) (command : Command) (reply : Repl
 told_by None at command reply h = tt
 told_by (Some q) at command reply h = told q at command reply h
 
-module _ (w : World) (at uid : ℕ) where
+module _ (w : House) (at uid : ℕ) where
   abbrev IsToldAct : HouseAnswer → Act → Type 0
   IsToldAct answer act = IsToldIn w act.at act.change answer
 
@@ -93,10 +93,10 @@ module _ (w : World) (at uid : ℕ) where
   created_told true name settings answer = tt
   created_told false name settings answer = tt
 
-pub IsToldBy-world : (w : World) (step : HouseStep) (answer : HouseAnswer) → Meets answer (answer_of_step w step) → IsToldBy w step answer
-IsToldBy-world w (steps.Create at name wish) answer meets = created_told w at 0 (opens_queue w name wish) name (settings_with default_settings wish (target_uid w wish)) answer
-IsToldBy-world w (steps.Delete at uid) answer meets = tt
-IsToldBy-world w (steps.Perform at uid command) answer meets = performed_told w at uid command (step_refusal w uid command) answer meets
-IsToldBy-world w (steps.HandOver at source) answer meets = handed_told w at source (first_parcel_in w source) answer
-IsToldBy-world w (steps.Confirm at source) answer meets = confirmed_told w at source (accepted_number w source) answer
-IsToldBy-world w (steps.Advance at) answer meets = tt
+pub IsToldBy-house : (w : House) (step : HouseStep) (answer : HouseAnswer) → Meets answer (answer_of_step w step) → IsToldBy w step answer
+IsToldBy-house w (steps.Create at name wish) answer meets = created_told w at 0 (opens_queue w name wish) name (settings_with default_settings wish (target_uid w wish)) answer
+IsToldBy-house w (steps.Delete at uid) answer meets = tt
+IsToldBy-house w (steps.Perform at uid command) answer meets = performed_told w at uid command (step_refusal w uid command) answer meets
+IsToldBy-house w (steps.HandOver at source) answer meets = handed_told w at source (first_parcel_in w source) answer
+IsToldBy-house w (steps.Confirm at source) answer meets = confirmed_told w at source (accepted_number w source) answer
+IsToldBy-house w (steps.Advance at) answer meets = tt

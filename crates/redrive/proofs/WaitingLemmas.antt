@@ -33,7 +33,7 @@ use Rattle.queue_core.proofs.LegalSoundLemmas.{sound_legal}
 use Rattle.queue_core.proofs.WholeLemmas.{AreAlike, acting_alike, sound_after, transfers_alike}
 use Rattle.redrive.specs.declared.moved.Moved.{Moved}
 use Rattle.redrive.specs.declared.moved.Moved.TheVariants as moved
-use Rattle.redrive.specs.World.{World, queue_of_uid, has_queue, first_parcel_in, delivery_of, as_moved, queue_answer, delivered_answer, arrive_answer, world_after_command, needs_confirmation, accepted_number, confirm_answer, world_after_confirm, answer_of_halves, IsHandedOver, IsConfirmed, IsMoved}
+use Rattle.redrive.specs.House.{House, queue_of_uid, has_queue, first_parcel_in, delivery_of, as_moved, queue_answer, delivered_answer, arrive_answer, house_after_command, needs_confirmation, accepted_number, confirm_answer, house_after_confirm, answer_of_halves, IsHandedOver, IsConfirmed, IsMoved}
 use Rattle.redrive.specs.Waiting.{waiting_in}
 use Rattle.redrive.proofs.RegistryLemmas.{after_answer-uid, changed-queue}
 use Rattle.redrive.proofs.MovingLemmas.{again, new, acting_at, delivery, answered-parcel, needs-Ok, handed-Ok}
@@ -161,27 +161,27 @@ abbrev transfer_of : Parcel → Transfer
 transfer_of p = record { number = p.origin.number; target = p.target }
 
 -- less waits in the queue of a uid
-pub record LeavesFewer (s : QueueHistory) (new : World) (source : ℕ) : Type 0 where
+pub record LeavesFewer (s : QueueHistory) (new : House) (source : ℕ) : Type 0 where
   pub queue : QueueHistory
   pub there : queue_of_uid new source ≡ Some queue
   pub less : Fewer s.lines queue
 
-record LeavesSame (s : QueueHistory) (new : World) (source : ℕ) : Type 0 where
+record LeavesSame (s : QueueHistory) (new : House) (source : ℕ) : Type 0 where
   queue : QueueHistory
   there : queue_of_uid new source ≡ Some queue
   as_much : Same s.lines queue
 
 -- what a command leaves of the queue of the uid that it comes to
-pub left-own : {T : Type 0} → (w : World) (uid at : ℕ) (command : Command) (answer : Result T Fault) (s : QueueHistory) → queue_of_uid w uid ≡ Some s
-    → queue_of_uid (world_after_command w uid at command answer) uid ≡ Some (after_answer s at command answer)
+pub left-own : {T : Type 0} → (w : House) (uid at : ℕ) (command : Command) (answer : Result T Fault) (s : QueueHistory) → queue_of_uid w uid ≡ Some s
+    → queue_of_uid (house_after_command w uid at command answer) uid ≡ Some (after_answer s at command answer)
 left-own w uid at command answer s here =
     changed-queue w uid uid (λ q. after_answer q at command answer) true (λ q. after_answer-uid at command answer q) (eq-eqb uid uid refl)
     ∙ ap (λ (o : Option QueueHistory). option_map (λ q. after_answer q at command answer) o) here
 
-module _ (w : World) (source at : ℕ) (s : QueueHistory) (here : queue_of_uid w source ≡ Some s) (sound : IsSound s.lines s.clock) where
+module _ (w : House) (source at : ℕ) (s : QueueHistory) (here : queue_of_uid w source ≡ Some s) (sound : IsSound s.lines s.clock) where
   module _ (m : Moved) (p : Parcel) (parcel : first_parcel_of s ≡ Some p) where
     -- its queue is there
-    arrived-there : (t : QueueHistory) (own : Bool) → nat_eq p.target source ≡ own → LeavesSame s (world_after_command {T = Moved} w p.target at (Arrive p) (Ok m)) source
+    arrived-there : (t : QueueHistory) (own : Bool) → nat_eq p.target source ≡ own → LeavesSame s (house_after_command {T = Moved} w p.target at (Arrive p) (Ok m)) source
     arrived-there t true e = record {
       queue = after_answer {T = Moved} s at (Arrive p) (Ok m);
       there =
@@ -208,7 +208,7 @@ module _ (w : World) (source at : ℕ) (s : QueueHistory) (here : queue_of_uid w
     -- what a hand-over leaves: as much where its queue is there, and less where that is gone
     handed-same : (there : Bool) (o : Option QueueHistory) → queue_of_uid w p.target ≡ o → is_some o ≡ there → needs_confirmation (Ok m) ≡ true
         → Ok m ≡ delivered_answer w at (delivery w source p there)
-        → LeavesSame s (world_after_command {T = Moved} w (delivery w source p there).uid at (delivery w source p there).command (Ok m)) source
+        → LeavesSame s (house_after_command {T = Moved} w (delivery w source p there).uid at (delivery w source p there).command (Ok m)) source
     handed-same true None is there needs k = absurd (false≢true there)
     handed-same true (Some t) is there needs k = arrived-there t (nat_eq p.target source) refl
     handed-same false o is there needs k =
@@ -216,7 +216,7 @@ module _ (w : World) (source at : ℕ) (s : QueueHistory) (here : queue_of_uid w
 
     handed-fewer : (there : Bool) (o : Option QueueHistory) → queue_of_uid w p.target ≡ o → is_some o ≡ there → needs_confirmation (Ok m) ≡ false
         → Ok m ≡ delivered_answer w at (delivery w source p there)
-        → LeavesFewer s (world_after_command {T = Moved} w (delivery w source p there).uid at (delivery w source p there).command (Ok m)) source
+        → LeavesFewer s (house_after_command {T = Moved} w (delivery w source p there).uid at (delivery w source p there).command (Ok m)) source
     handed-fewer true None is there needs k = absurd (false≢true there)
     handed-fewer true (Some t) is there needs k =
         absurd (false≢true (sym needs ∙ arrival-needs (acting_at t at (Arrive p)) (first_refusal (acting_at t at (Arrive p))) (has_accepted (acting_at t at (Arrive p)).lines p.origin.uid p.origin.number) (rw is at k)))
@@ -228,9 +228,9 @@ module _ (w : World) (source at : ℕ) (s : QueueHistory) (here : queue_of_uid w
         }
 
   -- a confirmation, of which the number is that of the first parcel
-  confirmed-fewer : (between : World) (same : LeavesSame s between source) (p : Parcel) (n : ℕ) (r : Reply) → first_parcel_of s ≡ Some p → p.origin.number ≡ n
+  confirmed-fewer : (between : House) (same : LeavesSame s between source) (p : Parcel) (n : ℕ) (r : Reply) → first_parcel_of s ≡ Some p → p.origin.number ≡ n
       → accepted_number between source ≡ Some n → Ok r ≡ confirm_answer between source at
-      → LeavesFewer s (world_after_confirm {T = Reply} between source at (Ok r)) source
+      → LeavesFewer s (house_after_confirm {T = Reply} between source at (Ok r)) source
   confirmed-fewer between same p n r parcel is accepted k =
       let q : QueueHistory = same.queue in
       let first : slice_get (pending_transfers q.lines) 0 ≡ Some (transfer_of p) = ap (λ (ts : List Transfer). slice_get ts 0) same.as_much.same ∙ (handed s p parcel).first in
@@ -244,26 +244,26 @@ module _ (w : World) (source at : ℕ) (s : QueueHistory) (here : queue_of_uid w
         less = record { fewer = subst (λ (ts : List Transfer). length (pending_transfers (after_answer {T = Reply} q at (Settle n) (Ok r)).lines) < length ts) same.as_much.same less.fewer; sound = less.sound };
       }
 
-  module _ (new : World) where
+  module _ (new : House) where
     -- the second half
-    second : (between : World) (y x : Moved) (c : IsConfirmed w between source at (Ok y) (Ok x) new) (p : Parcel) → LeavesSame s between source → first_parcel_in w source ≡ Some p → first_parcel_of s ≡ Some p
+    second : (between : House) (y x : Moved) (c : IsConfirmed w between source at (Ok y) (Ok x) new) (p : Parcel) → LeavesSame s between source → first_parcel_in w source ≡ Some p → first_parcel_of s ≡ Some p
         → (confirmed : Result Reply Fault) → c.confirmed ≡ confirmed → LeavesFewer s new source
     second between y x c p same there parcel (Err fault) is =
         absurd (let e : Ok x ≡ Err fault = c.answered ∙ ap (answer_of_halves (Ok y)) is in cc)
     second between y x c p same there parcel (Ok r) is =
         let n : p.origin.number ≡ c.number = same_Some p.origin.number c.number (ap (λ (o : Option Parcel). option_map (λ p. p.origin.number) o) (sym there) ∙ c.first) in
         let answered : Ok r ≡ confirm_answer between source at = subst (λ (a : Result Reply Fault). Meets a (confirm_answer between source at)) is c.meets in
-        let left : new ≡ world_after_confirm {T = Reply} between source at (Ok r) = c.left ∙ ap (world_after_confirm between source at) is in
-        subst (λ (v : World). LeavesFewer s v source) (sym left) (confirmed-fewer between same p c.number r parcel n c.accepted answered)
+        let left : new ≡ house_after_confirm {T = Reply} between source at (Ok r) = c.left ∙ ap (house_after_confirm between source at) is in
+        subst (λ (v : House). LeavesFewer s v source) (sym left) (confirmed-fewer between same p c.number r parcel n c.accepted answered)
 
     own-parcel : (p : Parcel) → first_parcel_in w source ≡ Some p → first_parcel_of s ≡ Some p
     own-parcel p there = rw here at there
 
-    handed-to : (half : Moved) (between : World) (o : Option Parcel) (p : Parcel) → first_parcel_in w source ≡ Some p → IsHandedOver w source at (Ok half) between
-        → between ≡ world_after_command {T = Moved} w (delivery_of w source p).uid at (delivery_of w source p).command (Ok half)
+    handed-to : (half : Moved) (between : House) (o : Option Parcel) (p : Parcel) → first_parcel_in w source ≡ Some p → IsHandedOver w source at (Ok half) between
+        → between ≡ house_after_command {T = Moved} w (delivery_of w source p).uid at (delivery_of w source p).command (Ok half)
     handed-to half between o p there halved =
         handed-Ok w between source at half halved
-        ∙ ap (λ (o : Option Parcel). option_map_or (λ p. world_after_command {T = Moved} w (delivery_of w source p).uid at (delivery_of w source p).command (Ok half)) o w) there
+        ∙ ap (λ (o : Option Parcel). option_map_or (λ p. house_after_command {T = Moved} w (delivery_of w source p).uid at (delivery_of w source p).command (Ok half)) o w) there
 
     move-by : (x : Moved) (m : IsMoved w source at (Ok x) new) → (x ≡ moved.None → ⊥) → (needs : Bool) → needs_confirmation m.handed_over ≡ needs → LeavesFewer s new source
     move-by x m some false e =
@@ -273,7 +273,7 @@ module _ (w : World) (source at : ℕ) (s : QueueHistory) (here : queue_of_uid w
         let found = answered-parcel w source at x (has_queue w source) (first_parcel_in w source) some answered in
         let p : Parcel = found.0 in
         let left = handed-to x m.between None p found.1 (subst (λ (a : Result Moved Fault). IsHandedOver w source at a m.between) half m.first_half) in
-        subst (λ (v : World). LeavesFewer s v source) (sym (ends.1 ∙ left))
+        subst (λ (v : House). LeavesFewer s v source) (sym (ends.1 ∙ left))
         (handed-fewer x p (own-parcel p found.1) (has_queue w p.target) (queue_of_uid w p.target) refl refl (ap needs_confirmation (sym half) ∙ e) found.2)
     move-by x m some true e =
         let yes = needs-Ok m.handed_over e in
@@ -285,7 +285,7 @@ module _ (w : World) (source at : ℕ) (s : QueueHistory) (here : queue_of_uid w
         let p : Parcel = found.0 in
         let left = handed-to y m.between None p found.1 (subst (λ (a : Result Moved Fault). IsHandedOver w source at a m.between) half m.first_half) in
         let same : LeavesSame s m.between source =
-        subst (λ (v : World). LeavesSame s v source) (sym left)
+        subst (λ (v : House). LeavesSame s v source) (sym left)
         (handed-same y p (own-parcel p found.1) (has_queue w p.target) (queue_of_uid w p.target) refl refl needs found.2) in
         let c = m.second_half e in
         second m.between y x (subst (λ (a : Result Moved Fault). IsConfirmed w m.between source at a (Ok x) new) half c) p same found.1 (own-parcel p found.1) _ refl
@@ -295,10 +295,10 @@ module _ (w : World) (source at : ℕ) (s : QueueHistory) (here : queue_of_uid w
 
 -- ---- what waits
 
-waiting-there : (w : World) (source : ℕ) (s : QueueHistory) → queue_of_uid w source ≡ Some s → waiting_in w source ≡ pending_transfers s.lines
+waiting-there : (w : House) (source : ℕ) (s : QueueHistory) → queue_of_uid w source ≡ Some s → waiting_in w source ≡ pending_transfers s.lines
 waiting-there w source s here = ap (λ (o : Option QueueHistory). option_map_or (λ q. pending_transfers q.lines) o []) here
 
-absent-moved : (old new : World) (source at : ℕ) (x : Moved) → queue_of_uid old source ≡ None → IsMoved old source at (Ok x) new → ⊥
+absent-moved : (old new : House) (source at : ℕ) (x : Moved) → queue_of_uid old source ≡ None → IsMoved old source at (Ok x) new → ⊥
 absent-moved old new source at x none m = by_half m.handed_over refl where
   refused : arrive_answer old source at ≡ Err QueueDoesNotExist
   refused = rw none refl
@@ -308,7 +308,7 @@ absent-moved old new source at x none m = by_half m.handed_over refl where
       let e : Ok y ≡ Err QueueDoesNotExist = subst (λ (a : Result Moved Fault). Meets a (arrive_answer old source at)) is m.meets ∙ refused in cc
   by_half (Err fault) is = let e : Ok x ≡ Err fault = (m.no_second_half (ap needs_confirmation is)).0 ∙ is in cc
 
-pub waiting-fewer : (old new : World) (source at : ℕ) (x : Moved) → x ≢ moved.None → ForSome (queue_of_uid old source) (λ q. IsLegal q) → IsMoved old source at (Ok x) new
+pub waiting-fewer : (old new : House) (source at : ℕ) (x : Moved) → x ≢ moved.None → ForSome (queue_of_uid old source) (λ q. IsLegal q) → IsMoved old source at (Ok x) new
     → length (waiting_in new source) < length (waiting_in old source)
 waiting-fewer old new source at x some legal m = by_queue (queue_of_uid old source) refl where
   by_queue : (o : Option QueueHistory) → queue_of_uid old source ≡ o → length (waiting_in new source) < length (waiting_in old source)
@@ -362,7 +362,7 @@ orphaned-some : (refused : Option Fault) (count : ℕ) (event : Event ContentTex
 orphaned-some (Some fault) count event h = cc
 orphaned-some None count event h = cc
 
-module _ (w : World) (source at : ℕ) (s : QueueHistory) (here : queue_of_uid w source ≡ Some s) where
+module _ (w : House) (source at : ℕ) (s : QueueHistory) (here : queue_of_uid w source ≡ Some s) where
   delivered-some : (p : Parcel) (there : Bool) (o : Option QueueHistory) → queue_of_uid w p.target ≡ o → is_some o ≡ there → Ok moved.None ≡ delivered_answer w at (delivery w source p there) → ⊥
   delivered-some p true None is there k = false≢true there
   delivered-some p true (Some t) is there k = arrived-some (acting_at t at (Arrive p)) p (first_refusal (acting_at t at (Arrive p))) (has_accepted (acting_at t at (Arrive p)).lines p.origin.uid p.origin.number) (rw is at k)

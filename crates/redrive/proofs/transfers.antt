@@ -1,7 +1,7 @@
 pub mod Journals
 pub mod Views
 pub mod Commands
-pub mod Worlds
+pub mod Houses
 pub mod Once
 pub mod Runs
 pub mod Twins

@@ -7,16 +7,16 @@ use Rattle.journal.specs.declared.entry.Entry.{Entry}
 use Rattle.journal.specs.declared.entry.Event.TheVariants.{Closed}
 use Rattle.queue_core.specs.Messages.{is_closed, has_accepted}
 use Rattle.queue_core.specs.Queue.{QueueHistory}
-use Rattle.redrive.specs.World.{World, queue_of_uid}
+use Rattle.redrive.specs.House.{House, queue_of_uid}
 
 -- the latest deletion stands first
 pub record AllQueues : Type 0 where
-  pub world : World
+  pub house : House
   pub deleted : List QueueHistory
 
 -- the queue of a uid, which is there or was deleted
 abbrev pub queue_ever : AllQueues → ℕ → Option QueueHistory
-queue_ever all uid = option_or (queue_of_uid all.world uid) (find (λ q. q.uid == uid) all.deleted)
+queue_ever all uid = option_or (queue_of_uid all.house uid) (find (λ q. q.uid == uid) all.deleted)
 
 -- the journal of a uid
 abbrev pub journal_of : AllQueues → ℕ → Option (List (Entry ContentText))
@@ -32,6 +32,6 @@ closed_journal q at = q.lines ++ record { at = max q.clock at; event = Closed } 
 
 -- no uid was ever used twice, and every deleted queue was closed
 pub record IsWholeHistory (all : AllQueues) : Type 0 where
-  pub uids : IsDistinct nat_eq (map (λ q. q.uid) (all.deleted ++ all.world.queues))
-  pub used : All (λ q. q.uid < all.world.next_uid) all.deleted
+  pub uids : IsDistinct nat_eq (map (λ q. q.uid) (all.deleted ++ all.house.queues))
+  pub used : All (λ q. q.uid < all.house.next_uid) all.deleted
   pub closed : All (λ q. is_closed q.lines ≡ true) all.deleted

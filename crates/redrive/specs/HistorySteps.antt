@@ -7,9 +7,9 @@ use Rattle.queue_core.specs.declared.command.Command.TheVariants as commands
 use Rattle.queue_core.specs.declared.reply.Reply.TheVariants as replies
 use Rattle.redrive.specs.declared.steps.HouseReply.TheVariants.{Confirmed}
 use Rattle.redrive.specs.declared.steps.HouseStep.{HouseStep}
-use Rattle.redrive.specs.World.{queue_answer, first_parcel_in}
+use Rattle.redrive.specs.House.{queue_answer, first_parcel_in}
 use Rattle.redrive.specs.History.{AllQueues, was_accepted}
-use Rattle.redrive.specs.WorldRun.{HouseAnswer, as_house_reply, Act, confirm_act, act_of, answer_of_step, all_left, IsAnswerOf}
+use Rattle.redrive.specs.HouseSteps.{HouseAnswer, as_house_reply, Act, confirm_act, act_of, answer_of_step, all_left, IsAnswerOf}
 
 -- one of the registry, or a confirmation of the first parcel of the queue of a uid
 pub data HistoryStep : Type 0 where
@@ -19,21 +19,21 @@ pub data HistoryStep : Type 0 where
 -- the number of the first parcel of the queue of a uid, where its target, which is there or was deleted, has accepted it
 abbrev pub settled_number : AllQueues → ℕ → Option ℕ
 settled_number all source =
-    option_and_then (λ p. if was_accepted all p.target p.origin.uid p.origin.number then Some p.origin.number else None) (first_parcel_in all.world source)
+    option_and_then (λ p. if was_accepted all p.target p.origin.uid p.origin.number then Some p.origin.number else None) (first_parcel_in all.house source)
 
 -- the answer that is wanted; where the parcel is not accepted, its source is not asked
 abbrev pub answer_in_history : AllQueues → HistoryStep → HouseAnswer
-answer_in_history all (Own step) = answer_of_step all.world step
+answer_in_history all (Own step) = answer_of_step all.house step
 answer_in_history all (Settle at source) =
-    as_house_reply Confirmed (option_map_or (λ number. queue_answer all.world source at (commands.Settle number)) (settled_number all source) (Ok (replies.Settled false)))
+    as_house_reply Confirmed (option_map_or (λ number. queue_answer all.house source at (commands.Settle number)) (settled_number all source) (Ok (replies.Settled false)))
 
 abbrev pub IsHistoryAnswer : AllQueues → HistoryStep → HouseAnswer → Type 0
-IsHistoryAnswer all (Own step) answer = IsAnswerOf all.world step answer
+IsHistoryAnswer all (Own step) answer = IsAnswerOf all.house step answer
 IsHistoryAnswer all (Settle at source) answer = Meets answer (answer_in_history all (Settle at source))
 
 -- everything after a step that is answered so
 abbrev pub act_in_history : AllQueues → HistoryStep → Act
-act_in_history all (Own step) = act_of all.world step
+act_in_history all (Own step) = act_of all.house step
 act_in_history all (Settle at source) = confirm_act at source (settled_number all source)
 
 abbrev pub after_history_step : AllQueues → HistoryStep → HouseAnswer → AllQueues

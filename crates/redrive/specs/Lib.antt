@@ -2,9 +2,9 @@ pub mod Keys
 pub mod Listing
 pub mod Listed
 pub mod Catalog
-pub mod World
+pub mod House
 pub mod History
-pub mod WorldRun
+pub mod HouseSteps
 pub mod HistorySteps
 pub mod WholeSteps
 pub mod Cost

@@ -15,15 +15,15 @@ use Rattle.queue_core.specs.Accepted.{accepted_keys}
 use Rattle.queue_core.specs.States.{is_live, message_numbered, is_numbered}
 use Rattle.queue_core.specs.Queue.{QueueHistory}
 use Rattle.redrive.specs.declared.steps.HouseStep.TheVariants as steps
-use Rattle.redrive.specs.World.{queue_of_uid, new_world}
+use Rattle.redrive.specs.House.{queue_of_uid, new_house}
 use Rattle.redrive.specs.History.{AllQueues, journal_of, was_accepted}
-use Rattle.redrive.specs.WorldRun.{HouseAnswer}
+use Rattle.redrive.specs.HouseSteps.{HouseAnswer}
 use Rattle.redrive.specs.HistorySteps.{HistoryStep, Own}
 use Rattle.redrive.specs.WholeSteps.{whole_after_step}
 
 -- the beginning: the configured queues, and none deleted
 abbrev pub first_history : Configuration → ℕ → AllQueues
-first_history config at = record { world = new_world config at; deleted = [] }
+first_history config at = record { house = new_house config at; deleted = [] }
 
 -- ---- which transfers were accepted
 
@@ -79,7 +79,7 @@ HasFate all q t later = StillWaits q.lines t later ⊎ (WasTransferred all q t l
 -- in each queue that is there, each departure has its fate in the entries behind it
 abbrev pub EachHasItsFate : AllQueues → Type 0
 EachHasItsFate all =
-    (uid place : ℕ) (t : Transfer) → ForSome (queue_of_uid all.world uid) (λ q. IsDeparture q.lines place t → HasFate all q t (drop (suc place) q.lines))
+    (uid place : ℕ) (t : Transfer) → ForSome (queue_of_uid all.house uid) (λ q. IsDeparture q.lines place t → HasFate all q t (drop (suc place) q.lines))
 
 -- ---- where each message is
 
@@ -90,7 +90,7 @@ pub data Place : Type 0 where
 
 -- the queue of the uid is there, and the message of the number has the id
 pub record IsNumbered (all : AllQueues) (id : MessageId) (uid number : ℕ) (q : QueueHistory) (m : Message) : Type 0 where
-  pub there : queue_of_uid all.world uid ≡ Some q
+  pub there : queue_of_uid all.house uid ≡ Some q
   pub numbered : message_numbered q.lines number ≡ Some m
   pub named : message_id uid m ≡ id
 
@@ -129,10 +129,10 @@ pub record IsRelay (all : AllQueues) (uid : ℕ) : Type 0 where
   pub source : ℕ
   pub number : ℕ
   pub source_queue : QueueHistory
-  pub source_there : queue_of_uid all.world source ≡ Some source_queue
+  pub source_there : queue_of_uid all.house source ≡ Some source_queue
   pub waits : status_numbered source_queue.lines number ≡ Some (Waiting uid)
   pub queue : QueueHistory
-  pub there : queue_of_uid all.world uid ≡ Some queue
+  pub there : queue_of_uid all.house uid ≡ Some queue
   pub own_number : ℕ
   pub came : is_numbered (λ m. came_from source number m) queue.lines own_number ≡ true
   pub next : ℕ

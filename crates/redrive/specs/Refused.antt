@@ -6,11 +6,11 @@ use Rattle.journal.specs.declared.entry.Event.TheVariants.{Refused}
 use Rattle.queue_core.specs.declared.command.Command.{Command}
 use Rattle.queue_core.specs.Queue.{QueueHistory, reached, rebased_where, outcome_at, with_event}
 use Rattle.queue_core.specs.Refusals.{LastsAs}
-use Rattle.redrive.specs.World.{World, queue_of_uid}
+use Rattle.redrive.specs.House.{House, queue_of_uid}
 
 -- the queue that the command came to, with a checkpoint in the place of its entries where its journal was at the limit, has the one entry more that records the refusal, and
 -- stands from then on as without it; every other queue is as it was
-pub record IsRefusedBy (old : World) (uid at : ℕ) (command : Command) (fault : Fault) (new : World) : Type 0 where
+pub record IsRefusedBy (old : House) (uid at : ℕ) (command : Command) (fault : Fault) (new : House) : Type 0 where
   pub queue : QueueHistory
   pub there : option_map (λ q. rebased_where (outcome_at q at command).rebases (reached q at command)) (queue_of_uid old uid) ≡ Some queue
   pub entry : queue_of_uid new uid ≡ Some (with_event queue (Refused fault))

@@ -6,17 +6,17 @@ use Rattle.queue_core.specs.declared.command.Command.{Command}
 use Rattle.queue_core.specs.Queue.{QueueHistory}
 use Rattle.queue_core.specs.Standing.{StandsFor}
 use Rattle.queue_core.specs.Whole.{whole_after}
-use Rattle.redrive.specs.World.{queue_of_uid, with_queue_changed}
+use Rattle.redrive.specs.House.{queue_of_uid, with_queue_changed}
 use Rattle.redrive.specs.History.{AllQueues}
-use Rattle.redrive.specs.WorldRun.{HouseAnswer, WorldChange, Performs, all_changed}
+use Rattle.redrive.specs.HouseSteps.{HouseAnswer, HouseChange, Performs, all_changed}
 use Rattle.redrive.specs.HistorySteps.{HistoryStep, act_in_history}
 
 -- a command for the queue of a uid, which is answered so
 abbrev pub with_command : {T : Type 0} → AllQueues → ℕ → ℕ → Command → Result T Fault → AllQueues
-with_command all uid at command answer = record all { world = with_queue_changed all.world uid (λ q. whole_after q at command answer) }
+with_command all uid at command answer = record all { house = with_queue_changed all.house uid (λ q. whole_after q at command answer) }
 
 -- what a change leaves
-abbrev pub whole_changed : AllQueues → ℕ → WorldChange → HouseAnswer → AllQueues
+abbrev pub whole_changed : AllQueues → ℕ → HouseChange → HouseAnswer → AllQueues
 whole_changed all at (Performs uid command) answer = with_command all uid at command answer
 whole_changed all at change answer = all_changed all at change answer
 
@@ -37,5 +37,5 @@ StandsIn (Some q) (Some w) = StandsFor q w
 
 -- of each uid
 pub record StandForWhole (all whole : AllQueues) : Type 0 where
-  pub there : (uid : ℕ) → StandsIn (queue_of_uid all.world uid) (queue_of_uid whole.world uid)
+  pub there : (uid : ℕ) → StandsIn (queue_of_uid all.house uid) (queue_of_uid whole.house uid)
   pub deleted : (uid : ℕ) → StandsIn (find (λ q. q.uid == uid) all.deleted) (find (λ q. q.uid == uid) whole.deleted)

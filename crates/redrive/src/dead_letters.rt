@@ -6,7 +6,7 @@ ghost use Rattle.message.specs.Fault.{Meets};
 ghost use Rattle.queue_core.specs.Messages.{has_accepted};
 ghost use Rattle.queue_core.specs.Queue.{QueueHistory, outcome_of, reply_without_memory, as_reply};
 ghost use Rattle.queue_core.specs.Legal.{IsLegal};
-ghost use Rattle.redrive.specs.World.{moved_of, as_moved, needs_confirmation};
+ghost use Rattle.redrive.specs.House.{moved_of, as_moved, needs_confirmation};
 
 use crate::house::House;
 use crate::moved::Moved;
@@ -46,7 +46,7 @@ fn needs_confirmation(moved: Moved) -> bool
 }
 
 impl House {
-    ghost use Rattle.redrive.specs.World.{queue_of_uid, has_queue, queue_answer, first_parcel_in, arrive_answer, hand_over_takes_memory, takes_memory_in, world_after_command, world_after_hand_over, accepted_number, confirm_answer, confirm_takes_memory, world_after_confirm, hand_over_answer, IsHandedOver, move_answer, IsMoved, IsRegistry};
+    ghost use Rattle.redrive.specs.House.{queue_of_uid, has_queue, queue_answer, first_parcel_in, arrive_answer, hand_over_takes_memory, takes_memory_in, house_after_command, house_after_hand_over, accepted_number, confirm_answer, confirm_takes_memory, house_after_confirm, hand_over_answer, IsHandedOver, move_answer, IsMoved, IsRegistry};
     ghost use Rattle.redrive.specs.private.ByPlace.{closes_queue};
     ghost use Rattle.redrive.specs.private.Halves.{confirmed};
     ghost use Rattle.redrive.specs.Cost.{command_ticks, hand_over_ticks, confirm_ticks, CostsMove};
@@ -85,7 +85,7 @@ impl House {
         requires { closes_queue command.now ≡ false }
         ensures answer { Meets result (as_moved (queue_answer self.old uid at command.now)) }
         ensures exact { takes_memory_in self.old uid at command.now ≡ false → result ≡ as_moved (queue_answer self.old uid at command.now) }
-        ensures state { self.new ≡ world_after_command self.old uid at command.now result }
+        ensures state { self.new ≡ house_after_command self.old uid at command.now result }
         ensures cost { ticks.new ≤ ticks.old + command_ticks self.old uid at command.now result }
     {
         let reply = self.command_in(alloc, uid, at, command, ticks)?;
@@ -108,7 +108,7 @@ impl House {
         requires first { option_map {U = Origin × ℕ} (λ p. (p.origin, p.target)) (first_parcel_in self.old source) ≡ Some (origin.now, target) }
         ensures answer { Meets result (hand_over_answer self.old source at) }
         ensures exact { hand_over_takes_memory self.old source at ≡ false → result ≡ hand_over_answer self.old source at }
-        ensures state { self.new ≡ world_after_hand_over self.old source at result }
+        ensures state { self.new ≡ house_after_hand_over self.old source at result }
         ensures cost { ticks.new ≤ ticks.old + hand_over_ticks self.old source at result }
     {
         if !self.has_queue(target) {
@@ -196,7 +196,7 @@ impl House {
     ) -> Result<Reply, Fault>
         ensures answer { Meets result (confirm_answer self.old source at) }
         ensures exact { confirm_takes_memory self.old source at ≡ false → result ≡ confirm_answer self.old source at }
-        ensures state { self.new ≡ world_after_confirm self.old source at result }
+        ensures state { self.new ≡ house_after_confirm self.old source at result }
         ensures cost { ticks.new ≤ ticks.old + confirm_ticks self.old source at result }
     {
         match self.accepted_number(source) {
@@ -215,7 +215,7 @@ impl House {
     ) -> Result<Reply, Fault>
         ensures answer { Meets result (confirmed self.old source at) }
         ensures exact { confirm_takes_memory self.old source at ≡ false → result ≡ confirmed self.old source at }
-        ensures state { self.new ≡ world_after_confirm self.old source at result }
+        ensures state { self.new ≡ house_after_confirm self.old source at result }
         ensures cost { ticks.new ≤ ticks.old + confirm_ticks self.old source at result }
         ensures registry { IsRegistry self.old }
     {

@@ -7,7 +7,7 @@ ghost use Rattle.message.specs.Fault.{Meets};
 ghost use Rattle.queue_config.specs.Config.{names_of, configured_uid};
 ghost use Rattle.queue_core.specs.Queue.{QueueHistory, at_moment, outcome_at, IsExactWithRoom};
 ghost use Rattle.redrive.specs.Listed.{items_of};
-ghost use Rattle.redrive.specs.WorldRun.{metrics_of};
+ghost use Rattle.redrive.specs.HouseSteps.{metrics_of};
 
 use crate::keys::Keys;
 use crate::listing::{add_name, in_order};
@@ -33,17 +33,17 @@ pub struct House {
 }
 
 impl Model for House {
-    ghost use Rattle.redrive.specs.World.{World};
+    ghost use Rattle.redrive.specs.House.{House};
     ghost use Rattle.redrive.specs.private.ByPlace.{IsKept};
 
-    ghost Value = { World };
+    ghost Value = { House };
 
     ghost view = { λ h. h.queues };
 
     ghost invariant = { λ h. IsKept h.queues h.keys };
 }
 
-ghost use Rattle.redrive.specs.World.{named_target, has_all_requested, existing_answer, is_internal, has_target};
+ghost use Rattle.redrive.specs.House.{named_target, has_all_requested, existing_answer, is_internal, has_target};
 
 /// Whether a command is one that the registry alone gives.
 fn is_internal(command: &Command) -> bool
@@ -106,14 +106,14 @@ fn metrics_of(minute: u64, alarm: usize, queue: &QueueState) -> QueueMetrics
 }
 
 impl House {
-    ghost use Rattle.redrive.specs.World.{empty_world, new_world, next_queue, queue_named, queue_of_uid, has_queue, found_uid, StandsAt, target_uid, may_name_target, may_have_target, may_set, has_no_place, opens_queue, create_answer, with_queue, world_after_create, step_refusal, queue_answer, step_answer, takes_memory_in, takes_memory_at, with_queue_changed, world_after_command, world_after_step, sources_in_world, sources_answer, take_answer, delete_answer, world_after_delete, names_in_world, world_at_moment, IsRegistry};
+    ghost use Rattle.redrive.specs.House.{empty_house, new_house, next_queue, queue_named, queue_of_uid, has_queue, found_uid, StandsAt, target_uid, may_name_target, may_have_target, may_set, has_no_place, opens_queue, create_answer, with_queue, house_after_create, step_refusal, queue_answer, step_answer, takes_memory_in, takes_memory_at, with_queue_changed, house_after_command, house_after_step, sources_in_house, sources_answer, take_answer, delete_answer, house_after_delete, names_in_house, house_at_moment, IsRegistry};
     ghost use Rattle.redrive.specs.private.ByPlace.{closes_queue};
     ghost use Rattle.redrive.specs.History.{journal_of, closed_journal};
     ghost use Rattle.redrive.specs.Cost.{change_ticks, command_ticks, step_ticks, deletion_ticks, moment_ticks};
 
     /// A registry with these limits and no queue.
     fn empty(alloc: Global, limits: Limits) -> House
-        ensures { result ≡ empty_world limits }
+        ensures { result ≡ empty_house limits }
     {
         House {
             queues: Queues::new(alloc, limits),
@@ -126,9 +126,9 @@ impl House {
     /// place there counted from 1, and no other name is found. `OutOfMemory` is the only refusal; where no
     /// queue is configured, it takes no memory.
     pub fn new(alloc: Global, config: &Config, at: Moment) -> Result<House, Fault>
-        ensures world { Meets result (Ok (new_world config.now at)) }
+        ensures house { Meets result (Ok (new_house config.now at)) }
         ensures found { IfOk result (λ house. (name : List ℕ) → found_uid house name ≡ configured_uid name (names_of config.now.queues)) }
-        ensures none { config.now.queues ≡ [] → result ≡ Ok (empty_world config.now.limits) }
+        ensures none { config.now.queues ≡ [] → result ≡ Ok (empty_house config.now.limits) }
     {
         let mut house = House::empty(alloc, config.limits);
         for queue in config.queues.as_slice() {
@@ -248,7 +248,7 @@ impl House {
     ) -> Result<u64, Fault>
         ensures answer { Meets result (create_answer self.old name wish) }
         ensures known { opens_queue self.old name wish ≡ false → result ≡ create_answer self.old name wish }
-        ensures state { self.new ≡ world_after_create self.old at name wish result }
+        ensures state { self.new ≡ house_after_create self.old at name wish result }
         ensures found { IfOk result (λ uid. found_uid self.new name ≡ Some uid) }
         ensures others { (other : List ℕ) → other ≢ name → found_uid self.new other ≡ found_uid self.old other }
         ensures registry { IsRegistry self.old }
@@ -290,7 +290,7 @@ impl House {
         ensures answer { Meets result (queue_answer self.old found.uid at command.now) }
         ensures exact { takes_memory_in self.old found.uid at command.now ≡ false → result ≡ queue_answer self.old found.uid at command.now }
         ensures room { IfSome (queue_of_uid self.old found.uid) (λ q. IsExactWithRoom q (outcome_at q at command.now) result) }
-        ensures state { self.new ≡ world_after_command self.old found.uid at command.now result }
+        ensures state { self.new ≡ house_after_command self.old found.uid at command.now result }
         ensures cost { ticks.new ≤ ticks.old + command_ticks self.old found.uid at command.now result }
     {
         let place = found.place;
@@ -310,7 +310,7 @@ impl House {
         ensures answer { Meets result (queue_answer self.old uid at command.now) }
         ensures exact { takes_memory_in self.old uid at command.now ≡ false → result ≡ queue_answer self.old uid at command.now }
         ensures room { IfSome (queue_of_uid self.old uid) (λ q. IsExactWithRoom q (outcome_at q at command.now) result) }
-        ensures state { self.new ≡ world_after_command self.old uid at command.now result }
+        ensures state { self.new ≡ house_after_command self.old uid at command.now result }
         ensures cost { ticks.new ≤ ticks.old + command_ticks self.old uid at command.now result }
     {
         match self.place_of(uid) {
@@ -378,7 +378,7 @@ impl House {
         ensures refused { IfSome (step_refusal self.old found.uid command.now) (λ fault. result ≡ Err fault) }
         ensures exact { takes_memory_at self.old found.uid at command.now ≡ false → result ≡ step_answer self.old found.uid at command.now }
         ensures room { step_refusal self.old found.uid command.now ≡ None → IfSome (queue_of_uid self.old found.uid) (λ q. IsExactWithRoom q (outcome_at q at command.now) result) }
-        ensures state { self.new ≡ world_after_step self.old found.uid at command.now result }
+        ensures state { self.new ≡ house_after_step self.old found.uid at command.now result }
         ensures stays { StandsAt self.new found }
         ensures names { (name : List ℕ) → found_uid self.new name ≡ found_uid self.old name }
         ensures cost { ticks.new ≤ ticks.old + step_ticks self.old found.uid at command.now result }
@@ -410,7 +410,7 @@ impl House {
         ensures refused { IfSome (step_refusal self.old uid command.now) (λ fault. result ≡ Err fault) }
         ensures exact { takes_memory_at self.old uid at command.now ≡ false → result ≡ step_answer self.old uid at command.now }
         ensures room { step_refusal self.old uid command.now ≡ None → IfSome (queue_of_uid self.old uid) (λ q. IsExactWithRoom q (outcome_at q at command.now) result) }
-        ensures state { self.new ≡ world_after_step self.old uid at command.now result }
+        ensures state { self.new ≡ house_after_step self.old uid at command.now result }
         ensures cost { ticks.new ≤ ticks.old + step_ticks self.old uid at command.now result }
         ensures registry { IsRegistry self.old }
     {
@@ -432,14 +432,14 @@ impl House {
     ) -> Result<QueueState, Fault>
         ensures answer { Meets result (take_answer self.old uid at) }
         ensures absent { queue_of_uid self.old uid ≡ None → result ≡ Err Fault.QueueDoesNotExist }
-        ensures state { self.new ≡ world_after_delete self.old uid at result }
+        ensures state { self.new ≡ house_after_delete self.old uid at result }
         ensures cost { ticks.new ≤ ticks.old + deletion_ticks self.old uid at result }
         ensures journal { IfOk result (λ q. (deleted : List QueueHistory)
-            → journal_of (record { world = self.new; deleted = q ∷ deleted }) uid
+            → journal_of (record { house = self.new; deleted = q ∷ deleted }) uid
             ≡ option_map (λ old. closed_journal old at) (queue_of_uid self.old uid)) }
         ensures others { IfOk result (λ q. (deleted : List QueueHistory) (other : ℕ) → other ≢ uid
-            → journal_of (record { world = self.new; deleted = q ∷ deleted }) other
-            ≡ journal_of (record { world = self.old; deleted = deleted }) other) }
+            → journal_of (record { house = self.new; deleted = q ∷ deleted }) other
+            ≡ journal_of (record { house = self.old; deleted = deleted }) other) }
         ensures registry { IsRegistry self.old }
     {
         match self.place_of(uid) {
@@ -464,7 +464,7 @@ impl House {
     ) -> Result<(), Fault>
         ensures answer { Meets result (delete_answer self.old uid) }
         ensures absent { queue_of_uid self.old uid ≡ None → result ≡ Err Fault.QueueDoesNotExist }
-        ensures state { self.new ≡ world_after_delete self.old uid at result }
+        ensures state { self.new ≡ house_after_delete self.old uid at result }
         ensures cost { ticks.new ≤ ticks.old + deletion_ticks self.old uid at result }
     {
         self.take_queue(alloc, uid, at, ticks)?;
@@ -474,10 +474,10 @@ impl House {
     /// The names that begin with a prefix, in the order of their bytes. `OutOfMemory` is the only
     /// refusal, where there is such a name.
     pub fn list(&self, alloc: Global, prefix: &str) -> Result<Vec<QueueName>, Fault>
-        ensures ok { IfOk result (λ names. names.items ≡ names_in_world self.now prefix.now) }
+        ensures ok { IfOk result (λ names. names.items ≡ names_in_house self.now prefix.now) }
         ensures registry { IsRegistry self.now }
         ensures errors { IfErr result (λ fault. fault ≡ Fault.OutOfMemory) }
-        ensures wants { OnErr result (0 < length (names_in_world self.now prefix.now)) }
+        ensures wants { OnErr result (0 < length (names_in_house self.now prefix.now)) }
     {
         let mut names = Vec::new(alloc);
         for queue in self.queues.as_slice() {
@@ -491,7 +491,7 @@ impl House {
     pub fn sources(&self, alloc: Global, uid: u64) -> Result<Vec<QueueName>, Fault>
         ensures answer { Meets (items_of result) (sources_answer self.now uid) }
         ensures absent { queue_of_uid self.now uid ≡ None → result ≡ Err Fault.QueueDoesNotExist }
-        ensures wants { OnErr result (has_queue self.now uid ≡ true → 0 < length (sources_in_world self.now uid)) }
+        ensures wants { OnErr result (has_queue self.now uid ≡ true → 0 < length (sources_in_house self.now uid)) }
         ensures registry { IsRegistry self.now }
     {
         if !self.has_queue(uid) {
@@ -502,9 +502,9 @@ impl House {
 
     /// The names of the queues whose dead-letter queue is that of a uid.
     fn source_names(&self, alloc: Global, uid: u64) -> Result<Vec<QueueName>, Fault>
-        ensures ok { IfOk result (λ names. names.items ≡ sources_in_world self.now uid) }
+        ensures ok { IfOk result (λ names. names.items ≡ sources_in_house self.now uid) }
         ensures errors { IfErr result (λ fault. fault ≡ Fault.OutOfMemory) }
-        ensures wants { OnErr result (0 < length (sources_in_world self.now uid)) }
+        ensures wants { OnErr result (0 < length (sources_in_house self.now uid)) }
     {
         let mut names = Vec::new(alloc);
         for queue in self.queues.as_slice() {
@@ -517,7 +517,7 @@ impl House {
 
     /// Looks at every queue at a moment, so that each clock is there at least.
     pub fn advance_all(&mut self, at: Moment, ticks: &mut Ticks)
-        ensures state { self.new ≡ world_at_moment self.old at }
+        ensures state { self.new ≡ house_at_moment self.old at }
         ensures cost { ticks.new ≤ ticks.old + moment_ticks at self.old.queues }
         ensures registry { IsRegistry self.old }
     {

@@ -15,8 +15,8 @@ ghost use Rattle.redrive.specs.declared.steps.HouseStep.TheVariants.{Perform};
 ghost use Rattle.redrive.specs.History.{IsWholeHistory};
 ghost use Rattle.redrive.specs.Listing.{listed_names};
 ghost use Rattle.redrive.specs.Refused.{IsRefusedBy};
-ghost use Rattle.redrive.specs.World.{World, IsRegistry, queue_of_uid};
-ghost use Rattle.redrive.specs.WorldRun.{HouseAnswer, AreHouseAnswers, world_after, world_after_all};
+ghost use Rattle.redrive.specs.House.{House, IsRegistry, queue_of_uid};
+ghost use Rattle.redrive.specs.HouseSteps.{HouseAnswer, AreHouseAnswers, house_after, house_after_all};
 
 /// Of names that differ, each that is listed stands before the next in the order of their bytes, and
 /// the names listed are those that begin with the prefix.
@@ -34,7 +34,7 @@ pub fn listed_names_ascend()
 /// A registry in which no queue was deleted yet is the whole history: the steps of
 /// [`House::run`](crate::House::run) keep it one.
 pub fn histories_begin()
-    ensures { (w : World) → IsRegistry w → IsWholeHistory (record { world = w; deleted = [] }) }
+    ensures { (w : House) → IsRegistry w → IsWholeHistory (record { house = w; deleted = [] }) }
 {}
 
 /// Wherever it stands in a list of steps, as [`House::run`](crate::House::run) answers them, a command
@@ -44,16 +44,16 @@ pub fn histories_begin()
 /// command that is refused in any other way, or finds no memory, leaves every journal as it was, of
 /// queues that began with journals that a queue can have.
 pub fn refused_steps_change_nothing()
-    ensures own { (w : World) (steps later : List HouseStep) (answers rest : List HouseAnswer) (at uid : ℕ) (command : Command) (fault : Fault)
+    ensures own { (w : House) (steps later : List HouseStep) (answers rest : List HouseAnswer) (at uid : ℕ) (command : Command) (fault : Fault)
         → length steps ≡ length answers
         → AreHouseAnswers w (steps ++ Perform at uid command ∷ later) (answers ++ Err fault ∷ rest)
         → is_own_refusal fault ≡ true
-        → IsRefusedBy (world_after_all w steps answers) uid at command fault
-        (world_after (world_after_all w steps answers) (Perform at uid command) (Err fault)) }
-    ensures no_other { (w : World) (steps later : List HouseStep) (answers rest : List HouseAnswer) (at uid : ℕ) (command : Command) (fault : Fault)
+        → IsRefusedBy (house_after_all w steps answers) uid at command fault
+        (house_after (house_after_all w steps answers) (Perform at uid command) (Err fault)) }
+    ensures no_other { (w : House) (steps later : List HouseStep) (answers rest : List HouseAnswer) (at uid : ℕ) (command : Command) (fault : Fault)
         → length steps ≡ length answers
         → AreHouseAnswers w (steps ++ Perform at uid command ∷ later) (answers ++ Err fault ∷ rest)
         → is_own_refusal fault ≡ false → All (λ q. IsLegal q) w.queues
-        → (other : ℕ) → option_map (λ q. q.lines) (queue_of_uid (world_after (world_after_all w steps answers) (Perform at uid command) (Err fault)) other)
-        ≡ option_map (λ q. q.lines) (queue_of_uid (world_after_all w steps answers) other) }
+        → (other : ℕ) → option_map (λ q. q.lines) (queue_of_uid (house_after (house_after_all w steps answers) (Perform at uid command) (Err fault)) other)
+        ≡ option_map (λ q. q.lines) (queue_of_uid (house_after_all w steps answers) other) }
 {}

@@ -4,10 +4,10 @@
 //!   and lists them by name, and hands each command to the queue that it is for.
 //! - [`Catalog`]: the name directory, for queues that are kept elsewhere: names, uids and targets.
 //!
-//! `World` in `specs/` is the registry as a value, and a call is one transition of it: but
+//! `House` in `specs/` is the registry as a value, and a call is one transition of it: but
 //! [`House::move_one`] is two, a hand-over and a confirmation, and [`House::run`] one for each of its steps.
 //! `History` has the deleted queues beside it, whose journals the program does not keep: [`House::take_queue`] hands
-//! a deleted queue over, closed. `WorldRun` is the registry over a list of steps, of which each queue
+//! a deleted queue over, closed. `HouseSteps` is the registry over a list of steps, of which each queue
 //! sees only its own; [`House::run`] is the main theorem for the whole registry. `Cost` bounds what a
 //! call counts by the queues that it comes to. `Listing` is the order of names, of which
 //! [`listed_names_ascend`] is a law.

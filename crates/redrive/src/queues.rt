@@ -7,7 +7,7 @@ ghost use Rattle.queue_core.specs.Messages.{is_closed};
 ghost use Rattle.queue_core.specs.Queue.{at_moment, outcome_at, takes_memory, IsExactWithRoom, after_answer};
 ghost use Rattle.queue_core.specs.Cost.{most_ticks};
 ghost use Rattle.redrive.specs.Cost.{after_deletion, moment_ticks};
-ghost use Rattle.redrive.specs.World.{closed_queue};
+ghost use Rattle.redrive.specs.House.{closed_queue};
 
 use crate::catalog::UID_LIMIT;
 use journal::{Moment, Ticks};
@@ -29,9 +29,9 @@ pub(crate) struct Queues {
 }
 
 impl Model for Queues {
-    ghost use Rattle.redrive.specs.World.{World};
+    ghost use Rattle.redrive.specs.House.{House};
 
-    ghost Value = { World };
+    ghost Value = { House };
 
     ghost view = { λ q. record { limits = q.limits; next_uid = q.next_uid; queues = q.queues.items } };
 }
@@ -49,12 +49,12 @@ fn close(queue: &mut QueueState, alloc: Global, at: Moment, ticks: &mut Ticks) -
 }
 
 impl Queues {
-    ghost use Rattle.redrive.specs.World.{empty_world, next_queue, has_no_place, with_queue, world_at_moment};
+    ghost use Rattle.redrive.specs.House.{empty_house, next_queue, has_no_place, with_queue, house_at_moment};
     ghost use Rattle.redrive.specs.private.ByPlace.{with_place_changed, without_place, closes_queue};
 
     /// No queues. Uids begin at 1.
     pub(crate) fn new(alloc: Global, limits: Limits) -> Queues
-        ensures { result ≡ empty_world limits }
+        ensures { result ≡ empty_house limits }
     {
         Queues {
             limits,
@@ -161,7 +161,7 @@ impl Queues {
 
     /// Looks at every queue at a moment, so that each clock is there at least.
     pub(crate) fn advance_all(&mut self, at: Moment, ticks: &mut Ticks)
-        ensures state { self.new ≡ world_at_moment self.old at }
+        ensures state { self.new ≡ house_at_moment self.old at }
         ensures cost { ticks.new ≤ ticks.old + moment_ticks at self.old.queues }
     {
         for queue in self.queues.iter_mut() {

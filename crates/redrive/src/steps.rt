@@ -90,10 +90,10 @@ pub struct HouseRun {
 
 impl House {
     ghost use Rattle.redrive.specs.History.{AllQueues, IsWholeHistory};
-    ghost use Rattle.redrive.specs.World.{queue_of_uid, IsRegistry};
+    ghost use Rattle.redrive.specs.House.{queue_of_uid, IsRegistry};
     ghost use Rattle.redrive.specs.Cost.{ticks_of_steps};
     ghost use Rattle.redrive.specs.private.Cost.{IsDone};
-    ghost use Rattle.redrive.specs.WorldRun.{act_of, AreHouseAnswers, world_after_all, history_after, IsAsIfAlone, AreRecomputed};
+    ghost use Rattle.redrive.specs.HouseSteps.{act_of, AreHouseAnswers, house_after_all, history_after, IsAsIfAlone, AreRecomputed};
 
     /// Does one step.
     fn take_step(
@@ -143,10 +143,10 @@ impl House {
         ticks: &mut Ticks,
     ) -> Result<HouseRun, Fault>
         ensures answers { IfOk result (λ run. AreHouseAnswers self.old steps.now run.answers.items) }
-        ensures state { IfOk result (λ run. self.new ≡ world_after_all self.old steps.now run.answers.items) }
+        ensures state { IfOk result (λ run. self.new ≡ house_after_all self.old steps.now run.answers.items) }
         ensures alone { IfOk result (λ run. (uid : ℕ) → IsAsIfAlone self.old uid (queue_of_uid self.old uid)
             steps.now run.answers.items (queue_of_uid self.new uid)) }
-        ensures history { IfOk result (λ run. (all : AllQueues) → all.world ≡ self.old → IsWholeHistory all
+        ensures history { IfOk result (λ run. (all : AllQueues) → all.house ≡ self.old → IsWholeHistory all
             → IsWholeHistory (history_after all steps.now run.answers.items)) }
         ensures recomputed { IfOk result (λ run. AreRecomputed self.old self.new steps.now run.answers.items minute alarm run.metrics.items) }
         ensures err { OnErr result (self.new ≡ self.old) }

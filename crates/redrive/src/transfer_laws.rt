@@ -12,12 +12,12 @@ ghost use Rattle.queue_core.specs.Legal.{IsLegal};
 ghost use Rattle.redrive.specs.declared.steps.HouseStep.{HouseStep};
 ghost use Rattle.redrive.specs.declared.steps.HouseStep.TheVariants.{HandOver};
 ghost use Rattle.redrive.specs.declared.moved.Moved.{Moved};
-ghost use Rattle.redrive.specs.World.{World, new_world, queue_of_uid, arrive_answer, IsHandedOver, IsMoved, has_target};
+ghost use Rattle.redrive.specs.House.{House, new_house, queue_of_uid, arrive_answer, IsHandedOver, IsMoved, has_target};
 ghost use Rattle.redrive.specs.Waiting.{waiting_in};
 ghost use Rattle.redrive.specs.History.{AllQueues};
 ghost use Rattle.redrive.specs.HistorySteps.{HistoryStep, Own, AreHistoryAnswers, after_history_steps};
 ghost use Rattle.redrive.specs.WholeSteps.{StandForWhole, whole_after_steps};
-ghost use Rattle.redrive.specs.WorldRun.{HouseAnswer, AreHouseAnswers, AreStepsTo, steps_of_move, world_after_all, history_after};
+ghost use Rattle.redrive.specs.HouseSteps.{HouseAnswer, AreHouseAnswers, AreStepsTo, steps_of_move, house_after_all, history_after};
 ghost use Rattle.redrive.specs.Places.{first_history, EachAcceptedOnce, EachHasItsFate, EachHasOnePlace, NoRelayDeleted};
 
 /// Whatever the steps are, and wherever memory runs out, each queue that is there or was deleted stands for
@@ -71,7 +71,7 @@ pub fn each_message_has_one_place()
 /// the same. So the laws over lists of such steps are laws of [`House::run`](crate::House::run).
 pub fn own_steps_are_history_steps()
     ensures answered { (all : AllQueues) (steps : List HouseStep) (answers : List HouseAnswer)
-        → AreHouseAnswers all.world steps answers → AreHistoryAnswers all (map Own steps) answers }
+        → AreHouseAnswers all.house steps answers → AreHistoryAnswers all (map Own steps) answers }
     ensures left { (all : AllQueues) (steps : List HouseStep) (answers : List HouseAnswer)
         → after_history_steps all (map Own steps) answers ≡ history_after all steps answers }
 {}
@@ -80,10 +80,10 @@ pub fn own_steps_are_history_steps()
 /// leave is what steps leave: a hand-over, and, after `Arrived` or `Again`, a confirmation. So the laws
 /// over lists of steps are laws of these calls.
 pub fn moves_are_steps()
-    ensures handed_over { (old new : World) (source at : ℕ) (answer : Result Moved Fault)
+    ensures handed_over { (old new : House) (source at : ℕ) (answer : Result Moved Fault)
         → Meets answer (arrive_answer old source at) → IsHandedOver old source at answer new
         → AreStepsTo old (HandOver at source ∷ []) new }
-    ensures moved { (old new : World) (source at : ℕ) (answer : Result Moved Fault) (m : IsMoved old source at answer new)
+    ensures moved { (old new : House) (source at : ℕ) (answer : Result Moved Fault) (m : IsMoved old source at answer new)
         → AreStepsTo old (steps_of_move source at m.handed_over) new }
 {}
 
@@ -91,7 +91,7 @@ pub fn moves_are_steps()
 /// messages waiting in its source than there were, unless none waited. The source's journal is one that
 /// a queue can have, as each queue's is.
 pub fn moves_leave_fewer()
-    ensures { (old new : World) (source at : ℕ) (moved : Moved)
+    ensures { (old new : House) (source at : ℕ) (moved : Moved)
         → moved ≢ Moved.None → ForSome (queue_of_uid old source) (λ q. IsLegal q)
         → IsMoved old source at (Ok moved) new
         → length (waiting_in new source) < length (waiting_in old source) }
@@ -102,5 +102,5 @@ pub fn moves_leave_fewer()
 pub fn no_queue_is_its_own_target()
     ensures { (config : Configuration) (at : ℕ) (steps : List HouseStep) (answers : List HouseAnswer)
         → AreConfigured config.queues
-        → All (λ q. has_target q.uid q ≡ false) (world_after_all (new_world config at) steps answers).queues }
+        → All (λ q. has_target q.uid q ≡ false) (house_after_all (new_house config at) steps answers).queues }
 {}

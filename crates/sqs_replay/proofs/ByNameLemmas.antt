@@ -14,11 +14,11 @@ use Rattle.message.specs.declared.fault.Fault.TheVariants.{QueueDoesNotExist, Ou
 use Rattle.message.specs.Fault.{Meets}
 use Rattle.message.specs.Order.{text_before}
 use Rattle.message.proofs.SortedLemmas.{all-sorted, map-sorted}
-use Rattle.board.specs.Sheet.{Statistics}
+use Rattle.board.specs.Sheet.{Sheet}
 use Rattle.board.specs.Queue.{sheet_of}
 use Rattle.queue_core.specs.Queue.{QueueHistory, at_moment}
 use Rattle.redrive.specs.Listing.{in_order}
-use Rattle.redrive.specs.World.{World, queue_named, queue_of_uid, names_in_world, with_queue_changed, world_at_moment, IsRegistry}
+use Rattle.redrive.specs.House.{House, queue_named, queue_of_uid, names_in_house, with_queue_changed, house_at_moment, IsRegistry}
 use Rattle.sqs_replay.specs.Sheets.{sheets_of}
 use Rattle.sqs_replay.specs.Served.{sheet_served, named_sheet_served}
 use Rattle.sqs_replay.proofs.SheetLemmas.{look-left, look-queue}
@@ -35,10 +35,10 @@ names-of-sheets [] = refl
 names-of-sheets (q ∷ queues) = ap (λ (l : List (List ℕ)). q.name ∷ l) (names-of-sheets queues)
 
 -- every name is listed, in the order of the sheets
-pub listed-sheets : (w : World) → names_in_world w [] ≡ map (λ s. s.name) (sheets_of w)
+pub listed-sheets : (w : House) → names_in_house w [] ≡ map (λ s. s.name) (sheets_of w)
 listed-sheets w =
     ap in_order (no-prefix (map (λ q. q.name) w.queues) ∙ names-of-sheets w.queues)
-    ∙ sym (map-sorted (λ (s : Statistics). s.name) text_before (map sheet_of w.queues))
+    ∙ sym (map-sorted (λ (s : Sheet). s.name) text_before (map sheet_of w.queues))
 
 -- ---- found by a key
 
@@ -57,9 +57,9 @@ module _ {X K : Type 0} (e : K → K → Bool) (same : (k : K) → e k k ≡ tru
   found-all [] h = tt
   found-all (x ∷ xs) h = (rw (same (key x)) refl, found-behind x xs xs h.0 (found-all xs h.1))
 
--- ---- a world at a moment
+-- ---- a house at a moment
 
-module _ (w : World) (at : ℕ) where
+module _ (w : House) (at : ℕ) where
   map-at : (queues : List QueueHistory) → map (λ q. at_moment q at) (map (λ q. at_moment q at) queues) ≡ map (λ q. at_moment q at) queues
   map-at [] = refl
   map-at (q ∷ queues) =
@@ -67,7 +67,7 @@ module _ (w : World) (at : ℕ) where
       rw (map-at queues, same) refl
 
   -- a second time nothing changes
-  pub at-moment-twice : world_at_moment (world_at_moment w at) at ≡ world_at_moment w at
+  pub at-moment-twice : house_at_moment (house_at_moment w at) at ≡ house_at_moment w at
   at-moment-twice = ap (λ (queues : List QueueHistory). record w { queues = queues }) (map-at w.queues)
 
 cond-still : {X : Type 0} (b : Bool) (x y : X) → y ≡ x → cond b y x ≡ x
@@ -95,11 +95,11 @@ changed-still at uid (q ∷ queues) h =
 
 -- ---- each sheet, where every queue is at the moment
 
-module _ (w : World) (at : ℕ) where
+module _ (w : House) (at : ℕ) where
   -- the statistics of its name are these, and nothing changes by looking
-  pub record IsServed (s : Statistics) : Type 0 where
+  pub record IsServed (s : Sheet) : Type 0 where
     pub answer : (named_sheet_served w at s.name).answer ≡ Ok s
-    pub stays : (named_sheet_served w at s.name).world ≡ w
+    pub stays : (named_sheet_served w at s.name).house ≡ w
 
   module _ (all : AllByRecursion (IsAt at) w.queues) (q : QueueHistory) (still : at_moment q at ≡ q) (named : queue_named w q.name ≡ Some q) (here : queue_of_uid w q.uid ≡ Some q) where
     named-served : named_sheet_served w at q.name ≡ sheet_served w q.uid at
@@ -114,7 +114,7 @@ module _ (w : World) (at : ℕ) where
           ap (λ s. s.answer) named-served
           ∙ ap (λ (o : Option QueueHistory). option_map_or (λ x. Ok (sheet_of x)) o (Err QueueDoesNotExist)) (look-queue w q.uid at q here)
           ∙ ap (λ (x : QueueHistory). Ok (sheet_of x)) still;
-      stays = ap (λ s. s.world) named-served ∙ look-left w q.uid at q here ∙ looked-still;
+      stays = ap (λ s. s.house) named-served ∙ look-left w q.uid at q here ∙ looked-still;
     }
 
   served-each : AllByRecursion (IsAt at) w.queues → (queues : List QueueHistory) → AllByRecursion (IsAt at) queues
@@ -126,9 +126,9 @@ module _ (w : World) (at : ℕ) where
   served-each all (q ∷ queues) still names uids = (served-sheet all q still.0 names.0 uids.0, served-each all queues still.1 names.1 uids.1)
 
   -- so are all of them
-  pub served-at : w ≡ world_at_moment w at → IsRegistry w → (i : ℕ) (d : Statistics) → i < length (sheets_of w) → IsServed (get_or (sheets_of w) i d)
+  pub served-at : w ≡ house_at_moment w at → IsRegistry w → (i : ℕ) (d : Sheet) → i < length (sheets_of w) → IsServed (get_or (sheets_of w) i d)
   served-at same h i d l =
-      let all : AllByRecursion (IsAt at) w.queues = each-still at w.queues (ap (λ (v : World). v.queues) same) in
+      let all : AllByRecursion (IsAt at) w.queues = each-still at w.queues (ap (λ (v : House). v.queues) same) in
       All-from_recursion IsServed (sheets_of w)
       (all-sorted (λ s t. text_before s.name t.name) IsServed (map sheet_of w.queues)
       (served-each all w.queues all
@@ -146,22 +146,22 @@ only-memory {T} fault wanted x meets is =
 
 -- ---- one name further
 
-module _ (w : World) (at : ℕ) (same : w ≡ world_at_moment w at) (h : IsRegistry w) (names : List (List ℕ)) (listed : names ≡ map (λ s. s.name) (sheets_of w)) where
+module _ (w : House) (at : ℕ) (same : w ≡ house_at_moment w at) (h : IsRegistry w) (names : List (List ℕ)) (listed : names ≡ map (λ s. s.name) (sheets_of w)) where
   as-many : length names ≡ length (sheets_of w)
-  as-many = ap (λ (l : List (List ℕ)). length l) listed ∙ length-map (sheets_of w) (λ (s : Statistics). s.name)
+  as-many = ap (λ (l : List (List ℕ)). length l) listed ∙ length-map (sheets_of w) (λ (s : Sheet). s.name)
 
-  pub sheets-all : (i : ℕ) (sheets : List Statistics) → length names ≤ i → sheets ≡ take i (sheets_of w) → sheets ≡ sheets_of w
+  pub sheets-all : (i : ℕ) (sheets : List Sheet) → length names ≤ i → sheets ≡ take i (sheets_of w) → sheets ≡ sheets_of w
   sheets-all i sheets past is = is ∙ take_all i (sheets_of w) (omega (arith, as-many))
 
-  module _ (house : World) (now : house ≡ w) (i : ℕ) (l : i < length names) (d name : List ℕ) (is : name ≡ get_or names i d) where
-    one : Statistics
+  module _ (house : House) (now : house ≡ w) (i : ℕ) (l : i < length names) (d name : List ℕ) (is : name ≡ get_or names i d) where
+    one : Sheet
     one = get_or (sheets_of w) i (sheet_of some_queue)
 
     one-name : name ≡ one.name
     unfolding one
     one-name =
         is ∙ ap (λ (n : List (List ℕ)). get_or n i d) listed
-        ∙ get_or-map (λ (s : Statistics). s.name) (sheets_of w) i (sheet_of some_queue) d (omega (arith, as-many))
+        ∙ get_or-map (λ (s : Sheet). s.name) (sheets_of w) i (sheet_of some_queue) d (omega (arith, as-many))
 
     one-served : IsServed w at one
     unfolding one
@@ -169,21 +169,21 @@ module _ (w : World) (at : ℕ) (same : w ≡ world_at_moment w at) (h : IsRegis
 
     one-answer : (named_sheet_served house at name).answer ≡ Ok one
     one-answer =
-        subst (λ (v : World). (named_sheet_served v at name).answer ≡ Ok one) (sym now)
+        subst (λ (v : House). (named_sheet_served v at name).answer ≡ Ok one) (sym now)
         (subst (λ (n : List ℕ). (named_sheet_served w at n).answer ≡ Ok one) (sym one-name) one-served.answer)
 
-    pub next-stays : (x : World) → x ≡ (named_sheet_served house at name).world → x ≡ w
+    pub next-stays : (x : House) → x ≡ (named_sheet_served house at name).house → x ≡ w
     next-stays x is =
-        is ∙ ap (λ (v : World). (named_sheet_served v at name).world) now ∙ ap (λ (n : List ℕ). (named_sheet_served w at n).world) one-name ∙ one-served.stays
+        is ∙ ap (λ (v : House). (named_sheet_served v at name).house) now ∙ ap (λ (n : List ℕ). (named_sheet_served w at n).house) one-name ∙ one-served.stays
 
-    pub next-fault : (fault : Fault) → Meets {T = Statistics} (Err fault) (named_sheet_served house at name).answer → fault ≡ OutOfMemory
+    pub next-fault : (fault : Fault) → Meets {T = Sheet} (Err fault) (named_sheet_served house at name).answer → fault ≡ OutOfMemory
     next-fault fault meets = only-memory fault (named_sheet_served house at name).answer one meets one-answer
 
-    pub next-sheets : (sheet : Statistics) (sheets new : List Statistics) → ◌≡◌ {A = Result Statistics Fault} (Ok sheet) (named_sheet_served house at name).answer
+    pub next-sheets : (sheet : Sheet) (sheets new : List Sheet) → ◌≡◌ {A = Result Sheet Fault} (Ok sheet) (named_sheet_served house at name).answer
         → sheets ≡ take i (sheets_of w) → new ≡ sheets ++ sheet ∷ [] → new ≡ take (i + 1) (sheets_of w)
     unfolding one
     next-sheets sheet sheets new told before more =
-        let e : ◌≡◌ {A = Result Statistics Fault} (Ok sheet) (Ok one) = told ∙ one-answer in
+        let e : ◌≡◌ {A = Result Sheet Fault} (Ok sheet) (Ok one) = told ∙ one-answer in
         let it : sheet ≡ one = cc in
-        more ∙ ap (λ (x : List Statistics). x ++ sheet ∷ []) before ∙ ap (λ (x : Statistics). take i (sheets_of w) ++ x ∷ []) it
+        more ∙ ap (λ (x : List Sheet). x ++ sheet ∷ []) before ∙ ap (λ (x : Sheet). take i (sheets_of w) ++ x ∷ []) it
         ∙ sym (take_more (sheets_of w) i (sheet_of some_queue) (omega (arith, as-many)))

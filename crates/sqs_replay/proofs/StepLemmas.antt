@@ -12,7 +12,7 @@ use Rattle.aws_json.specs.declared.batch.BatchEntry.{BatchEntry}
 use Rattle.aws_json.specs.declared.reply.ReplyShape.{ReplyShape}
 use Rattle.aws_json.specs.declared.request.Request.{Request}
 use Rattle.aws_json.specs.Steps.{result_map}
-use Rattle.redrive.specs.World.{World, found_uid}
+use Rattle.redrive.specs.House.{House, found_uid}
 use Rattle.request_plan.specs.declared.plan.Performed.{Performed}
 use Rattle.request_plan.specs.declared.plan.Step.{Step}
 use Rattle.request_plan.specs.declared.plan.Step.TheVariants as steps
@@ -25,7 +25,7 @@ use Rattle.request_plan.specs.Plan.{Comes, Follows, after, by_case, next_entry, 
 use Rattle.request_plan.specs.Task.{Begins, queue_of_task, task_of, task_without_memory}
 use Rattle.sqs_replay.specs.declared.shown.LineAnswer.{LineAnswer}
 use Rattle.sqs_replay.specs.declared.shown.LineAnswer.TheVariants as shown
-use Rattle.sqs_replay.specs.Served.{AnswerAndWorld, Leaves, most_behind, most_commands, played, step_served, steps_served, task_served, unchanged}
+use Rattle.sqs_replay.specs.Served.{AnswerAndHouse, Leaves, most_behind, most_commands, played, step_served, steps_served, task_served, unchanged}
 use Rattle.sqs_replay.proofs.Memory.{memory_or_other, met}
 
 -- ---- a step asks no more commands than the one before it says
@@ -79,13 +79,13 @@ follows_comes (thens.Entry id es answers) step wanted h = h
 -- ---- the steps from here
 
 -- what they come to, with commands enough, is what they come to from the first one, unless memory ran out
-abbrev pub GoesOn : AnswerAndWorld (Result ReplyShape Fault) → World → ℕ → ℕ → Step → Type 0
+abbrev pub GoesOn : AnswerAndHouse (Result ReplyShape Fault) → House → ℕ → ℕ → Step → Type 0
 GoesOn whole now uid at step =
     ((most : ℕ) × (most_commands step ≤ most) × (played most now uid at step ≡ whole)) ⊎ (step ≡ steps.Answer (Err OutOfMemory))
 
-pub GoesOn-next : (whole : AnswerAndWorld (Result ReplyShape Fault)) (now : World) (uid at : ℕ) (command : Command) (seconds : ℕ) (purpose : Then) (step next : Step)
-    (left : World) → GoesOn whole now uid at step → step ≡ steps.Ask command seconds purpose
-    → Comes next (step_served now uid at command purpose).answer → left ≡ (step_served now uid at command purpose).world
+pub GoesOn-next : (whole : AnswerAndHouse (Result ReplyShape Fault)) (now : House) (uid at : ℕ) (command : Command) (seconds : ℕ) (purpose : Then) (step next : Step)
+    (left : House) → GoesOn whole now uid at step → step ≡ steps.Ask command seconds purpose
+    → Comes next (step_served now uid at command purpose).answer → left ≡ (step_served now uid at command purpose).house
     → GoesOn whole left uid at next
 GoesOn-next whole now uid at command seconds purpose step next left (inr memory) asks comes is = absurd (cc)
 GoesOn-next whole now uid at command seconds purpose step next left (inl due) asks (inr memory) is = inr memory
@@ -97,7 +97,7 @@ GoesOn-next whole now uid at command seconds purpose step next left (inl (suc mo
     inl (most, omega arith, rw (is, comes) (rw asks at same))
 
 -- as many commands as a step may ask are as good as any greater number
-pub enough-played : (n : ℕ) (now : World) (uid at : ℕ) (step : Step) (most : ℕ) → most_commands step ≤ most → most_commands step ≤ n
+pub enough-played : (n : ℕ) (now : House) (uid at : ℕ) (step : Step) (most : ℕ) → most_commands step ≤ most → most_commands step ≤ n
     → played n now uid at step ≡ played most now uid at step
 enough-played n now uid at (steps.Answer answer) most h k = refl
 enough-played zero now uid at (steps.Ask command seconds purpose) most h k = absurd (let none : suc (most_behind purpose) ≤ 0 = k in omega arith)
@@ -107,7 +107,7 @@ enough-played (suc n) now uid at (steps.Ask command seconds purpose) (suc most) 
     let fewer : most_commands next.answer ≤ most_behind purpose = most-after uid purpose _ in
     let one : suc (most_behind purpose) ≤ suc n = k in
     let other : suc (most_behind purpose) ≤ suc most = h in
-    enough-played n next.world uid at next.answer most (omega arith) (omega arith)
+    enough-played n next.house uid at next.answer most (omega arith) (omega arith)
 
 -- ---- the task of a request; of a batch memory may have run out
 
@@ -126,11 +126,11 @@ meets_memory answer meets =
       | inr other ↦ ap is_out_of_memory (met answer (Err OutOfMemory) other meets)
     ]
 
-module _ (w left : World) (at : ℕ) (result : Result LineAnswer Fault) where
-  abbrev IsMet : AnswerAndWorld (Result ReplyShape Fault) → Type 0
-  IsMet s = Meets result (result_map shown.Reply s.answer) × Leaves result left s.world
+module _ (w left : House) (at : ℕ) (result : Result LineAnswer Fault) where
+  abbrev IsMet : AnswerAndHouse (Result ReplyShape Fault) → Type 0
+  IsMet s = Meets result (result_map shown.Reply s.answer) × Leaves result left s.house
 
-  met_in : (found : Option ℕ) (serve : ℕ → AnswerAndWorld (Result ReplyShape Fault))
+  met_in : (found : Option ℕ) (serve : ℕ → AnswerAndHouse (Result ReplyShape Fault))
       → IsMet (option_map_or (λ uid. unchanged w (Err OutOfMemory)) found (unchanged w (Err QueueDoesNotExist)))
       → IsMet (option_map_or serve found (unchanged w (Err QueueDoesNotExist)))
   met_in None serve h = h
@@ -141,8 +141,8 @@ module _ (w left : World) (at : ℕ) (result : Result LineAnswer Fault) where
   met_memory task h = h
 
   pub begun_served : (request : Request) (task : Task) → Begins request task
-      → Meets result (result_map shown.Reply (task_served w at task).answer) → Leaves result left (task_served w at task).world
-      → Meets result (result_map shown.Reply (task_served w at (task_of request)).answer) × Leaves result left (task_served w at (task_of request)).world
+      → Meets result (result_map shown.Reply (task_served w at task).answer) → Leaves result left (task_served w at task).house
+      → Meets result (result_map shown.Reply (task_served w at (task_of request)).answer) × Leaves result left (task_served w at (task_of request)).house
   begun_served request task (inl same) meets leaves = subst (λ (t : Task). IsMet (task_served w at t)) same (meets, leaves)
   begun_served request task (inr (batch, memory)) meets leaves =
       met_memory (task_of request) (subst (λ (t : Task). IsMet (task_served w at t)) memory (meets, leaves))

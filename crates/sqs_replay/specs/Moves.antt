@@ -5,21 +5,21 @@ use Rattle.message.specs.declared.fault.Fault.{Fault}
 use Rattle.queue_core.specs.Messages.{message_count}
 use Rattle.redrive.specs.declared.moved.Moved.{Moved}
 use Rattle.redrive.specs.declared.moved.Moved.TheVariants as moved
-use Rattle.redrive.specs.World.{World, queue_of_uid, arrive_answer, world_after_hand_over, needs_confirmation, confirm_answer, world_after_confirm, move_answer}
+use Rattle.redrive.specs.House.{House, queue_of_uid, arrive_answer, house_after_hand_over, needs_confirmation, confirm_answer, house_after_confirm, move_answer}
 
 -- ---- one parcel
 
--- the world between the halves of a move: the parcel is handed over, and not confirmed
-abbrev pub world_between : World → ℕ → ℕ → World
-world_between w source at = world_after_hand_over w source at (arrive_answer w source at)
+-- the house between the halves of a move: the parcel is handed over, and not confirmed
+abbrev pub house_between : House → ℕ → ℕ → House
+house_between w source at = house_after_hand_over w source at (arrive_answer w source at)
 
-abbrev pub confirmed_world : World → ℕ → ℕ → World
-confirmed_world between source at = world_after_confirm between source at (confirm_answer between source at)
+abbrev pub confirmed_house : House → ℕ → ℕ → House
+confirmed_house between source at = house_after_confirm between source at (confirm_answer between source at)
 
 -- what a move leaves
-abbrev pub world_after_move : World → ℕ → ℕ → World
-world_after_move w source at =
-    if needs_confirmation (arrive_answer w source at) then confirmed_world (world_between w source at) source at else world_between w source at
+abbrev pub house_after_move : House → ℕ → ℕ → House
+house_after_move w source at =
+    if needs_confirmation (arrive_answer w source at) then confirmed_house (house_between w source at) source at else house_between w source at
 
 -- ---- one after another
 
@@ -30,22 +30,22 @@ goes_on (Ok _) = true
 goes_on (Err fault) = false
 
 -- what so many parcels at most leave, until none waits or a queue refuses
-abbrev pub some_moves : ℕ → World → ℕ → ℕ → World
+abbrev pub some_moves : ℕ → House → ℕ → ℕ → House
 some_moves zero w source at = w
 some_moves (suc n) w source at =
-    if goes_on (move_answer w source at) then some_moves n (world_after_move w source at) source at else world_after_move w source at
+    if goes_on (move_answer w source at) then some_moves n (house_after_move w source at) source at else house_after_move w source at
 
 -- how many messages the queue of a uid ever had: no more of them can wait than that
-abbrev pub message_count_in : World → ℕ → ℕ
+abbrev pub message_count_in : House → ℕ → ℕ
 message_count_in w uid = option_map_or (λ q. message_count q.lines) (queue_of_uid w uid) 0
 
 -- what every parcel of the queue of a uid leaves
-abbrev pub all_moves : World → ℕ → ℕ → World
+abbrev pub all_moves : House → ℕ → ℕ → House
 all_moves w source at = some_moves (message_count_in w source) w source at
 
--- one of the moves, behind so many others, was refused, and left this world
-pub record WasRefused (w : World) (source at : ℕ) (left : World) : Type 0 where
+-- one of the moves, behind so many others, was refused, and left this house
+pub record WasRefused (w : House) (source at : ℕ) (left : House) : Type 0 where
   pub moved : ℕ
   pub fault : Fault
   pub refused : move_answer (some_moves moved w source at) source at ≡ Err fault
-  pub last : left ≡ world_after_move (some_moves moved w source at) source at
+  pub last : left ≡ house_after_move (some_moves moved w source at) source at

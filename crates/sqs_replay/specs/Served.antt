@@ -1,4 +1,4 @@
--- What a line of the input asks, and what a world answers it.
+-- What a line of the input asks, and what a house answers it.
 use Rattle.std.specs.Prelude.{◌≡◌, ℕ, zero, suc, ⊤, nat_lt, if◌then◌else◌, List, ◌++◌, length, codes, decimal, Option, Some, None, option_and_then, Result, Ok, Err, MatchBool}
 use Rattle.std.specs.Option.{option_map_or}
 use Rattle.std.specs.Str.{bytes_eq}
@@ -36,7 +36,7 @@ use Rattle.board.specs.Queue.{sheet_of}
 use Rattle.statistics_api.specs.Texts.{sheet_text, sheets_text, rows_text, alarms_text}
 use Rattle.sqs_replay.specs.Cutting.{longest_line}
 use Rattle.sqs_replay.specs.InputLine.{input_line_of}
-use Rattle.redrive.specs.World.{World, queue_of_uid, found_uid, target_uid, create_answer, world_after_create, step_answer, world_after_step, delete_answer, world_after_delete, names_in_world, sources_answer, world_at_moment}
+use Rattle.redrive.specs.House.{House, queue_of_uid, found_uid, target_uid, create_answer, house_after_create, step_answer, house_after_step, delete_answer, house_after_delete, names_in_house, sources_answer, house_at_moment}
 use Rattle.sqs_replay.specs.Moves.{all_moves}
 use Rattle.sqs_replay.specs.Sheets.{sheets_of}
 
@@ -63,34 +63,34 @@ asked_of line =
 
 -- ---- what an action answers, and what it leaves
 
--- the answer, and the world after it
-pub record AnswerAndWorld (T : Type 0) : Type 0 where
+-- the answer, and the house after it
+pub record AnswerAndHouse (T : Type 0) : Type 0 where
   pub answer : T
-  pub world : World
+  pub house : House
 
 -- nothing changes
-abbrev pub unchanged : {T : Type 0} → World → T → AnswerAndWorld T
-unchanged w answer = record { answer = answer; world = w }
+abbrev pub unchanged : {T : Type 0} → House → T → AnswerAndHouse T
+unchanged w answer = record { answer = answer; house = w }
 
 -- a call of the queue registry, by its answer and what it leaves with an answer
-abbrev pub called : {T : Type 0} → Result T Fault → (Result T Fault → World) → AnswerAndWorld (Result T Fault)
-called answer after = record { answer = answer; world = after answer }
+abbrev pub called : {T : Type 0} → Result T Fault → (Result T Fault → House) → AnswerAndHouse (Result T Fault)
+called answer after = record { answer = answer; house = after answer }
 
 -- the same with another form of its answer
-abbrev pub told : {A B : Type 0} → (A → B) → AnswerAndWorld A → AnswerAndWorld B
-told form s = record { answer = form s.answer; world = s.world }
+abbrev pub told : {A B : Type 0} → (A → B) → AnswerAndHouse A → AnswerAndHouse B
+told form s = record { answer = form s.answer; house = s.house }
 
 -- what is done in the queue of a name; nothing where no queue has it
-abbrev pub in_queue : {T : Type 0} → World → List ℕ → (ℕ → AnswerAndWorld (Result T Fault)) → AnswerAndWorld (Result T Fault)
+abbrev pub in_queue : {T : Type 0} → House → List ℕ → (ℕ → AnswerAndHouse (Result T Fault)) → AnswerAndHouse (Result T Fault)
 in_queue w name serve = option_map_or serve (found_uid w name) (unchanged w (Err QueueDoesNotExist))
 
 -- a command in the queue of a uid
-abbrev pub command_served : World → ℕ → ℕ → Command → AnswerAndWorld (Result Reply Fault)
-command_served w uid at command = called (step_answer w uid at command) (world_after_step w uid at command)
+abbrev pub command_served : House → ℕ → ℕ → Command → AnswerAndHouse (Result Reply Fault)
+command_served w uid at command = called (step_answer w uid at command) (house_after_step w uid at command)
 
 -- the deletion of the queue of a uid
-abbrev pub delete_served : World → ℕ → ℕ → AnswerAndWorld (Result (Unit {0}) Fault)
-delete_served w uid at = called (delete_answer w uid) (world_after_delete w uid at)
+abbrev pub delete_served : House → ℕ → ℕ → AnswerAndHouse (Result (Unit {0}) Fault)
+delete_served w uid at = called (delete_answer w uid) (house_after_delete w uid at)
 
 -- ---- requests, each by its plan: what it is about, and the steps that it asks of one queue
 
@@ -99,16 +99,16 @@ abbrev pub outcome_of : Command → Result Reply Fault → Result Performed Faul
 outcome_of command answer = result_map (λ reply. record { command = command; reply = reply }) answer
 
 -- a command in the queue of a uid, and the step that comes behind it
-abbrev pub step_served : World → ℕ → ℕ → Command → Then → AnswerAndWorld Step
+abbrev pub step_served : House → ℕ → ℕ → Command → Then → AnswerAndHouse Step
 step_served w uid at command purpose = told (λ answer. after uid purpose (outcome_of command answer)) (command_served w uid at command)
 
 -- Steps in the queue of a uid, one after another until there is an answer: so many commands at most, and then as if memory had run out. The replay does
 -- not wait, so the seconds are not looked at
-abbrev pub played : ℕ → World → ℕ → ℕ → Step → AnswerAndWorld (Result ReplyShape Fault)
+abbrev pub played : ℕ → House → ℕ → ℕ → Step → AnswerAndHouse (Result ReplyShape Fault)
 played n w uid at (steps.Answer answer) = unchanged w answer
 played zero w uid at (steps.Ask command seconds purpose) = unchanged w (Err OutOfMemory)
 played (suc n) w uid at (steps.Ask command seconds purpose) =
-    played n (step_served w uid at command purpose).world uid at (step_served w uid at command purpose).answer
+    played n (step_served w uid at command purpose).house uid at (step_served w uid at command purpose).answer
 
 -- how many commands may come behind one that was asked for this
 abbrev pub most_behind : Then → ℕ
@@ -122,49 +122,49 @@ most_commands (steps.Ask command seconds purpose) = suc (most_behind purpose)
 most_commands (steps.Answer answer) = 0
 
 -- from a step on, all that it may ask
-abbrev pub steps_served : World → ℕ → ℕ → Step → AnswerAndWorld (Result ReplyShape Fault)
+abbrev pub steps_served : House → ℕ → ℕ → Step → AnswerAndHouse (Result ReplyShape Fault)
 steps_served w uid at step = played (most_commands step) w uid at step
 
-abbrev pub task_served : World → ℕ → Task → AnswerAndWorld (Result ReplyShape Fault)
+abbrev pub task_served : House → ℕ → Task → AnswerAndHouse (Result ReplyShape Fault)
 task_served w at (tasks.Create name wish) = told (result_map (λ uid. QueueUrl name))
-    (called (create_answer w name wish) (world_after_create w at name wish))
+    (called (create_answer w name wish) (house_after_create w at name wish))
 task_served w at (tasks.Delete queue) = in_queue w queue (λ uid. told (result_map (λ deleted. Nothing)) (delete_served w uid at))
 task_served w at (tasks.Set queue wish) = in_queue w queue
     (λ uid. told (result_map (λ reply. Nothing)) (command_served w uid at (commands.Set wish (target_uid w wish))))
 task_served w at (tasks.Url name) = in_queue w name (λ uid. unchanged w (Ok (QueueUrl name)))
-task_served w at (tasks.Urls prefix) = unchanged w (Ok (QueueUrls (names_in_world w prefix)))
+task_served w at (tasks.Urls prefix) = unchanged w (Ok (QueueUrls (names_in_house w prefix)))
 task_served w at (tasks.Sources queue) = in_queue w queue (λ uid. unchanged w (result_map SourceQueueUrls (sources_answer w uid)))
 task_served w at (tasks.Ask queue step) = in_queue w queue (λ uid. steps_served w uid at step)
 
-abbrev pub served : World → ℕ → Request → AnswerAndWorld (Result ReplyShape Fault)
+abbrev pub served : House → ℕ → Request → AnswerAndHouse (Result ReplyShape Fault)
 served w at request = task_served w at (task_of request)
 
 -- ---- statistics
 
 -- those of the queue of a uid
-abbrev pub sheet_in : World → ℕ → Result board.Statistics Fault
+abbrev pub sheet_in : House → ℕ → Result board.Sheet Fault
 sheet_in w uid = option_map_or (λ q. Ok (sheet_of q)) (queue_of_uid w uid) (Err QueueDoesNotExist)
 
 -- the same after a look at the queue, which moves its clock to that moment
-abbrev pub sheet_served : World → ℕ → ℕ → AnswerAndWorld (Result board.Statistics Fault)
-sheet_served w uid at = told (λ reply. sheet_in (command_served w uid at commands.Look).world uid) (command_served w uid at commands.Look)
+abbrev pub sheet_served : House → ℕ → ℕ → AnswerAndHouse (Result board.Sheet Fault)
+sheet_served w uid at = told (λ reply. sheet_in (command_served w uid at commands.Look).house uid) (command_served w uid at commands.Look)
 
 -- the same of the queue of a name
-abbrev pub named_sheet_served : World → ℕ → List ℕ → AnswerAndWorld (Result board.Statistics Fault)
+abbrev pub named_sheet_served : House → ℕ → List ℕ → AnswerAndHouse (Result board.Sheet Fault)
 named_sheet_served w at name = in_queue w name (λ uid. sheet_served w uid at)
 
 -- what is shown of it
-abbrev pub sheet_shown : (board.Statistics → LineAnswer) → World → ℕ → List ℕ → AnswerAndWorld (Result LineAnswer Fault)
+abbrev pub sheet_shown : (board.Sheet → LineAnswer) → House → ℕ → List ℕ → AnswerAndHouse (Result LineAnswer Fault)
 sheet_shown show w at name = told (result_map show) (named_sheet_served w at name)
 
 -- every queue's clock moves to a moment, and then this is the answer
-abbrev pub all_served : {T : Type 0} → World → ℕ → (World → T) → AnswerAndWorld T
-all_served w at answer = record { answer = answer (world_at_moment w at); world = world_at_moment w at }
+abbrev pub all_served : {T : Type 0} → House → ℕ → (House → T) → AnswerAndHouse T
+all_served w at answer = record { answer = answer (house_at_moment w at); house = house_at_moment w at }
 
 -- ---- lines
 
 -- a client's request, or one of the replay's own actions
-abbrev pub asked_served : World → ℕ → Asked → AnswerAndWorld (Result LineAnswer Fault)
+abbrev pub asked_served : House → ℕ → Asked → AnswerAndHouse (Result LineAnswer Fault)
 asked_served w at (Client request) = told (result_map shown.Reply) (served w at request)
 asked_served w at Tick = all_served w at (λ after. Ok (shown.Reply Nothing))
 asked_served w at (Statistics None) = all_served w at (λ after. Ok (shown.Queues (sheets_of after)))
@@ -180,20 +180,20 @@ queue_of_asked (Statistics queue) = queue
 queue_of_asked (Rows queue) = Some queue
 queue_of_asked (Alarms queue) = Some queue
 
--- the world after the parcels of the queue of a name moved on, where that queue is there
-abbrev pub moves_after : World → ℕ → Option (List ℕ) → World
+-- the house after the parcels of the queue of a name moved on, where that queue is there
+abbrev pub moves_after : House → ℕ → Option (List ℕ) → House
 moves_after w at name = option_map_or (λ uid. all_moves w uid at) (option_and_then (λ name. found_uid w name) name) w
 
 -- the answer, and what the moves leave that come after it
-abbrev pub then_moves : {T : Type 0} → ℕ → Option (List ℕ) → AnswerAndWorld T → AnswerAndWorld T
-then_moves at name s = record { answer = s.answer; world = moves_after s.world at name }
+abbrev pub then_moves : {T : Type 0} → ℕ → Option (List ℕ) → AnswerAndHouse T → AnswerAndHouse T
+then_moves at name s = record { answer = s.answer; house = moves_after s.house at name }
 
 -- what is asked is answered, and then the dead letters of the queue that it names move on, whatever the answer was
-abbrev pub timed_served : World → Timed → AnswerAndWorld (Result LineAnswer Fault)
+abbrev pub timed_served : House → Timed → AnswerAndHouse (Result LineAnswer Fault)
 timed_served w timed = then_moves timed.at (queue_of_asked timed.asked) (asked_served w timed.at timed.asked)
 
 -- a line that cannot be read changes nothing
-abbrev pub line_served : World → Result Timed Fault → AnswerAndWorld (Result LineAnswer Fault)
+abbrev pub line_served : House → Result Timed Fault → AnswerAndHouse (Result LineAnswer Fault)
 line_served w (Ok timed) = timed_served w timed
 line_served w (Err fault) = unchanged w (Err fault)
 
@@ -210,15 +210,15 @@ abbrev pub answer_text : Result LineAnswer Fault → List ℕ
 answer_text (Ok shown) = decimal 200 ++ codes " " ++ shown_text shown ++ codes "\n"
 answer_text (Err fault) = decimal (fault_status fault) ++ codes " " ++ fault_body fault ++ codes "\n"
 
--- what answers a line, and the world after it
-abbrev pub text_of_line : World → List ℕ → List ℕ
+-- what answers a line, and the house after it
+abbrev pub text_of_line : House → List ℕ → List ℕ
 text_of_line w line = answer_text (line_served w (asked_of line)).answer
 
-abbrev pub world_of_line : World → List ℕ → World
-world_of_line w line = (line_served w (asked_of line)).world
+abbrev pub house_of_line : House → List ℕ → House
+house_of_line w line = (line_served w (asked_of line)).house
 
 -- ---- for private clauses
 
 -- what is left is what was wanted, unless memory ran out
-abbrev pub Leaves : {T : Type 0} → Result T Fault → World → World → Type 0
+abbrev pub Leaves : {T : Type 0} → Result T Fault → House → House → Type 0
 Leaves answer left wanted = MatchBool (is_out_of_memory answer) ⊤ (left ≡ wanted)

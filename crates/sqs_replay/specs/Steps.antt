@@ -4,8 +4,8 @@ use Rattle.message.specs.declared.fault.Fault.{Fault}
 use Rattle.queue_config.specs.Config.{Configuration}
 use Rattle.redrive.specs.declared.steps.HouseStep.{HouseStep}
 use Rattle.redrive.specs.declared.steps.HouseStep.TheVariants as steps
-use Rattle.redrive.specs.World.{World, new_world}
-use Rattle.redrive.specs.WorldRun.{HouseAnswer, AreHouseAnswers, AreTold, world_after_all, history_after}
+use Rattle.redrive.specs.House.{House, new_house}
+use Rattle.redrive.specs.HouseSteps.{HouseAnswer, AreHouseAnswers, AreTold, house_after_all, history_after}
 use Rattle.redrive.specs.History.{AllQueues}
 use Rattle.redrive.specs.HistorySteps.{Own}
 use Rattle.redrive.specs.WholeSteps.{whole_after_steps}
@@ -16,21 +16,21 @@ use Rattle.request_plan.specs.Task.{task_of}
 use Rattle.sqs_replay.specs.declared.answer.Asked.{Asked}
 use Rattle.sqs_replay.specs.declared.answer.Asked.TheVariants.{Client}
 use Rattle.sqs_replay.specs.declared.answer.Timed.{Timed}
-use Rattle.sqs_replay.specs.Served.{asked_of, text_of_line, world_of_line}
+use Rattle.sqs_replay.specs.Served.{asked_of, text_of_line, house_of_line}
 
 -- steps, the registry's answers to them, of which each look and each receive tells what the journal of its queue gives, and the registry that they leave
-pub record LineCourse (old new : World) : Type 0 where
+pub record LineCourse (old new : House) : Type 0 where
   pub steps : List HouseStep
   pub answers : List HouseAnswer
   pub answered : AreHouseAnswers old steps answers
   pub told : AreTold old steps answers
-  pub left : new ≡ world_after_all old steps answers
+  pub left : new ≡ house_after_all old steps answers
 
 -- each line is answered in a registry that steps have left, from the first one on, and so is what comes behind the last line
-abbrev pub IsOutputOf : World → World → List (List ℕ) → List ℕ → Type 0
+abbrev pub IsOutputOf : House → House → List (List ℕ) → List ℕ → Type 0
 IsOutputOf first now [] output = LineCourse first now × (output ≡ [])
 IsOutputOf first now (line ∷ lines) output =
-    LineCourse first now × ((rest : List ℕ) × ((output ≡ text_of_line now line ++ rest) × IsOutputOf first (world_of_line now line) lines rest))
+    LineCourse first now × ((rest : List ℕ) × ((output ≡ text_of_line now line ++ rest) × IsOutputOf first (house_of_line now line) lines rest))
 
 -- whether a step deletes a queue
 abbrev pub is_deletion : HouseStep → Bool
@@ -63,15 +63,15 @@ AskNoDeletion [] = ⊤
 AskNoDeletion (line ∷ lines) = (asks_deletion (asked_of line) ≡ false) × AskNoDeletion lines
 
 -- everything that such steps leave of the configured queues, each with its whole journal
-abbrev pub everything_after : (config : Configuration) (new : World) → LineCourse (new_world config 0) new → AllQueues
+abbrev pub everything_after : (config : Configuration) (new : House) → LineCourse (new_house config 0) new → AllQueues
 everything_after config new course = whole_after_steps (first_history config 0) (map Own course.steps) course.answers
 
 -- the same with the journals that are there, which may begin with a checkpoint
-abbrev pub kept_after : (config : Configuration) (new : World) → LineCourse (new_world config 0) new → AllQueues
+abbrev pub kept_after : (config : Configuration) (new : House) → LineCourse (new_house config 0) new → AllQueues
 kept_after config new course = history_after (first_history config 0) course.steps course.answers
 
 -- no dead letter is accepted twice, each has its fate, and each message is in one place, by whole journals; the first and the last also by those that are there
-pub record KeepsDeadLetters (config : Configuration) (new : World) (course : LineCourse (new_world config 0) new) : Type 0 where
+pub record KeepsDeadLetters (config : Configuration) (new : House) (course : LineCourse (new_house config 0) new) : Type 0 where
   pub once : EachAcceptedOnce (everything_after config new course)
   pub fates : EachHasItsFate (everything_after config new course)
   pub places : NoRelayDeleted (first_history config 0) (map Own course.steps) course.answers → EachHasOnePlace (everything_after config new course)

@@ -2,13 +2,13 @@
 
 ghost use Rattle.std.specs.Prelude.{◌≡◌, ◌++◌, codes, decimal, IfOk, IfErr, OnOk, Ok, Some, false};
 ghost use Rattle.message.specs.Fault.{Meets, is_out_of_memory};
-ghost use Rattle.redrive.specs.World.{names_in_world, sources_answer, target_uid};
+ghost use Rattle.redrive.specs.House.{names_in_house, sources_answer, target_uid};
 ghost use Rattle.aws_json.specs.declared.reply.ReplyShape.TheVariants.{QueueUrl, QueueUrls, SourceQueueUrls};
 ghost use Rattle.aws_json.specs.Steps.{result_map};
 ghost use Rattle.request_plan.specs.declared.task.Task.TheVariants.{Create, Delete, Set, Ask};
 ghost use Rattle.request_plan.specs.Task.{queue_of_task, task_of};
 ghost use Rattle.sqs_replay.specs.declared.shown.LineAnswer.TheVariants.{Reply};
-ghost use Rattle.sqs_replay.specs.Served.{asked_by, asked_of, unchanged, in_queue, task_served, served, asked_served, queue_of_asked, required_queue, line_served, answer_text, text_of_line, world_of_line, Leaves};
+ghost use Rattle.sqs_replay.specs.Served.{asked_by, asked_of, unchanged, in_queue, task_served, served, asked_served, queue_of_asked, required_queue, line_served, answer_text, text_of_line, house_of_line, Leaves};
 ghost use Rattle.sqs_replay.specs.private.Place.{IsPlaceOf};
 
 use crate::ReplayFault;
@@ -100,7 +100,7 @@ fn create(
     wish: Wish,
 ) -> Result<ReplyShape, Fault>
     ensures answer { Meets result (task_served house.old at (Create name wish)).answer }
-    ensures state { Leaves result house.new (task_served house.old at (Create name wish)).world }
+    ensures state { Leaves result house.new (task_served house.old at (Create name wish)).house }
 {
     house.create(alloc, at, name, wish)?;
     Ok(ReplyShape::QueueUrl(name))
@@ -115,7 +115,7 @@ fn delete_queue(
     ticks: &mut Ticks,
 ) -> Result<ReplyShape, Fault>
     ensures answer { Meets result (task_served house.old at (Delete queue.now)).answer }
-    ensures state { Leaves result house.new (task_served house.old at (Delete queue.now)).world }
+    ensures state { Leaves result house.new (task_served house.old at (Delete queue.now)).house }
 {
     let Some(uid) = house.find(queue) else {
         return Err(Fault::QueueDoesNotExist);
@@ -155,7 +155,7 @@ fn set_attributes(
     ticks: &mut Ticks,
 ) -> Result<ReplyShape, Fault>
     ensures answer { Meets result (task_served house.old at (Set queue.now wish)).answer }
-    ensures state { Leaves result house.new (task_served house.old at (Set queue.now wish)).world }
+    ensures state { Leaves result house.new (task_served house.old at (Set queue.now wish)).house }
 {
     let Some(uid) = house.find(queue) else {
         return Err(Fault::QueueDoesNotExist);
@@ -179,7 +179,7 @@ fn target_uid(house: &House, wish: &Wish) -> u64
 
 /// Answers the URLs of the queues whose names begin with a prefix. No clock moves.
 fn urls(alloc: Global, house: &House, prefix: &Prefix) -> Result<ReplyShape, Fault>
-    ensures { Meets result (Ok (QueueUrls (names_in_world house.now prefix.now))) }
+    ensures { Meets result (Ok (QueueUrls (names_in_house house.now prefix.now))) }
 {
     let names = house.list(alloc, prefix.as_text())?;
     Ok(ReplyShape::QueueUrls(QueueNames::new(names)))
@@ -227,7 +227,7 @@ fn ask(
 ) -> AskedAnswer
     ensures place { IsPlaceOf house.new (Some queue.now) result.place }
     ensures answer { Meets result.answer (result_map Reply (task_served house.old at (Ask queue.now step)).answer) }
-    ensures state { Leaves result.answer house.new (task_served house.old at (Ask queue.now step)).world }
+    ensures state { Leaves result.answer house.new (task_served house.old at (Ask queue.now step)).house }
 {
     match house.find_place(queue) {
         Some(found) => {
@@ -254,7 +254,7 @@ fn serve_task(
 ) -> AskedAnswer
     ensures place { IsPlaceOf house.new (queue_of_task task) result.place }
     ensures answer { Meets result.answer (result_map Reply (task_served house.old at task).answer) }
-    ensures state { Leaves result.answer house.new (task_served house.old at task).world }
+    ensures state { Leaves result.answer house.new (task_served house.old at task).house }
 {
     match task {
         Task::Create { name, wish } => {
@@ -289,7 +289,7 @@ fn serve(
 ) -> AskedAnswer
     ensures place { IsPlaceOf house.new (queue_of_task (task_of request)) result.place }
     ensures answer { Meets result.answer (result_map Reply (served house.old at request).answer) }
-    ensures state { Leaves result.answer house.new (served house.old at request).world }
+    ensures state { Leaves result.answer house.new (served house.old at request).house }
 {
     let task = task_of(alloc, request);
     serve_task(alloc, house, at, task, ticks)
@@ -299,7 +299,7 @@ fn serve(
 fn serve_asked(alloc: Global, house: &mut House, timed: Timed, ticks: &mut Ticks) -> AskedAnswer
     ensures place { IsPlaceOf house.new (queue_of_asked timed.asked) result.place }
     ensures answer { Meets result.answer (asked_served house.old timed.at timed.asked).answer }
-    ensures state { Leaves result.answer house.new (asked_served house.old timed.at timed.asked).world }
+    ensures state { Leaves result.answer house.new (asked_served house.old timed.at timed.asked).house }
 {
     let Timed { at, asked } = timed;
     match asked {
@@ -331,7 +331,7 @@ fn serve_line(
     ticks: &mut Ticks,
 ) -> Result<LineAnswer, Fault>
     ensures answer { Meets result (line_served house.old (asked_of line.now)).answer }
-    ensures state { Leaves result house.new (line_served house.old (asked_of line.now)).world }
+    ensures state { Leaves result house.new (line_served house.old (asked_of line.now)).house }
 {
     let timed = read_timed(alloc, line)?;
     let at = timed.at;
@@ -372,11 +372,11 @@ fn written(alloc: Global, status: u16, json: &str) -> Result<Vec<u8>, ReplayFaul
 }
 
 impl Lines for House {
-    ghost use Rattle.sqs_replay.specs.LongLines.{text_of_long_line, world_of_long_line};
+    ghost use Rattle.sqs_replay.specs.LongLines.{text_of_long_line, house_of_long_line};
 
     ghost text = { text_of_line };
 
-    ghost after = { world_of_line };
+    ghost after = { house_of_line };
 
     fn answer(
         &mut self,
@@ -390,5 +390,5 @@ impl Lines for House {
 
     ghost same_text = { text_of_long_line };
 
-    ghost same_after = { world_of_long_line };
+    ghost same_after = { house_of_long_line };
 }

@@ -5,7 +5,7 @@ ghost use Rattle.std.specs.Option.{ForSome};
 ghost use Rattle.message.specs.declared.fault.Fault.TheVariants.{OutOfMemory};
 ghost use Rattle.message.specs.Fault.{is_out_of_memory};
 ghost use Rattle.queue_core.specs.Legal.{IsLegal};
-ghost use Rattle.redrive.specs.World.{World, queue_of_uid, first_parcel_in, StandsAt};
+ghost use Rattle.redrive.specs.House.{House, queue_of_uid, first_parcel_in, StandsAt};
 ghost use Rattle.sqs_replay.specs.Moves.{goes_on, message_count_in, some_moves, all_moves, WasRefused};
 
 use journal::{Moment, Ticks};
@@ -73,7 +73,7 @@ pub(crate) fn move_dead_letters(
 /// waits there, or one of them was refused, and it was the last. The queue's journal is one that a
 /// queue can have, as each queue's is.
 pub fn all_parcels_move()
-    ensures { (w : World) (source at : ℕ)
+    ensures { (w : House) (source at : ℕ)
         → ForSome (queue_of_uid w source) (λ q. IsLegal q)
         → (first_parcel_in (all_moves w source at) source ≡ None) ⊎ WasRefused w source at (all_moves w source at) }
 {}

@@ -6,7 +6,7 @@ ghost use Rattle.message.specs.declared.fault.Fault.TheVariants.{OutOfMemory};
 ghost use Rattle.message.specs.Fault.{Meets};
 ghost use Rattle.queue_core.specs.declared.reply.Reply.TheVariants.{Looked};
 ghost use Rattle.queue_core.specs.Queue.{look_of};
-ghost use Rattle.redrive.specs.World.{queue_of_uid, world_at_moment, IsRegistry};
+ghost use Rattle.redrive.specs.House.{queue_of_uid, house_at_moment, IsRegistry};
 ghost use Rattle.sqs_replay.specs.Sheets.{sheets_of};
 ghost use Rattle.sqs_replay.specs.Served.{Leaves, sheet_in, sheet_served, named_sheet_served, asked_served};
 ghost use Rattle.sqs_replay.specs.declared.answer.Asked.TheVariants.{Statistics, Rows, Alarms};
@@ -40,7 +40,7 @@ fn sheet_of_uid(
     ticks: &mut Ticks,
 ) -> Result<Sheet, Fault>
     ensures answer { Meets result (sheet_served house.old uid at).answer }
-    ensures state { Leaves result house.new (sheet_served house.old uid at).world }
+    ensures state { Leaves result house.new (sheet_served house.old uid at).house }
 {
     let reply = house.step(alloc, uid, at, &Command::Look, ticks)?;
     sheet_in(alloc, house, uid, &reply)
@@ -55,7 +55,7 @@ fn named_sheet(
     ticks: &mut Ticks,
 ) -> Result<Sheet, Fault>
     ensures answer { Meets result (named_sheet_served house.old at name.now).answer }
-    ensures state { Leaves result house.new (named_sheet_served house.old at name.now).world }
+    ensures state { Leaves result house.new (named_sheet_served house.old at name.now).house }
 {
     let Some(uid) = house.find(name) else {
         return Err(Fault::QueueDoesNotExist);
@@ -71,7 +71,7 @@ fn sheets_of_names(
     names: &[QueueName],
     ticks: &mut Ticks,
 ) -> Result<Vec<Sheet>, Fault>
-    requires at { house.old ≡ world_at_moment house.old at }
+    requires at { house.old ≡ house_at_moment house.old at }
     requires registry { IsRegistry house.old }
     requires names { names.now ≡ map (λ s. s.name) (sheets_of house.old) }
     ensures sheets { IfOk result (λ sheets. sheets.items ≡ sheets_of house.old) }
@@ -93,8 +93,8 @@ fn all_sheets(
     at: Moment,
     ticks: &mut Ticks,
 ) -> Result<Listed<Sheet>, Fault>
-    ensures answer { Meets result (Ok (sheets_of (world_at_moment house.old at))) }
-    ensures state { Leaves result house.new (world_at_moment house.old at) }
+    ensures answer { Meets result (Ok (sheets_of (house_at_moment house.old at))) }
+    ensures state { Leaves result house.new (house_at_moment house.old at) }
 {
     house.advance_all(at, ticks);
     let names = house.list(alloc, "")?;
@@ -111,7 +111,7 @@ pub(crate) fn show_statistics(
     ticks: &mut Ticks,
 ) -> Result<LineAnswer, Fault>
     ensures answer { Meets result (asked_served house.old at (Statistics queue.now)).answer }
-    ensures state { Leaves result house.new (asked_served house.old at (Statistics queue.now)).world }
+    ensures state { Leaves result house.new (asked_served house.old at (Statistics queue.now)).house }
 {
     match queue {
         Some(name) => Ok(LineAnswer::Queue(named_sheet(alloc, house, at, name, ticks)?)),
@@ -128,7 +128,7 @@ pub(crate) fn show_rows(
     ticks: &mut Ticks,
 ) -> Result<LineAnswer, Fault>
     ensures answer { Meets result (asked_served house.old at (Rows queue.now)).answer }
-    ensures state { Leaves result house.new (asked_served house.old at (Rows queue.now)).world }
+    ensures state { Leaves result house.new (asked_served house.old at (Rows queue.now)).house }
 {
     Ok(LineAnswer::Rows(named_sheet(alloc, house, at, queue, ticks)?))
 }
@@ -142,7 +142,7 @@ pub(crate) fn show_alarms(
     ticks: &mut Ticks,
 ) -> Result<LineAnswer, Fault>
     ensures answer { Meets result (asked_served house.old at (Alarms queue.now)).answer }
-    ensures state { Leaves result house.new (asked_served house.old at (Alarms queue.now)).world }
+    ensures state { Leaves result house.new (asked_served house.old at (Alarms queue.now)).house }
 {
     Ok(LineAnswer::Alarms(named_sheet(alloc, house, at, queue, ticks)?))
 }

@@ -3,7 +3,7 @@
 ghost use Rattle.std.specs.Prelude.{◌≡◌, ℕ, List, IfOk, IfErr, OnOk};
 ghost use Rattle.message.specs.declared.fault.Fault.TheVariants.{OutOfMemory};
 ghost use Rattle.message.specs.Fault.{Meets};
-ghost use Rattle.redrive.specs.World.{found_uid, StandsAt};
+ghost use Rattle.redrive.specs.House.{found_uid, StandsAt};
 ghost use Rattle.request_plan.specs.Plan.{Comes};
 ghost use Rattle.sqs_replay.specs.Served.{Leaves, step_served, steps_served};
 
@@ -29,7 +29,7 @@ fn next_step(
     requires { StandsAt house.old found }
     ensures step { IfOk result (λ step. Comes step (step_served house.old found.uid at command then).answer) }
     ensures fault { IfErr result (λ fault. fault ≡ OutOfMemory) }
-    ensures state { OnOk result (house.new ≡ (step_served house.old found.uid at command then).world) }
+    ensures state { OnOk result (house.new ≡ (step_served house.old found.uid at command then).house) }
     ensures stays { StandsAt house.new found }
     ensures names { (name : List ℕ) → found_uid house.new name ≡ found_uid house.old name }
 {
@@ -53,7 +53,7 @@ pub(crate) fn play(
 ) -> Result<ReplyShape, Fault>
     requires { StandsAt house.old found }
     ensures answer { Meets result (steps_served house.old found.uid at first).answer }
-    ensures state { Leaves result house.new (steps_served house.old found.uid at first).world }
+    ensures state { Leaves result house.new (steps_served house.old found.uid at first).house }
     ensures stays { StandsAt house.new found }
     ensures names { (name : List ℕ) → found_uid house.new name ≡ found_uid house.old name }
 {

@@ -4,8 +4,8 @@ ghost use Rattle.std.specs.Prelude.{◌≡◌, ◌≤◌, ◌+◌, ◌^◌, ℕ,
 ghost use Rattle.std.specs.Io.KnownBytes.{Appends, IsAtEnd};
 ghost use Rattle.sqs_replay.specs.Failures.{AppendsPart};
 ghost use Rattle.sqs_replay.specs.Progress.{AnswersAll, AnswersPart, AnswersWhole, OnReadFault, ReadingHasCause, InletHasCause, OutletHasCause, MemoryHasCause};
-ghost use Rattle.redrive.specs.World.{World, new_world};
-ghost use Rattle.sqs_replay.specs.Served.{text_of_line, world_of_line};
+ghost use Rattle.redrive.specs.House.{House, new_house};
+ghost use Rattle.sqs_replay.specs.Served.{text_of_line, house_of_line};
 ghost use Rattle.sqs_replay.specs.Replay.{replay_output};
 
 use crate::run::run_lines;
@@ -42,15 +42,15 @@ pub fn replay<I: Inlet, O: Outlet>(
         AppendsPart (O.taken outlet.old) (O.taken outlet.new) (replay_output config input)) }
 
     // What was read and written, whether or not the inlet's bytes were known before.
-    ensures ok { OnOk result ((input : List ℕ) × (end : World)
-        × AnswersAll text_of_line world_of_line (new_world config 0) end
+    ensures ok { OnOk result ((input : List ℕ) × (end : House)
+        × AnswersAll text_of_line house_of_line (new_house config 0) end
         (I.left inlet.old) (I.left inlet.new) (O.taken outlet.old) (O.taken outlet.new) input) }
-    ensures err { OnErr result ((read : List ℕ) × AnswersPart text_of_line world_of_line (new_world config 0)
+    ensures err { OnErr result ((read : List ℕ) × AnswersPart text_of_line house_of_line (new_house config 0)
         (I.left inlet.old) (I.left inlet.new) (O.taken outlet.old) (O.taken outlet.new) read) }
 
     // Where no more could be read, the whole lines read are answered, and nothing else.
-    ensures read_stops { OnReadFault result ((read : List ℕ) × (end : World)
-        × AnswersWhole text_of_line world_of_line (new_world config 0) end
+    ensures read_stops { OnReadFault result ((read : List ℕ) × (end : House)
+        × AnswersWhole text_of_line house_of_line (new_house config 0) end
         (I.left inlet.old) (I.left inlet.new) (O.taken outlet.old) (O.taken outlet.new) read
         × ReadingHasCause (I.failures inlet.old) (I.failures inlet.new) (I.reads inlet.old) (I.reads inlet.new) (length read)) }
 

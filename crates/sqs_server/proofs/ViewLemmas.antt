@@ -2,7 +2,7 @@
 use Rattle.std.proofs.Common.{Option, Result, Ok, Err, IfErr, Bor, ◌≡◌, ◌≢◌, ◌⊎◌, ℕ, subst, ◌==◌, Bool, true, false, List, [], ◌∷◌, inl, inr, refl, ap, sym, ◌∙◌, arith}
 use Rattle.std.specs.Bool.{Decides}
 use Rattle.std.specs.Cmp.{unsigned_Decides}
-use Rattle.board.specs.Sheet.{Statistics}
+use Rattle.board.specs.Sheet.{Sheet}
 use Rattle.http.specs.declared.response.Response.{Response}
 use Rattle.http_body_util.specs.declared.full.Full.{Full}
 use Rattle.message.specs.declared.fault.Fault.{Fault}
@@ -26,7 +26,7 @@ pub one_is_asked_for : (asked : AskedSheets) (name : Bor (List ℕ)) → asked �
 one_is_asked_for asked name is none = absurd cc
 
 -- there was no memory for an answer, which is no constant, and not one that takes none
-unwritten : (method path : List ℕ) (sheets : List Statistics) (served : ServerFacts) (told : TypedText) → told ≡ no_memory
+unwritten : (method path : List ℕ) (sheets : List Sheet) (served : ServerFacts) (told : TypedText) → told ≡ no_memory
     → (is_constant path ≡ true → told ≡ response_of method path sheets (served_text served))
     → ((response_of method path sheets (served_text served)).0 ≢ 200 → told ≡ response_of method path sheets (served_text served))
     → (constant : Bool) → is_constant path ≡ constant → (good : Bool) → Decides good ((response_of method path sheets (served_text served)).0 ≡ 200) → IsTold method path told
@@ -36,7 +36,7 @@ unwritten method path sheets served told is constants exact false at false known
     inl (sheets, served, exact (λ e. (let e' : false ≡ true = known.1 e in absurd cc)))
 
 -- what is told of these sheets and by this server
-pub told_by_sheets : (method path : List ℕ) (sheets : List Statistics) (served : ServerFacts) (told : TypedText)
+pub told_by_sheets : (method path : List ℕ) (sheets : List Sheet) (served : ServerFacts) (told : TypedText)
     → (told ≡ response_of method path sheets (served_text served)) ⊎ (told ≡ no_memory)
     → (is_constant path ≡ true → told ≡ response_of method path sheets (served_text served))
     → ((response_of method path sheets (served_text served)).0 ≢ 200 → told ≡ response_of method path sheets (served_text served)) → IsTold method path told
@@ -46,7 +46,7 @@ told_by_sheets method path sheets served told (inr e) constants exact =
     ((response_of method path sheets (served_text served)).0 == 200) (unsigned_Decides (response_of method path sheets (served_text served)).0 200)
 
 -- a text that was written tells of queues
-pub written_tells : (method path : List ℕ) (sheets : List Statistics) (own : List ℕ) (response : answers.Response)
+pub written_tells : (method path : List ℕ) (sheets : List Sheet) (own : List ℕ) (response : answers.Response)
     → (told_by response ≡ response_of method path sheets own) ⊎ (told_by response ≡ no_memory)
     → (is_written response.text ≡ true → (response.status ≡ 200) × (is_constant path ≡ false)) → is_written response.text ≡ true
     → TellsOfQueues method path

@@ -1,7 +1,7 @@
 -- What is sent at the port of the statistics (this project's own).
 use Rattle.std.specs.Prelude.{◌≡◌, ◌⊎◌, ℕ, nat_lt, ◌&&◌, MatchBool, Option, option_map, List, [], codes, unwrap_or}
 use Rattle.std.specs.Str.{bytes_eq}
-use Rattle.board.specs.Sheet.{Statistics}
+use Rattle.board.specs.Sheet.{Sheet}
 use Rattle.http.specs.Request as request
 use Rattle.http.specs.Response.{body_of, head_of}
 use Rattle.http.specs.StatusCode.{IsStatusCode}
@@ -44,7 +44,7 @@ pub record Sends (told : TypedText) (response : Response (Full (List ℕ))) : Ty
 -- A method and a path are answered by the statistics of some queues and by what a server tells of itself. There may be no memory for an answer that tells of queues, and for no other.
 abbrev pub IsTold : List ℕ → List ℕ → TypedText → Type 0
 IsTold method path told =
-    ((sheets : List Statistics) × (served : ServerFacts) × (told ≡ response_of method path sheets (served_text served))) ⊎ ((told ≡ no_memory) × TellsOfQueues method path)
+    ((sheets : List Sheet) × (served : ServerFacts) × (told ≡ response_of method path sheets (served_text served))) ⊎ ((told ≡ no_memory) × TellsOfQueues method path)
 
 -- the same, where a body of this least size is not too large for the one method whose bodies are looked at
 abbrev pub IsJudgedBySize : List ℕ → List ℕ → ℕ → TypedText → Type 0

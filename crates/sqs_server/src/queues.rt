@@ -5,7 +5,7 @@ ghost use Rattle.std.specs.Prelude.{◌≡◌, nat_le, [], IfErr, IfOk};
 ghost use Rattle.std.specs.Arc.{arc_value};
 ghost use Rattle.board.specs.Printed.{place_of};
 ghost use Rattle.board.specs.Queue.{sheet_of};
-ghost use Rattle.desk.specs.Views.{first_knowledge};
+ghost use Rattle.desk.specs.Views.{first_pass};
 ghost use Rattle.message.specs.declared.fault.Fault.TheVariants.{OutOfMemory};
 ghost use Rattle.queue_core.specs.Kept.{opened_queue};
 
@@ -251,7 +251,7 @@ fn open_desk<R: Wait + Copy + Drop>(
     ),
     Fault,
 >
-    ensures ok { IfOk result (λ made. made.1 ≡ first_knowledge made.0 (opened_queue uid new.name new.settings limits new.rules.items at) (place_of made.2.book)) }
+    ensures ok { IfOk result (λ made. made.1 ≡ first_pass made.0 (opened_queue uid new.name new.settings limits new.rules.items at) (place_of made.2.book)) }
     ensures given { IfOk result (λ made. made.2.given ≡ sheet_of (opened_queue uid new.name new.settings limits new.rules.items at)) }
     ensures opened { IfOk result (λ made. made.3.value ≡ opened_queue uid new.name new.settings limits new.rules.items at) }
     ensures errors { IfErr result (λ fault. fault ≡ OutOfMemory) }

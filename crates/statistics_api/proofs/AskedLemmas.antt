@@ -3,7 +3,7 @@ use Rattle.std.proofs.lemmas.Slice.Eq.{bytes_eq-Decides}
 use Rattle.std.specs.Bool.{Decides}
 use Rattle.metric_window.specs.Flows.{no_flows}
 use Rattle.std.proofs.Common.{◌≡◌, ◌≢◌, ℕ, Bool, true, false, cond, ◌||◌, List, [], ◌∷◌, Option, Some, None, codes, bytes_eq, find, option_to_list, refl, sym, ap, ◌∙◌}
-use Rattle.board.specs.Sheet.{Statistics}
+use Rattle.board.specs.Sheet.{Sheet}
 use Rattle.statistics_api.specs.declared.routes.Route.{Route}
 use Rattle.statistics_api.specs.declared.routes.Route.TheVariants.{Queues, Queue, Rows, Alarms}
 use Rattle.statistics_api.specs.Answer.{StatusText, sheet_named, of_queue, told, if_allowed, answer_of, not_found, method_not_allowed}
@@ -21,7 +21,7 @@ again : {X : Type 0} (p : X → Bool) (xs : List X) → find p (option_to_list (
 again p [] = refl
 again p (x ∷ xs) = again-if p x xs (p x) refl (again p xs)
 
-told_again : (route : Route) (name : List ℕ) (sheets : List Statistics) → route ≢ Queues → told route name (option_to_list (sheet_named name sheets)) ≡ told route name sheets
+told_again : (route : Route) (name : List ℕ) (sheets : List Sheet) → route ≢ Queues → told route name (option_to_list (sheet_named name sheets)) ≡ told route name sheets
 told_again Queues name sheets other = absurd (other refl)
 told_again Queue name sheets other = ap (of_queue Queue) (again (λ s. bytes_eq s.name name) sheets)
 told_again Rows name sheets other = ap (of_queue Rows) (again (λ s. bytes_eq s.name name) sheets)
@@ -35,33 +35,33 @@ by_answer-if false true all p h m n a b none same = refl
 by_answer-if false false false p h m n a b none same = ap as_json same
 by_answer-if false false true p h m n a b none same = absurd cc
 
-by_answer : (method path : List ℕ) (xs ys : List Statistics) (own : List ℕ) → bytes_eq path (codes "/metrics") ≡ false → answer_of method path xs ≡ answer_of method path ys
+by_answer : (method path : List ℕ) (xs ys : List Sheet) (own : List ℕ) → bytes_eq path (codes "/metrics") ≡ false → answer_of method path xs ≡ answer_of method path ys
     → response_of method path xs own ≡ response_of method path ys own
 by_answer method path xs ys own other same =
     by_answer-if (bytes_eq path (codes "/")) (bytes_eq path (codes "/health")) (bytes_eq path (codes "/metrics")) (if_get method page) (if_get method health)
     (if_get method (metrics xs own)) (if_get method (metrics ys own)) (answer_of method path xs) (answer_of method path ys) other same
 
 -- a path of a queue
-pub enough_named : (method path name : List ℕ) (route : Route) (sheets : List Statistics) (own : List ℕ) → bytes_eq path (codes "/metrics") ≡ false → Some (route, name) ≡ target_of path → route ≢ Queues
+pub enough_named : (method path name : List ℕ) (route : Route) (sheets : List Sheet) (own : List ℕ) → bytes_eq path (codes "/metrics") ≡ false → Some (route, name) ≡ target_of path → route ≢ Queues
     → response_of method path sheets own ≡ response_of method path (option_to_list (sheet_named name sheets)) own
 enough_named method path name route sheets own other is one =
-    let there : (xs : List Statistics) → answer_of method path xs ≡ if_allowed method (Some (route, name)) xs = λ xs. ap (λ o. if_allowed method o xs) (sym is) in
+    let there : (xs : List Sheet) → answer_of method path xs ≡ if_allowed method (Some (route, name)) xs = λ xs. ap (λ o. if_allowed method o xs) (sym is) in
     let same : if_allowed method (Some (route, name)) sheets ≡ if_allowed method (Some (route, name)) (option_to_list (sheet_named name sheets)) =
     ap (λ (a : StatusText). cond (bytes_eq method (codes "GET")) a method_not_allowed) (sym (told_again route name sheets one)) in
     by_answer method path sheets (option_to_list (sheet_named name sheets)) own other (there sheets ∙ same ∙ sym (there (option_to_list (sheet_named name sheets))))
 
 -- a path that is none
-pub enough_none : (method path : List ℕ) (sheets : List Statistics) (own : List ℕ) → bytes_eq path (codes "/metrics") ≡ false → None ≡ target_of path
+pub enough_none : (method path : List ℕ) (sheets : List Sheet) (own : List ℕ) → bytes_eq path (codes "/metrics") ≡ false → None ≡ target_of path
     → response_of method path sheets own ≡ response_of method path [] own
 enough_none method path sheets own other is =
-    let there : (xs : List Statistics) → answer_of method path xs ≡ not_found = λ xs. ap (λ o. if_allowed method o xs) (sym is) in
+    let there : (xs : List Sheet) → answer_of method path xs ≡ not_found = λ xs. ap (λ o. if_allowed method o xs) (sym is) in
     by_answer method path sheets [] own other (there sheets ∙ sym (there []))
 
 -- another method
 get_refused : (method : List ℕ) (told : TypedText) → bytes_eq method (codes "GET") ≡ false → if_get method told ≡ as_json method_not_allowed
 get_refused method told other = ap (λ (b : Bool). cond b told (as_json method_not_allowed)) other
 
-allowed_refused : (method : List ℕ) (o : Option (Route × List ℕ)) (xs ys : List Statistics) → bytes_eq method (codes "GET") ≡ false → if_allowed method o xs ≡ if_allowed method o ys
+allowed_refused : (method : List ℕ) (o : Option (Route × List ℕ)) (xs ys : List Sheet) → bytes_eq method (codes "GET") ≡ false → if_allowed method o xs ≡ if_allowed method o ys
 allowed_refused method None xs ys other = refl
 allowed_refused method (Some t) xs ys other =
     ap (λ (b : Bool). cond b (told t.0 t.1 xs) method_not_allowed) other ∙ sym (ap (λ (b : Bool). cond b (told t.0 t.1 ys) method_not_allowed) other)
@@ -73,7 +73,7 @@ both-if false true all p h m n a b first second = refl
 both-if false false true p h m n a b first second = first
 both-if false false false p h m n a b first second = ap as_json second
 
-pub enough_refused : (method path : List ℕ) (sheets : List Statistics) (own : List ℕ) → bytes_eq method (codes "GET") ≡ false
+pub enough_refused : (method path : List ℕ) (sheets : List Sheet) (own : List ℕ) → bytes_eq method (codes "GET") ≡ false
     → response_of method path sheets own ≡ response_of method path [] own
 enough_refused method path sheets own other =
     both-if (bytes_eq path (codes "/")) (bytes_eq path (codes "/health")) (bytes_eq path (codes "/metrics")) (if_get method page) (if_get method health)
@@ -83,7 +83,7 @@ enough_refused method path sheets own other =
 -- ---- where numbers of queues are told
 
 -- a queue of a name, in which nothing has happened
-abbrev some_sheet : List ℕ → Statistics
+abbrev some_sheet : List ℕ → Sheet
 some_sheet name = record {
   name = name;
   lines = 0;

@@ -1,7 +1,7 @@
 -- No statistics have a float.
 use Rattle.std.proofs.Common.{◌≡◌, ℕ, Bool, false, ◌||◌, List, [], ◌∷◌, map, refl, ap}
 use Rattle.alarm.specs.declared.state.AlarmState.{AlarmState}
-use Rattle.board.specs.Sheet.{Statistics}
+use Rattle.board.specs.Sheet.{Sheet}
 use Rattle.metric_window.specs.declared.row.Row.{Row}
 use Rattle.serde_json.specs.Data.{Data, Items, item}
 use Rattle.serde_json.specs.Written.{has_float}
@@ -14,7 +14,7 @@ list-float key data_of h xs = ap (λ (b : Bool). b || false) (items_by-float dat
 pub row-float : (r : Row) → has_float (row_data r) ≡ false
 row-float r = refl
 
-pub sheet-float : (s : Statistics) → has_float (sheet_data s) ≡ false
+pub sheet-float : (s : Sheet) → has_float (sheet_data s) ≡ false
 sheet-float s = refl
 
 pub alarm-float : (a : List ℕ × AlarmState) → has_float (alarm_data a) ≡ false

@@ -1,17 +1,17 @@
 -- Of which queues a request asks for statistics.
 use Rattle.std.specs.Prelude.{◌≡◌, ℕ, false, List, [], option_to_list}
-use Rattle.board.specs.Sheet.{Statistics}
+use Rattle.board.specs.Sheet.{Sheet}
 use Rattle.statistics_api.specs.Answer.{sheet_named}
 use Rattle.statistics_api.specs.Response.{is_constant, response_of}
 use Rattle.statistics_api.specs.declared.asked.AskedSheets.{AskedSheets}
 use Rattle.statistics_api.specs.declared.asked.AskedSheets.TheVariants.{Nothing, Queues, Queue}
 
 -- those of all queues that a request asks for
-abbrev pub taken : AskedSheets → List Statistics → List Statistics
+abbrev pub taken : AskedSheets → List Sheet → List Sheet
 taken Nothing sheets = []
 taken Queues sheets = sheets
 taken (Queue name) sheets = option_to_list (sheet_named name.now sheets)
 
 -- a request is answered with numbers, where there are such: it is not one for a constant, nor one that is refused by its method and path alone
 abbrev pub TellsOfQueues : List ℕ → List ℕ → Type 0
-TellsOfQueues method path = (sheets : List Statistics) × (own : List ℕ) × ((response_of method path sheets own).0 ≡ 200) × (is_constant path ≡ false)
+TellsOfQueues method path = (sheets : List Sheet) × (own : List ℕ) × ((response_of method path sheets own).0 ≡ 200) × (is_constant path ≡ false)

@@ -5,7 +5,7 @@ use Rattle.std.specs.List.{concat}
 use Rattle.alarm.specs.declared.state.AlarmState.{AlarmState}
 use Rattle.alarm.specs.declared.state.AlarmState.TheVariants.{InsufficientData, Okay, Alarm}
 use Rattle.alarm.specs.AlarmState.{alarm_state_name}
-use Rattle.board.specs.Sheet.{Statistics}
+use Rattle.board.specs.Sheet.{Sheet}
 use Rattle.statistics_api.specs.Texts.{by_name}
 use Rattle.statistics_api.specs.declared.measure.Measure.{Measure}
 use Rattle.statistics_api.specs.declared.served.Requested.{Requested}
@@ -41,7 +41,7 @@ measure_help Refused = codes "Calls that the queue refused in the current minute
 measure_help DeadLettersArrived = codes "Dead letters that arrived in the current minute."
 
 -- how much it is of a queue
-abbrev pub measured : Measure → Statistics → ℕ
+abbrev pub measured : Measure → Sheet → ℕ
 measured Visible s = s.gauges.visible
 measured Delayed s = s.gauges.delayed
 measured InFlight s = s.gauges.in_flight
@@ -79,11 +79,11 @@ abbrev pub head_text : List ℕ → List ℕ → List ℕ → List ℕ
 head_text kind name help = concat (codes "# HELP " ∷ name ∷ codes " " ∷ help ∷ codes "\n# TYPE " ∷ name ∷ codes " " ∷ kind ∷ codes "\n" ∷ [])
 
 -- the line of a queue
-abbrev pub sample_text : Measure → Statistics → List ℕ
+abbrev pub sample_text : Measure → Sheet → List ℕ
 sample_text m s = concat (measure_name m ∷ codes "{queue=\"" ∷ escaped s.name ∷ codes "\"} " ∷ decimal (measured m s) ∷ codes "\n" ∷ [])
 
 -- a metric of these queues
-abbrev pub family_text : List Statistics → Measure → List ℕ
+abbrev pub family_text : List Sheet → Measure → List ℕ
 family_text sheets m = head_text (codes "gauge") (measure_name m) (measure_help m) ++ flat_map (sample_text m) sheets
 
 -- ---- alarms
@@ -111,11 +111,11 @@ abbrev pub alarm_text : List ℕ → List ℕ × AlarmState → List ℕ
 alarm_text queue a = flat_map (state_text queue a) (Okay ∷ Alarm ∷ InsufficientData ∷ [])
 
 -- those of a queue's alarms, in the order of the configuration
-abbrev pub queue_alarms_text : Statistics → List ℕ
+abbrev pub queue_alarms_text : Sheet → List ℕ
 queue_alarms_text s = flat_map (alarm_text s.name) s.alarms
 
 -- the alarms of these queues
-abbrev pub alarms_family_text : List Statistics → List ℕ
+abbrev pub alarms_family_text : List Sheet → List ℕ
 alarms_family_text sheets =
     head_text (codes "gauge") (codes "jutkariq_queue_alarm_state") (codes "1 for the state that the alarm is in, 0 for the two others.")
     ++ flat_map queue_alarms_text sheets
@@ -148,5 +148,5 @@ abbrev pub served_text : ServerFacts → List ℕ
 served_text s = requests_family_text s.requests.items ++ (build_text s.version.now ++ start_text s.started)
 
 -- all metrics: those of queues, which stand in the order of their names, and behind them what the server tells of itself
-abbrev pub metrics_text : List Statistics → List ℕ → List ℕ
+abbrev pub metrics_text : List Sheet → List ℕ → List ℕ
 metrics_text sheets own = flat_map (family_text (by_name sheets)) measures ++ (alarms_family_text (by_name sheets) ++ own)

@@ -2,7 +2,7 @@
 -- `/metrics`, and at every other path what `answer_of` says. A status, a content type and a text.
 use Rattle.std.specs.Prelude.{ℕ, Bool, ◌||◌, List, codes, if◌then◌else◌}
 use Rattle.std.specs.Str.{bytes_eq}
-use Rattle.board.specs.Sheet.{Statistics}
+use Rattle.board.specs.Sheet.{Sheet}
 use Rattle.statistics_api.specs.Answer.{StatusText, answer_of, method_not_allowed}
 use Rattle.statistics_api.specs.Metrics.{metrics_text}
 use Rattle.statistics_api.specs.Text.{bytes_of}
@@ -32,7 +32,7 @@ abbrev pub for_prometheus : List ℕ → TypedText
 for_prometheus text = (200, codes "text/plain; version=0.0.4; charset=utf-8", text)
 
 -- of queues, and what the server tells of itself
-abbrev pub metrics : List Statistics → List ℕ → TypedText
+abbrev pub metrics : List Sheet → List ℕ → TypedText
 metrics sheets own = for_prometheus (metrics_text sheets own)
 
 -- what is told to the method `GET`, and to no other
@@ -44,7 +44,7 @@ abbrev pub is_constant : List ℕ → Bool
 is_constant path = bytes_eq path (codes "/") || bytes_eq path (codes "/health")
 
 -- what a method and a path are answered by these queues and by what the server tells of itself
-abbrev pub response_of : List ℕ → List ℕ → List Statistics → List ℕ → TypedText
+abbrev pub response_of : List ℕ → List ℕ → List Sheet → List ℕ → TypedText
 response_of method path sheets own =
     if bytes_eq path (codes "/") then if_get method page
     else if bytes_eq path (codes "/health") then if_get method health

@@ -3,7 +3,7 @@ use Rattle.std.specs.Prelude.{ℕ, List, [], ◌∷◌, codes}
 use Rattle.message.specs.Order.{sorted, text_before}
 use Rattle.alarm.specs.declared.state.AlarmState.{AlarmState}
 use Rattle.alarm.specs.AlarmState.{alarm_state_name}
-use Rattle.board.specs.Sheet.{Statistics}
+use Rattle.board.specs.Sheet.{Sheet}
 use Rattle.metric_window.specs.declared.flows.Flows.{Flows}
 use Rattle.metric_window.specs.declared.gauges.Gauges.{Gauges}
 use Rattle.metric_window.specs.declared.row.Row.{Row}
@@ -42,7 +42,7 @@ abbrev pub row_data : Row → Data
 row_data r = object (put_flows r.flows (put_gauges r.gauges (put_count (codes "minute") r.minute no_members)))
 
 -- a queue
-abbrev pub sheet_data : Statistics → Data
+abbrev pub sheet_data : Sheet → Data
 sheet_data s =
     object (put (codes "name") (string s.name)
     (put_count (codes "lines") s.lines
@@ -64,15 +64,15 @@ list_data key data_of xs = object (member key (array (items_by data_of xs)) no_m
 -- ---- by name
 
 -- in the order of their names' bytes; queues of one name stay in the order that they have
-abbrev pub by_name : List Statistics → List Statistics
+abbrev pub by_name : List Sheet → List Sheet
 by_name sheets = sorted (λ s t. text_before s.name t.name) sheets
 
 -- ---- texts, without blanks
 
-abbrev pub sheet_text : Statistics → List ℕ
+abbrev pub sheet_text : Sheet → List ℕ
 sheet_text s = compact_text (sheet_data s)
 
-abbrev pub sheets_text : List Statistics → List ℕ
+abbrev pub sheets_text : List Sheet → List ℕ
 sheets_text ss = compact_text (list_data (codes "queues") sheet_data (by_name ss))
 
 abbrev pub rows_text : List Row → List ℕ

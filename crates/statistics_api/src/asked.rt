@@ -1,7 +1,7 @@
 //! Which queues' statistics the answer to a request takes.
 
 ghost use Rattle.std.specs.Prelude.{◌≡◌, ◌≢◌, ℕ, List};
-ghost use Rattle.board.specs.Sheet.{Statistics};
+ghost use Rattle.board.specs.Sheet.{Sheet};
 ghost use Rattle.statistics_api.specs.Response.{response_of};
 ghost use Rattle.statistics_api.specs.Asked.{taken, TellsOfQueues};
 ghost use Rattle.statistics_api.specs.declared.asked.AskedSheets.TheVariants.{Nothing};
@@ -23,7 +23,7 @@ pub enum AskedSheets<'p> {
 /// answers, and where it asks for some, an answer can tell of them.
 #[tactic(auto, using(crate::proofs::AskedLemmas::enough_named, crate::proofs::AskedLemmas::enough_none, crate::proofs::AskedLemmas::enough_refused, crate::proofs::AskedLemmas::of_metrics))]
 pub fn asked_for<'p>(method: &str, path: &'p str) -> AskedSheets<'p>
-    ensures enough { (sheets : List Statistics) (own : List ℕ) → response_of method.now path.now sheets own ≡ response_of method.now path.now (taken result sheets) own }
+    ensures enough { (sheets : List Sheet) (own : List ℕ) → response_of method.now path.now sheets own ≡ response_of method.now path.now (taken result sheets) own }
     ensures needed { result ≢ Nothing → TellsOfQueues method.now path.now }
 {
     if method != "GET" {

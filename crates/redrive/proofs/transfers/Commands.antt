@@ -19,7 +19,7 @@ use Rattle.queue_core.specs.States.{message_numbered}
 use Rattle.queue_core.specs.Queue.{QueueHistory, at_moment, first_refusal, leaving_candidates, numbers_of, arrive_outcome, is_pending, settle_outcome, orphan_outcome, rebased_where, outcome_in, leaves_clock, reached, outcome_at, with_optional_event, after_answer, parcel_of, transferred_parcel, first_parcel_of}
 use Rattle.queue_core.specs.Whole.{without_limit, is_journal_full, whole_after}
 use Rattle.queue_core.proofs.WholeLemmas.{whole_step}
-use Rattle.redrive.specs.World.{is_internal}
+use Rattle.redrive.specs.House.{is_internal}
 use Rattle.queue_core.proofs.CauseLemmas.{IsSoOfAdded, added-unless_refused, added-cond, added, about-received}
 use Rattle.queue_core.proofs.PushLemmas.{numbered-number}
 use Rattle.queue_core.proofs.PendingLemmas.{present_numbered}

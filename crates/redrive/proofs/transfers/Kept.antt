@@ -20,11 +20,11 @@ use Rattle.queue_core.specs.States.{is_live, message_numbered}
 use Rattle.queue_core.specs.Summary.{KnownMessage, Summary, known_message, known_where, known_at, summary_of}
 use Rattle.queue_core.proofs.PendingLemmas.{live-present}
 use Rattle.queue_core.proofs.WholeLemmas.{AreAlike}
-use Rattle.redrive.specs.World.{queue_of_uid}
+use Rattle.redrive.specs.House.{queue_of_uid}
 use Rattle.redrive.specs.History.{AllQueues, queue_ever, journal_of, was_accepted}
 use Rattle.redrive.specs.HistorySteps.{HistoryStep, AreHistoryAnswers, after_history_steps}
 use Rattle.redrive.specs.WholeSteps.{whole_after_steps}
-use Rattle.redrive.specs.WorldRun.{HouseAnswer}
+use Rattle.redrive.specs.HouseSteps.{HouseAnswer}
 use Rattle.redrive.specs.Places.{first_history, acceptance_count, EachAcceptedOnce, IsNumbered, IsStanding, IsInTransit, Place, Standing, InTransit, IsPlaceOf, EachHasOnePlace, NoRelayDeleted}
 use Rattle.redrive.proofs.transfers.Journals.{Lines}
 use Rattle.redrive.proofs.transfers.Laws.{accepted_once, each_has_one_place}
@@ -113,8 +113,8 @@ module _ (all whole : AllQueues) (twins : AreTwins all whole) where
 
   module _ (id : MessageId) (uid n : ℕ) where
     module _ (q : QueueHistory) (m : Message) (here : IsNumbered all id uid n q m) where
-      abbrev other : (w : QueueHistory) × (queue_of_uid whole.world uid ≡ Some w) × AreAlike q w
-      other = found_too (queue_of_uid all.world uid) (queue_of_uid whole.world uid) q (uid_alike all whole twins uid) here.there
+      abbrev other : (w : QueueHistory) × (queue_of_uid whole.house uid ≡ Some w) × AreAlike q w
+      other = found_too (queue_of_uid all.house uid) (queue_of_uid whole.house uid) q (uid_alike all whole twins uid) here.there
 
       module _ (target : Option ℕ) (stands : StandsFor q.lines q.clock m target) where
         abbrev too : IsThere other.0 uid n target m

@@ -15,16 +15,16 @@ use Rattle.queue_core.specs.States.{message_numbered}
 use Rattle.queue_core.specs.Queue.{QueueHistory}
 use Rattle.redrive.specs.declared.steps.HouseStep.{HouseStep}
 use Rattle.redrive.specs.declared.steps.HouseStep.TheVariants as steps
-use Rattle.redrive.specs.World.{new_world, queue_of_uid}
+use Rattle.redrive.specs.House.{new_house, queue_of_uid}
 use Rattle.redrive.specs.History.{AllQueues, journal_of}
-use Rattle.redrive.specs.WorldRun.{HouseAnswer, all_after, AreHouseAnswers, history_after}
+use Rattle.redrive.specs.HouseSteps.{HouseAnswer, all_after, AreHouseAnswers, history_after}
 use Rattle.redrive.specs.HistorySteps.{HistoryStep, Own, AreHistoryAnswers, after_history_steps}
 use Rattle.redrive.specs.WholeSteps.{whole_after_step, whole_after_steps}
 use Rattle.redrive.specs.Places.{first_history, acceptance_count, EachAcceptedOnce, HasFate, EachHasItsFate, status_numbered, IsNumbered, IsStanding, IsInTransit, Standing, InTransit, EachHasOnePlace, came_from, IsRelay, IsSpared, NoRelayDeleted}
 use Rattle.queue_core.proofs.PendingLemmas.{live-present}
 use Rattle.redrive.proofs.transfers.Journals.{Lines, Stands, stands_gives}
 use Rattle.redrive.proofs.transfers.Views.{View, view_of, Change}
-use Rattle.redrive.proofs.transfers.Worlds.{IsEnding, uid_of_open, lines_there, open_there}
+use Rattle.redrive.proofs.transfers.Houses.{IsEnding, uid_of_open, lines_there, open_there}
 use Rattle.redrive.proofs.transfers.Fates.{Fate, AreFates, accepted_from, HasFates, fates-opened, fates-after}
 use Rattle.redrive.proofs.transfers.Holders.{IsSound, sound-opened, sound-after, Holds, Holder, HasOneHolder, Relays, one-opened, one-after}
 use Rattle.redrive.proofs.transfers.Once.{IsOnce, once-opened, once-after}
@@ -37,7 +37,7 @@ journal-lines all uid lines h = ap (λ (o : Option Lines). unwrap_or o []) h
 keys_once : (config : Configuration) (at : ℕ) (steps : List HistoryStep) (answers : List HouseAnswer) → AreEnding (first_history config at) steps answers
     → IsOnce (view_of (whole_after_steps (first_history config at) steps answers))
 keys_once config at steps answers are =
-    let b : Begins IsOnce (new_world config at) = begins IsOnce (λ v v' u e g o h. once-opened v v' u e g o h) (λ u s n. omega arith) config at in
+    let b : Begins IsOnce (new_house config at) = begins IsOnce (λ v v' u e g o h. once-opened v v' u e g o h) (λ u s n. omega arith) config at in
     through IsOnce (λ all step answer change h. once-after _ _ change h) (first_history config at) steps answers are b.fresh b.so
 
 pub accepted_once : (config : Configuration) (at : ℕ) (steps : List HistoryStep) (answers : List HouseAnswer) → AreEnding (first_history config at) steps answers
@@ -50,7 +50,7 @@ accepted-lines : (o : Option Lines) (u n : ℕ) → has_accepted (unwrap_or o []
 accepted-lines None u n h = h
 accepted-lines (Some lines) u n h = h
 
-module _ (all : AllQueues) (uid : ℕ) (q : QueueHistory) (here : queue_of_uid all.world uid ≡ Some q) (t : Transfer) (later : Lines) where
+module _ (all : AllQueues) (uid : ℕ) (q : QueueHistory) (here : queue_of_uid all.house uid ≡ Some q) (t : Transfer) (later : Lines) where
   fate-told : Fate (accepted_from (view_of all) uid) q.lines t later → HasFate all q t later
   fate-told (inl h) = inl h
   fate-told (inr (inl h)) =
@@ -60,14 +60,14 @@ module _ (all : AllQueues) (uid : ℕ) (q : QueueHistory) (here : queue_of_uid a
         confirmed = h.confirmed;
         transferred = h.transferred;
         accepted = accepted-lines (journal_of all t.target) q.uid t.number
-            (subst (λ (u : ℕ). has_accepted ((view_of all).lines t.target) u t.number ≡ true) (sym (uid_of_open all.world uid q here)) h.accepted_there);
+            (subst (λ (u : ℕ). has_accepted ((view_of all).lines t.target) u t.number ≡ true) (sym (uid_of_open all.house uid q here)) h.accepted_there);
       }))
   fate-told (inr (inr h)) = inr (inr h)
 
 pub each_has_its_fate : (config : Configuration) (at : ℕ) (steps : List HistoryStep) (answers : List HouseAnswer) → AreEnding (first_history config at) steps answers
     → EachHasItsFate (whole_after_steps (first_history config at) steps answers)
 each_has_its_fate config at steps answers are uid place t q here d =
-    let b : Begins HasFates (new_world config at) = begins HasFates (λ v v' u e g o h. fates-opened v v' u e g o h) (λ u h. absurd (false≢true h)) config at in
+    let b : Begins HasFates (new_house config at) = begins HasFates (λ v v' u e g o h. fates-opened v v' u e g o h) (λ u h. absurd (false≢true h)) config at in
     let all : AllQueues = whole_after_steps (first_history config at) steps answers in
     let fates : HasFates (view_of all) =
     through HasFates (λ all step answer change h. fates-after _ _ change h) (first_history config at) steps answers are b.fresh b.so in
@@ -81,12 +81,12 @@ not_accepted-lines None u n h = h
 not_accepted-lines (Some lines) u n h = h
 
 module _ (all : AllQueues) (uid : ℕ) where
-  there_open : (o : Option QueueHistory) → queue_of_uid all.world uid ≡ o → is_some o ≡ true → (q : QueueHistory) × (queue_of_uid all.world uid ≡ Some q)
+  there_open : (o : Option QueueHistory) → queue_of_uid all.house uid ≡ o → is_some o ≡ true → (q : QueueHistory) × (queue_of_uid all.house uid ≡ Some q)
   there_open None e h = absurd (false≢true h)
   there_open (Some q) e h = (q, e)
 
-  pub queue_there : (view_of all).is_open uid ≡ true → (q : QueueHistory) × (queue_of_uid all.world uid ≡ Some q)
-  queue_there h = there_open (queue_of_uid all.world uid) refl h
+  pub queue_there : (view_of all).is_open uid ≡ true → (q : QueueHistory) × (queue_of_uid all.house uid ≡ Some q)
+  queue_there h = there_open (queue_of_uid all.house uid) refl h
 
 -- a relay of the view is one of the registry
 relay_told : (all : AllQueues) (uid : ℕ) → (view_of all).is_open uid ≡ true → Relays (view_of all) uid → IsRelay all uid
@@ -176,7 +176,7 @@ each_has_one_place config at steps answers are spared =
       known = λ u n m o h k. absurd (none-some m h);
       taken = λ u n m h s. absurd (false≢true h);
     } in
-    let b : Begins IsWell (new_world config at) =
+    let b : Begins IsWell (new_house config at) =
     begins IsWell (λ v v' u e g o h. (sound-opened v v' u e g o h.0, one-opened v v' u e g o h.1)) (nothing, λ id u n w k h h'. absurd (false≢true h.there)) config at in
     let held : IsHeld (whole_after_steps (first_history config at) steps answers) =
     through_spared IsHeld held-after (first_history config at) steps answers are spared b.fresh (record { sound = b.so.0; one = b.so.1 }) in
@@ -184,7 +184,7 @@ each_has_one_place config at steps answers are spared =
 
 -- ---- the registry's own steps
 
-pub own-answered : (all : AllQueues) (steps : List HouseStep) (answers : List HouseAnswer) → AreHouseAnswers all.world steps answers → AreHistoryAnswers all (map Own steps) answers
+pub own-answered : (all : AllQueues) (steps : List HouseStep) (answers : List HouseAnswer) → AreHouseAnswers all.house steps answers → AreHistoryAnswers all (map Own steps) answers
 own-answered all [] [] h = tt
 own-answered all [] (answer ∷ answers) h = absurd h
 own-answered all (step ∷ steps) [] h = absurd h

@@ -28,8 +28,8 @@ use Rattle.queue_core.specs.Queue.{QueueHistory, at_moment, outcome_in, reached,
 use Rattle.redrive.specs.declared.steps.HouseReply.TheVariants as replies
 use Rattle.redrive.specs.declared.steps.HouseStep.{HouseStep}
 use Rattle.redrive.specs.declared.steps.HouseStep.TheVariants as steps
-use Rattle.redrive.specs.World.{World, empty_world, with_queue, next_queue, new_world, queue_named, found_uid, has_queue, target_uid, may_name_target, may_set, is_internal, step_refusal, has_target, with_queue_changed, world_after_command, without_queue, first_parcel_in, AddressedCommand, accepted_number}
-use Rattle.redrive.specs.WorldRun.{HouseAnswer, WorldChange, Nothing, Performs, Opens, Closes, Passes, perform_act, hand_over_act, confirm_act, act_of, world_changed, world_after, world_after_all}
+use Rattle.redrive.specs.House.{House, empty_house, with_queue, next_queue, new_house, queue_named, found_uid, has_queue, target_uid, may_name_target, may_set, is_internal, step_refusal, has_target, with_queue_changed, house_after_command, without_queue, first_parcel_in, AddressedCommand, accepted_number}
+use Rattle.redrive.specs.HouseSteps.{HouseAnswer, HouseChange, Nothing, Performs, Opens, Closes, Passes, perform_act, hand_over_act, confirm_act, act_of, house_changed, house_after, house_after_all}
 use Rattle.queue_core.proofs.CauseLemmas.{IsSoOfAdded, added}
 use Rattle.queue_core.proofs.PushLemmas.{settings_from-push}
 use Rattle.redrive.proofs.KeyedLemmas.{find-holds}
@@ -109,14 +109,14 @@ left-aims q u at command answer sets h =
 abbrev IsAimed : ℕ → QueueHistory → Type 0
 IsAimed n q = (q.uid < n) × (has_target q.uid q ≡ false)
 
-abbrev AreAimed : World → Type 0
+abbrev AreAimed : House → Type 0
 AreAimed w = All (λ q. IsAimed w.next_uid q) w.queues
 
-either-aimed : (b : Bool) (x y : World) → AreAimed x → AreAimed y → AreAimed (cond b x y)
+either-aimed : (b : Bool) (x y : House) → AreAimed x → AreAimed y → AreAimed (cond b x y)
 either-aimed true x y h k = h
 either-aimed false x y h k = k
 
-changed-aimed : (w : World) (uid : ℕ) (change : QueueHistory → QueueHistory) → ((q : QueueHistory) → q.uid ≡ uid → IsAimed w.next_uid q → IsAimed w.next_uid (change q)) → AreAimed w → AreAimed (with_queue_changed w uid change)
+changed-aimed : (w : House) (uid : ℕ) (change : QueueHistory → QueueHistory) → ((q : QueueHistory) → q.uid ≡ uid → IsAimed w.next_uid q → IsAimed w.next_uid (change q)) → AreAimed w → AreAimed (with_queue_changed w uid change)
 changed-aimed w uid change f h =
     All-map (λ q. IsAimed w.next_uid q) (λ q. cond (nat_eq q.uid uid) (change q) q) w.queues
     (All-weaker (λ q. IsAimed w.next_uid q) (λ q. IsAimed w.next_uid (cond (nat_eq q.uid uid) (change q) q)) (λ q k. by_test q k (nat_eq q.uid uid) refl) w.queues h)
@@ -125,8 +125,8 @@ changed-aimed w uid change f h =
     by_test q k true e = f q (eqb-true q.uid uid e) k
     by_test q k false e = k
 
-module _ {T : Type 0} (w : World) (at : ℕ) (answer : Result T Fault) (h : AreAimed w) where
-  commanded : (uid : ℕ) (command : Command) → Sets uid command → AreAimed (world_after_command w uid at command answer)
+module _ {T : Type 0} (w : House) (at : ℕ) (answer : Result T Fault) (h : AreAimed w) where
+  commanded : (uid : ℕ) (command : Command) → Sets uid command → AreAimed (house_after_command w uid at command answer)
   commanded uid command sets =
       changed-aimed w uid (λ q. after_answer q at command answer)
       (λ q is k.
@@ -150,7 +150,7 @@ may_be_set true true may f g k e = absurd cc
 may_be_set true false true f g k e = refl
 may_be_set true false false f g k e = absurd cc
 
-performed-sets : (w : World) (uid : ℕ) (command : Command) → step_refusal w uid command ≡ None → Sets uid command
+performed-sets : (w : House) (uid : ℕ) (command : Command) → step_refusal w uid command ≡ None → Sets uid command
 performed-sets w uid command e policy wish target is h =
     let may : may_set w uid command ≡ true = may_be_set (has_queue w uid) (is_internal command) (may_set w uid command) UnsupportedOperation InvalidAttributeValue QueueDoesNotExist e in
     asked-other uid target policy wish.redrive_policy (λ name. option_map_or (λ u. nat_eq u target) (found_uid w name) false) h
@@ -158,7 +158,7 @@ performed-sets w uid command e policy wish target is h =
 
 -- ---- opening
 
-module _ (w : World) (at : ℕ) (h : AreAimed w) where
+module _ (w : House) (at : ℕ) (h : AreAimed w) where
   opened : (q : QueueHistory) → q.uid ≡ w.next_uid → has_target w.next_uid q ≡ false → AreAimed (with_queue w q)
   opened q is other =
       All-append (λ q. IsAimed (w.next_uid + 1) q) w.queues (q ∷ [])
@@ -181,13 +181,13 @@ module _ (w : World) (at : ℕ) (h : AreAimed w) where
 -- ---- every step
 
 -- a command sets no policy that names its queue, and a queue opens with none
-abbrev Aims : World → WorldChange → Type 0
+abbrev Aims : House → HouseChange → Type 0
 Aims w (Performs uid command) = Sets uid command
 Aims w (Opens name settings) = names_uid w.next_uid settings.redrive_policy ≡ false
 Aims w change = ⊤
 
-module _ (w : World) (at : ℕ) (h : AreAimed w) where
-  after_change : (change : WorldChange) (answer : HouseAnswer) → Aims w change → AreAimed (world_changed w at change answer)
+module _ (w : House) (at : ℕ) (h : AreAimed w) where
+  after_change : (change : HouseChange) (answer : HouseAnswer) → Aims w change → AreAimed (house_changed w at change answer)
   after_change Nothing answer aims = h
   after_change (Performs uid command) answer aims = commanded w at answer h uid command aims
   after_change (Opens name settings) answer aims =
@@ -204,7 +204,7 @@ module _ (w : World) (at : ℕ) (h : AreAimed w) where
   created-aims name wish true false e = tt
   created-aims name wish true true e = created-other w at h name wish.redrive_policy e
 
-module _ (w : World) (at : ℕ) where
+module _ (w : House) (at : ℕ) where
   performed-aims : (uid : ℕ) (command : Command) (o : Option Fault) → step_refusal w uid command ≡ o → Aims w (perform_act at uid command o).change
   performed-aims uid command (Some fault) e = tt
   performed-aims uid command None e = performed-sets w uid command e
@@ -221,7 +221,7 @@ module _ (w : World) (at : ℕ) where
   confirmed-aims source None = tt
   confirmed-aims source (Some n) = λ policy wish target is k. absurd cc
 
-step-aims : (w : World) (step : HouseStep) → AreAimed w → Aims w (act_of w step).change
+step-aims : (w : House) (step : HouseStep) → AreAimed w → Aims w (act_of w step).change
 step-aims w (steps.Create at name wish) h = created-aims w at h name wish (may_name_target w name wish) _ refl
 step-aims w (steps.Delete at uid) h = tt
 step-aims w (steps.Perform at uid command) h = performed-aims w at uid command (step_refusal w uid command) refl
@@ -229,13 +229,13 @@ step-aims w (steps.HandOver at source) h = handed-aims w at source (first_parcel
 step-aims w (steps.Confirm at source) h = confirmed-aims w at source (accepted_number w source)
 step-aims w (steps.Advance at) h = tt
 
-after_step : (w : World) (step : HouseStep) (answer : HouseAnswer) → AreAimed w → AreAimed (world_after w step answer)
+after_step : (w : House) (step : HouseStep) (answer : HouseAnswer) → AreAimed w → AreAimed (house_after w step answer)
 after_step w step answer h = after_change w (act_of w step).at h (act_of w step).change answer (step-aims w step h)
 
-after_all : (w : World) (steps : List HouseStep) (answers : List HouseAnswer) → AreAimed w → AreAimed (world_after_all w steps answers)
+after_all : (w : House) (steps : List HouseStep) (answers : List HouseAnswer) → AreAimed w → AreAimed (house_after_all w steps answers)
 after_all w [] answers h = h
 after_all w (step ∷ steps) [] h = h
-after_all w (step ∷ steps) (answer ∷ answers) h = after_all (world_after w step answer) steps answers (after_step w step answer h)
+after_all w (step ∷ steps) (answer ∷ answers) h = after_all (house_after w step answer) steps answers (after_step w step answer h)
 
 -- ---- the configured queues
 
@@ -261,7 +261,7 @@ module _ (names before rest : List (List ℕ)) (own : List ℕ) (is : names ≡ 
 abbrev AreTargets : List (List ℕ) → List ConfiguredQueue → Type 0
 AreTargets names queues = All (λ queue. ForSome queue.settings.redrive_policy (λ policy. HasTarget names queue.name policy)) queues
 
-begun : (names : List (List ℕ)) (at : ℕ) (alarms : List ConfiguredAlarm) (queues : List ConfiguredQueue) (before : List (List ℕ)) (w : World) → names ≡ before ++ names_of queues → w.next_uid ≡ length before + 1 → AreTargets names queues → AreAimed w
+begun : (names : List (List ℕ)) (at : ℕ) (alarms : List ConfiguredAlarm) (queues : List ConfiguredQueue) (before : List (List ℕ)) (w : House) → names ≡ before ++ names_of queues → w.next_uid ≡ length before + 1 → AreTargets names queues → AreAimed w
     → AreAimed (fold (λ w q. with_queue w (next_queue w at q.name q.settings (rules_of alarms w.next_uid))) w queues)
 begun names at alarms [] before w is next targets h = h
 begun names at alarms (q ∷ queues) before w is next targets h =
@@ -272,9 +272,9 @@ begun names at alarms (q ∷ queues) before w is next targets h =
     (rw length-append (omega arith)) (All-tail P q queues targets) (opened w at h (next_queue w at q.name q.settings (rules_of alarms w.next_uid)) refl other)
 
 pub none_its_own : (config : Configuration) (at : ℕ) (steps : List HouseStep) (answers : List HouseAnswer) → AreConfigured config.queues
-    → All (λ q. has_target q.uid q ≡ false) (world_after_all (new_world config at) steps answers).queues
+    → All (λ q. has_target q.uid q ≡ false) (house_after_all (new_house config at) steps answers).queues
 none_its_own config at steps answers configured =
-    let w : World = world_after_all (new_world config at) steps answers in
+    let w : House = house_after_all (new_house config at) steps answers in
     let h : AreAimed w =
-    after_all (new_world config at) steps answers (begun (names_of config.queues) at config.alarms config.queues [] (empty_world config.limits) refl refl configured.targets (All-nil _)) in
+    after_all (new_house config at) steps answers (begun (names_of config.queues) at config.alarms config.queues [] (empty_house config.limits) refl refl configured.targets (All-nil _)) in
     All-weaker (λ q. IsAimed w.next_uid q) (λ q. has_target q.uid q ≡ false) (λ q k. k.1) w.queues h

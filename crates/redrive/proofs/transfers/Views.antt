@@ -13,7 +13,7 @@ use Rattle.queue_core.specs.declared.facts.Status.TheVariants.{Present}
 use Rattle.queue_core.specs.Messages.{contains_number, message_id, pending_transfers, has_accepted}
 use Rattle.queue_core.specs.States.{message_numbered}
 use Rattle.queue_core.proofs.Scans.{StandsAlone}
-use Rattle.redrive.specs.World.{has_queue}
+use Rattle.redrive.specs.House.{has_queue}
 use Rattle.redrive.specs.History.{AllQueues, journal_of}
 use Rattle.redrive.specs.Places.{status_numbered}
 use Rattle.redrive.proofs.transfers.Journals.{Line, Lines, more}
@@ -24,7 +24,7 @@ pub record View : Type 0 where
   pub lines : ℕ → Lines
 
 abbrev pub view_of : AllQueues → View
-view_of all = record { is_open = λ u. has_queue all.world u; lines = λ u. unwrap_or (journal_of all u) [] }
+view_of all = record { is_open = λ u. has_queue all.house u; lines = λ u. unwrap_or (journal_of all u) [] }
 
 -- the origin is that of a message of an open queue, which has left for the queue of a uid that has not accepted it
 pub record IsArrival (v : View) (u : ℕ) (o : Origin) : Type 0 where

@@ -13,7 +13,7 @@ use Rattle.queue_core.specs.Queue.{QueueHistory}
 use Rattle.redrive.specs.declared.steps.HouseStep.{HouseStep}
 use Rattle.redrive.specs.declared.steps.HouseStep.TheVariants as steps
 use Rattle.redrive.specs.History.{AllQueues}
-use Rattle.redrive.specs.WorldRun.{HouseAnswer}
+use Rattle.redrive.specs.HouseSteps.{HouseAnswer}
 use Rattle.redrive.specs.HistorySteps.{HistoryStep, Own, Settle, answer_in_history, after_history_step, after_history_steps}
 use Rattle.redrive.specs.Places.{first_history}
 
@@ -32,7 +32,7 @@ abbrev pub standing_in : QueueHistory → List Standing
 standing_in q = map (λ m. record { uid = q.uid; number = m.number; id = message_id q.uid m }) (filter (λ m. is_live q.lines q.clock m) (messages q.lines))
 
 abbrev pub all_standing : AllQueues → List Standing
-all_standing all = flat_map standing_in all.world.queues
+all_standing all = flat_map standing_in all.house.queues
 
 -- ---- the queues
 

@@ -5,14 +5,14 @@ use Rattle.queue_core.specs.declared.command.Command.{Command}
 use Rattle.queue_core.specs.declared.command.Command.TheVariants.{Close}
 use Rattle.queue_core.specs.Queue.{QueueHistory}
 use Rattle.redrive.specs.Keys.{KeyLists}
-use Rattle.redrive.specs.World.{World, IsRegistry}
+use Rattle.redrive.specs.House.{House, IsRegistry}
 
--- the world with the queue at a place changed
-abbrev pub with_place_changed : World → ℕ → (QueueHistory → QueueHistory) → World
+-- the house with the queue at a place changed
+abbrev pub with_place_changed : House → ℕ → (QueueHistory → QueueHistory) → House
 with_place_changed w place change = record w { queues = option_map_or (λ q. set w.queues place (change q)) (slice_get w.queues place) w.queues }
 
--- the world without the queue at a place
-abbrev pub without_place : World → ℕ → World
+-- the house without the queue at a place
+abbrev pub without_place : House → ℕ → House
 without_place w place = record w { queues = remove w.queues place }
 
 -- whether a command closes a queue
@@ -21,7 +21,7 @@ closes_queue Close = true
 closes_queue _ = false
 
 -- a registry, and the uids and names of its queues as they are kept beside them
-pub record IsKept (w : World) (k : KeyLists) : Type 0 where
+pub record IsKept (w : House) (k : KeyLists) : Type 0 where
   pub registry : IsRegistry w
   pub uids : k.uids ≡ map (λ q. q.uid) w.queues
   pub names : k.names ≡ map (λ q. q.name) w.queues

@@ -5,7 +5,7 @@ use Rattle.journal.specs.declared.entry.Origin.{Origin}
 use Rattle.queue_core.specs.declared.parcel.Parcel.{Parcel}
 use Rattle.queue_core.specs.Messages.{message_count}
 use Rattle.queue_core.specs.Queue.{QueueHistory, first_parcel_of}
-use Rattle.redrive.specs.World.{World, queue_of_uid}
+use Rattle.redrive.specs.House.{House, queue_of_uid}
 use Rattle.sqs_replay.specs.Moves.{some_moves, message_count_in}
 use Rattle.sqs_replay.proofs.MoveLemmas.{no-parcel}
 use Rattle.sqs_replay.proofs.moves.move_dead_letters.Goals as goal
@@ -18,7 +18,7 @@ none-waits (Some p) first false is some t = absurd cc
 
 pub returns-then-is_none-clause-state : goal.returns-then-is_none-clause-state
 returns-then-is_none-clause-state c =
-    let w : World = c.args.house.now in
+    let w : House = c.args.house.now in
     let q : QueueHistory = c.queue_at-queue.result.now in
     let none : first_parcel_of q ≡ None =
     none-waits (first_parcel_of q) c.first_waiting.result c.is_none.result c.first_waiting.ensures.first c.is_none.ensures c.if-is_none.true in
@@ -26,7 +26,7 @@ returns-then-is_none-clause-state c =
 
 pub returns-clause-state : goal.returns-clause-state
 returns-clause-state c =
-    let w : World = c.args.house.now in
+    let w : House = c.args.house.now in
     let all : c.message_count-most.result ≡ message_count_in w c.args.found.uid =
     c.message_count-most.ensures ∙ sym (ap (λ (o : Option QueueHistory). option_map_or (λ q. message_count q.lines) o 0) c.queue_at-queue.ensures) in
     subst (λ (n : ℕ). OnOk c.some_moves.result (c.some_moves.new.house ≡ some_moves n w c.args.found.uid c.args.at)) all c.some_moves.ensures.state

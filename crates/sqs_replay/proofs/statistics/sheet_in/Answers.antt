@@ -4,7 +4,7 @@ use Rattle.queue_core.specs.declared.reply.Look.{Look}
 use Rattle.queue_core.specs.declared.reply.Reply.{Reply}
 use Rattle.queue_core.specs.declared.reply.Reply.TheVariants.{Looked}
 use Rattle.queue_core.specs.Queue.{look_of}
-use Rattle.redrive.specs.World.{queue_of_uid}
+use Rattle.redrive.specs.House.{queue_of_uid}
 use Rattle.sqs_replay.proofs.statistics.sheet_in.Goals as goal
 
 same-look : (reply : Reply) (a b : Look) → reply ≡ Looked a → reply ≡ Looked b → a ≡ b

@@ -1,6 +1,6 @@
 use Rattle.std.proofs.Common.{◌≡◌, Result, subst, rules}
 use Rattle.message.specs.declared.fault.Fault.{Fault}
-use Rattle.redrive.specs.World.{step_answer}
+use Rattle.redrive.specs.House.{step_answer}
 use Rattle.request_plan.specs.declared.plan.Performed.{Performed}
 use Rattle.request_plan.specs.Plan.{Follows, after}
 use Rattle.sqs_replay.specs.Served.{outcome_of}

@@ -1,5 +1,5 @@
 use Rattle.std.proofs.Common.{◌≡◌, ℕ, List}
-use Rattle.redrive.specs.World.{found_uid, StandsAt}
+use Rattle.redrive.specs.House.{found_uid, StandsAt}
 use Rattle.sqs_replay.specs.Served.{most_commands, steps_served}
 use Rattle.sqs_replay.proofs.StepLemmas.{GoesOn}
 use Rattle.sqs_replay.proofs.steps.play.Given as goal

@@ -1,7 +1,7 @@
 use Rattle.std.proofs.Common.{ap, ◌∙◌, ◌≡◌, sym, ℕ, List, [], ◌∷◌, ◌++◌, subst, IfSome}
 use Rattle.queue_core.specs.Queue.{QueueHistory}
 use Rattle.desk.specs.History.{state_of, call}
-use Rattle.desk.specs.Views.{IsKnown, knowledge_of}
+use Rattle.desk.specs.Views.{IsKnown, pass_of}
 use Rattle.desk.specs.Printed.{IsToldOf}
 use Rattle.desk.specs.private.Steps.{behind_call, with_call}
 use Rattle.desk.proofs.PassLemmas.{called, known_behind, left_behind, performed}
@@ -26,7 +26,7 @@ returns g c =
     record {
       desk = desk;
       called = me;
-      known = rw me (known_behind c.end.new.seat.table_id v _ _ _ _ (subst (λ d. IsKnown (knowledge_of d v)) (sym desk) c.requires.known) c.take-held.ensures.queue c.perform-reply.ensures.answer);
+      known = rw me (known_behind c.end.new.seat.table_id v _ _ _ _ (subst (λ d. IsKnown (pass_of d v)) (sym desk) c.requires.known) c.take-held.ensures.queue c.perform-reply.ensures.answer);
       told = rw me (subst (λ (at : List ℕ). IfSome c.tell-told.result (λ told. IsToldOf (g.P.Press.tells at) (state_of v.start (v.seen ++ made ∷ [])) told)) place
           (subst (λ (q : QueueHistory). IfSome c.tell-told.result (λ told. IsToldOf (g.P.Press.tells held.place) q told)) (left_behind v _ _ _ held _ c.take-held.ensures.queue c.perform-reply.ensures.state) c.tell-told.ensures.told));
     }

@@ -3,7 +3,7 @@ use Rattle.std.proofs.Common.{rules, ◌≡◌, ℕ, ◌<◌, List, [], ◌∷�
 use Rattle.std.proofs.Math.Seq.{map-set_same}
 use Rattle.std.proofs.lemmas.List.{take_more, take_more_set, map-append, get_or-map, length-map}
 use Rattle.std.proofs.lemmas.List.Elements.{All-push, All-same}
-use Rattle.board.specs.Sheet.{Statistics}
+use Rattle.board.specs.Sheet.{Sheet}
 use Rattle.queue_actor.specs.declared.readers.Shown.{Shown}
 use Rattle.queue_actor.specs.Reading.{IsSheetUnder}
 use Rattle.queue_actor.specs.private.Reading.{sheet_of}
@@ -29,11 +29,11 @@ loop-place-preserved c =
       names = ap (map (λ s. s.name)) c.in_ok-push.ensures.items ∙ map-append (λ s. s.name) c.loop-place.sheets.items (sheet ∷ [])
           ∙ ap (λ (ns : List (List ℕ)). ns ++ sheet.name ∷ []) c.loop-place.invariant.names ∙ ap (λ (n : List ℕ). take i names ++ n ∷ []) (read ∙ sym at) ∙ sym (take_more names i [] long);
       same = map-set_same (λ (s : Shown). s.name) xs i now shown (c.read.ensures.same.1 ∙ ap (λ (s : Shown). s.name) here) ∙ same;
-      sheets = c.in_ok-push.ensures.items ∙ ap (λ (ss : List Statistics). ss ++ sheet ∷ []) c.loop-place.invariant.sheets ∙ ap (λ (s : Statistics). map own (take i xs) ++ s ∷ []) c.in_ok-read.ensures.sheet
+      sheets = c.in_ok-push.ensures.items ∙ ap (λ (ss : List Sheet). ss ++ sheet ∷ []) c.loop-place.invariant.sheets ∙ ap (λ (s : Sheet). map own (take i xs) ++ s ∷ []) c.in_ok-read.ensures.sheet
           ∙ sym (map-append own (take i xs) (now ∷ [])) ∙ ap (map own) (sym (take_more_set xs i now below));
       fits = records_more xs i now below c.loop-place.invariant.fits c.read.ensures.fits;
-      under = All-same (λ (s : Statistics). IsSheetUnder s.name s) c.push.new.self.items (c.loop-place.sheets.items ++ sheet ∷ []) c.in_ok-push.ensures.items
-          (All-push (λ (s : Statistics). IsSheetUnder s.name s) c.loop-place.sheets.items sheet c.loop-place.invariant.under (subst (λ (n : List ℕ). IsSheetUnder n sheet) (sym read) c.in_ok-read.ensures.under));
+      under = All-same (λ (s : Sheet). IsSheetUnder s.name s) c.push.new.self.items (c.loop-place.sheets.items ++ sheet ∷ []) c.in_ok-push.ensures.items
+          (All-push (λ (s : Sheet). IsSheetUnder s.name s) c.loop-place.sheets.items sheet c.loop-place.invariant.under (subst (λ (n : List ℕ). IsSheetUnder n sheet) (sym read) c.in_ok-read.ensures.under));
       kept = later_lent c.args.self.now.all.items xs i now shown c.loop-place.invariant.kept here (c.read.ensures.same.0, c.read.ensures.same.1, c.read.ensures.later);
     }
 

@@ -1,6 +1,6 @@
 use Rattle.std.proofs.Common.{◌+◌, ◌≤◌, sym, subst, ◌∙◌}
 use Rattle.queue_core.specs.Queue.{at_moment}
-use Rattle.redrive.specs.World.{World}
+use Rattle.redrive.specs.House.{House}
 use Rattle.redrive.specs.Cost.{change_ticks}
 use Rattle.redrive.proofs.RegistryLemmas.{changed-absent}
 use Rattle.redrive.proofs.PlaceLemmas.{place-shown, changed-at, ticks-at, IsKept-moved_at}
@@ -25,5 +25,5 @@ pub returns-in-Some-clause-cost : goal.returns-in-Some-clause-cost
 returns-in-Some-clause-cost c =
     let w = c.self.inside.queues in
     let here = place-shown c.args.uid c.self.view_is c.place_of.ensures.place c.in-Some.is in
-    subst (λ (w : World). c.advance_at.new.ticks ≤ c.args.ticks.now + change_ticks w c.args.uid (λ q. at_moment q c.args.at)) c.self.view_is
+    subst (λ (w : House). c.advance_at.new.ticks ≤ c.args.ticks.now + change_ticks w c.args.uid (λ q. at_moment q c.args.at)) c.self.view_is
     (ticks-at w c.args.uid c.in-Some.place here (λ q. at_moment q c.args.at) c.args.ticks.now c.advance_at.new.ticks c.advance_at.ensures.cost)

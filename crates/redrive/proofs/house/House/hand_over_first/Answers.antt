@@ -5,7 +5,7 @@ use Rattle.message.specs.Fault.{Meets}
 use Rattle.queue_core.specs.declared.command.Command.TheVariants.{Arrive, Orphan}
 use Rattle.queue_core.specs.declared.parcel.Parcel.{Parcel}
 use Rattle.redrive.specs.declared.moved.Moved.{Moved}
-use Rattle.redrive.specs.World.{first_parcel_in}
+use Rattle.redrive.specs.House.{first_parcel_in}
 use Rattle.redrive.proofs.HandOverLemmas.{is-first, delivered-answer, delivered-takes, delivered-left, delivered-ticks, orphan-delivery, arrive-delivery, parcel-delivery, wanted, answered, answered-meets, answered-left, answered-ticks, ran-out, unmade-left, unmade-ticks}
 use Rattle.redrive.proofs.house.House.hand_over_first.Goals as goal
 

@@ -1,5 +1,5 @@
 use Rattle.std.proofs.Common.{◌≡◌, ◌≤◌, take, map, vec_len, vec_capacity}
-use Rattle.redrive.specs.WorldRun.{metrics_of}
+use Rattle.redrive.specs.HouseSteps.{metrics_of}
 use Rattle.redrive.proofs.house.House.measure.Given as goal
 
 abbrev pub invariant-loop-queue : goal.invariant-loop-queue

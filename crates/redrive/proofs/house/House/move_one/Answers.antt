@@ -1,7 +1,7 @@
 use Rattle.std.proofs.Common.{Ok, refl, sym, ap, ◌∙◌}
 use Rattle.std.proofs.lemmas.Result.{err_from_is_err_and}
 use Rattle.queue_core.proofs.LegalSoundLemmas.{sound_legal}
-use Rattle.redrive.specs.World.{needs_confirmation}
+use Rattle.redrive.specs.House.{needs_confirmation}
 use Rattle.redrive.proofs.MovingLemmas.{IsMoved-confirmed, CostsMove-confirmed, CostsMove-unconfirmed}
 use Rattle.redrive.proofs.house.House.move_one.Goals as goal
 

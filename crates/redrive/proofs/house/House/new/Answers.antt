@@ -4,7 +4,7 @@ use Rattle.queue_config.specs.Config.{Configuration, AreConfigured, rules_of}
 use Rattle.queue_config.specs.AlarmRules.{Rule}
 use Rattle.queue_config.specs.declared.config.ConfiguredAlarm.{ConfiguredAlarm}
 use Rattle.queue_config.specs.declared.config.ConfiguredQueue.{ConfiguredQueue}
-use Rattle.redrive.specs.World.{World, new_world, with_queue, next_queue, found_uid}
+use Rattle.redrive.specs.House.{House, new_house, with_queue, next_queue, found_uid}
 use Rattle.redrive.proofs.ConfiguredLemmas.{found-configured}
 use Rattle.redrive.proofs.OpeningLemmas.{next_name-new, next_name-place, opened-more}
 use Rattle.redrive.proofs.house.House.new.Goals as goal
@@ -31,7 +31,7 @@ loop-queue-preserved c =
     let own = ap (λ (k : Configuration). k.queues) c.config.view_is in
     let same : c.as_slice-queue-items.result.now ≡ c.args.config.now.queues = c.as_slice-queue-items.ensures.value ∙ own in
     let alarms : c.as_slice.result.now ≡ c.args.config.now.alarms = c.as_slice.ensures.value ∙ ap (λ (k : Configuration). k.alarms) c.config.view_is in
-    let uid : c.next_uid.result ≡ c.loop-queue.house.next_uid = c.next_uid.ensures ∙ ap (λ (w : World). w.next_uid) c.house.view_is in
+    let uid : c.next_uid.result ≡ c.loop-queue.house.next_uid = c.next_uid.ensures ∙ ap (λ (w : House). w.next_uid) c.house.view_is in
     let rules : c.in_ok-rules.rules.items ≡ rules_of c.args.config.now.alarms c.loop-queue.house.next_uid =
     c.in_ok-rules.ensures.ok ∙ ap (λ (xs : List ConfiguredAlarm). rules_of xs c.next_uid.result) alarms ∙ ap (λ (u : ℕ). rules_of c.args.config.now.alarms u) uid in
     c.in_ok-open.ensures.ok
@@ -45,7 +45,7 @@ returns-clause-found c name =
     let own = ap (λ (k : Configuration). k.queues) c.config.view_is in
     let same : c.as_slice-queue-items.result.now ≡ c.args.config.now.queues = c.as_slice-queue-items.ensures.value ∙ own in
     let over : length c.args.config.now.queues ≤ c.loop-queue.queue-index = subst (λ (qs : List ConfiguredQueue). length qs ≤ c.loop-queue.queue-index) same c.loop-queue-test.false in
-    let made : c.loop-queue.house ≡ new_world c.args.config.now c.args.at =
+    let made : c.loop-queue.house ≡ new_house c.args.config.now c.args.at =
     c.loop-queue.invariant
-    ∙ ap (λ (qs : List ConfiguredQueue). new_world (record { limits = c.args.config.now.limits; queues = qs; alarms = c.args.config.now.alarms }) c.args.at) (take_all c.loop-queue.queue-index c.args.config.now.queues over) in
-    ap (λ (w : World). found_uid w name) made ∙ found-configured c.args.config.now c.args.at name
+    ∙ ap (λ (qs : List ConfiguredQueue). new_house (record { limits = c.args.config.now.limits; queues = qs; alarms = c.args.config.now.alarms }) c.args.at) (take_all c.loop-queue.queue-index c.args.config.now.queues over) in
+    ap (λ (w : House). found_uid w name) made ∙ found-configured c.args.config.now c.args.at name

@@ -1,8 +1,8 @@
 use Rattle.std.proofs.Common.{◌≡◌, ◌+◌, ◌∷◌, drop, arith, sym, ap, subst, ◌∙◌}
 use Rattle.std.proofs.lemmas.List.{drop_more}
 use Rattle.redrive.specs.declared.steps.HouseStep.{HouseStep}
-use Rattle.redrive.specs.World.{World, queue_of_uid}
-use Rattle.redrive.specs.WorldRun.{IsAsIfAlone}
+use Rattle.redrive.specs.House.{House, queue_of_uid}
+use Rattle.redrive.specs.HouseSteps.{IsAsIfAlone}
 use Rattle.redrive.proofs.RunLemmas.{AreAnswered, Continues-step, Continues-end, AreHouseAnswers-run, IsAsIfAlone-run, IsWholeHistory-run, AreTold-run}
 use Rattle.redrive.proofs.house.House.run.Goals as goal
 
@@ -31,8 +31,8 @@ returns c =
       answers = AreHouseAnswers-run w steps answers h.answered;
       state = h.state;
       alone = λ uid.
-          subst (λ (x : World). IsAsIfAlone w uid (queue_of_uid w uid) steps answers (queue_of_uid x uid)) (sym h.state) (IsAsIfAlone-run w steps answers uid h.answered);
-      history = λ all is whole. IsWholeHistory-run all steps answers (subst (λ (x : World). AreAnswered x steps answers) (sym is) h.answered) whole;
+          subst (λ (x : House). IsAsIfAlone w uid (queue_of_uid w uid) steps answers (queue_of_uid x uid)) (sym h.state) (IsAsIfAlone-run w steps answers uid h.answered);
+      history = λ all is whole. IsWholeHistory-run all steps answers (subst (λ (x : House). AreAnswered x steps answers) (sym is) h.answered) whole;
       recomputed = record { told = AreTold-run w steps answers h.answered; measured = c.measure.ensures };
       err = tt;
       cost = h.within;

@@ -1,5 +1,5 @@
 use Rattle.std.proofs.Common.{◌≡◌, filter, map, take}
-use Rattle.redrive.specs.World.{has_target}
+use Rattle.redrive.specs.House.{has_target}
 use Rattle.redrive.proofs.house.House.source_names.Given as goal
 
 abbrev pub invariant-loop-queue : goal.invariant-loop-queue

@@ -1,10 +1,10 @@
 use Rattle.std.proofs.Common.{◌≡◌, ℕ, Option, None, nat_eq, position, refl, sym, ◌∙◌}
 use Rattle.queue_core.specs.Queue.{QueueHistory}
-use Rattle.redrive.specs.World.{World, queue_of_uid}
+use Rattle.redrive.specs.House.{House, queue_of_uid}
 use Rattle.redrive.proofs.KeyedLemmas.{find-no_position}
 use Rattle.redrive.proofs.house.House.step.Goals as goal
 
-absent : (w : World) (uid : ℕ) (place : Option ℕ) → place ≡ position (λ q. nat_eq q.uid uid) w.queues → place ≡ None → queue_of_uid w uid ≡ None
+absent : (w : House) (uid : ℕ) (place : Option ℕ) → place ≡ position (λ q. nat_eq q.uid uid) w.queues → place ≡ None → queue_of_uid w uid ≡ None
 absent w uid place found none = find-no_position (λ (q : QueueHistory). q.uid) uid w.queues (sym found ∙ none)
 
 pub step_at-requires : goal.step_at-requires

@@ -1,7 +1,7 @@
 use Rattle.std.proofs.Common.{◌+◌, ◌≤◌, Ok, Err, sym, subst, ◌∙◌}
 use Rattle.std.proofs.lemmas.Result.{err_from_is_err_and}
 use Rattle.queue_core.specs.Queue.{QueueHistory}
-use Rattle.redrive.specs.World.{World}
+use Rattle.redrive.specs.House.{House}
 use Rattle.redrive.specs.Cost.{after_deletion, deletion_ticks}
 use Rattle.redrive.proofs.RegistryLemmas.{present-absent, delete-absent_state}
 use Rattle.redrive.proofs.DeletionLemmas.{take-absent_answer, journal-handed, journals-kept}
@@ -40,7 +40,7 @@ returns-in_err-queue-in-Some-clause-cost c =
     let here = place-shown c.args.uid c.self.view_is c.place_of.ensures.place c.in-Some.is in
     let p = err_from_is_err_and c.from_residual.result c.from_residual.ensures.1 in
     rw (p.1, p.2)
-    (subst (λ (w : World). c.close_and_take.new.ticks ≤ c.args.ticks.now + deletion_ticks {T = QueueHistory} w c.args.uid c.args.at (Err c.in_err-queue-in-Some.field-0.0)) c.self.view_is
+    (subst (λ (w : House). c.close_and_take.new.ticks ≤ c.args.ticks.now + deletion_ticks {T = QueueHistory} w c.args.uid c.args.at (Err c.in_err-queue-in-Some.field-0.0)) c.self.view_is
     (ticks-at w c.args.uid c.in-Some.place here (λ q. after_deletion {T = QueueHistory} q c.args.at (Err c.in_err-queue-in-Some.field-0.0)) c.args.ticks.now c.close_and_take.new.ticks c.in_err-queue-in-Some.ensures.cost))
 
 -- ---- it is taken out
@@ -88,5 +88,5 @@ pub returns-in_ok-queue-in-Some-clause-cost : goal.returns-in_ok-queue-in-Some-c
 returns-in_ok-queue-in-Some-clause-cost c =
     let w = c.self.inside.queues in
     let here = place-shown c.args.uid c.self.view_is c.place_of.ensures.place c.in-Some.is in
-    subst (λ (w : World). c.close_and_take.new.ticks ≤ c.args.ticks.now + deletion_ticks w c.args.uid c.args.at (Ok c.in_ok-queue-in-Some.queue)) c.self.view_is
+    subst (λ (w : House). c.close_and_take.new.ticks ≤ c.args.ticks.now + deletion_ticks w c.args.uid c.args.at (Ok c.in_ok-queue-in-Some.queue)) c.self.view_is
     (ticks-at w c.args.uid c.in-Some.place here (λ q. after_deletion q c.args.at (Ok c.in_ok-queue-in-Some.queue)) c.args.ticks.now c.close_and_take.new.ticks c.in_ok-queue-in-Some.ensures.cost)

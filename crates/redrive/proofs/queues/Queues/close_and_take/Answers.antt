@@ -3,7 +3,7 @@ use Rattle.std.specs.List.{remove}
 use Rattle.std.specs.Option.{option_map_or}
 use Rattle.std.proofs.lemmas.Option.{slice_get-get_or}
 use Rattle.queue_core.specs.Queue.{QueueHistory, at_moment}
-use Rattle.redrive.specs.World.{World, closed_queue}
+use Rattle.redrive.specs.House.{House, closed_queue}
 use Rattle.redrive.specs.private.ByPlace.{with_place_changed, without_place}
 use Rattle.redrive.proofs.CostLemmas.{done-at}
 use Rattle.redrive.proofs.queues.Queues.close_and_take.Goals as goal
@@ -22,7 +22,7 @@ pub returns-in-Ok-clause-ok : goal.returns-in-Ok-clause-ok
 returns-in-Ok-clause-ok c =
     let items = c.remove.ensures.items ∙ remove-set c.self.inside.queues.items c.args.place c.close.new.queue in
     ap (λ (qs : List QueueHistory). record { limits = c.self.inside.limits; next_uid = c.self.inside.next_uid; queues = qs }) items
-    ∙ ap (λ (w : World). without_place w c.args.place) c.self.view_is
+    ∙ ap (λ (w : House). without_place w c.args.place) c.self.view_is
 
 pub returns-in-Err-clause-err : goal.returns-in-Err-clause-err
 returns-in-Err-clause-err c =
@@ -31,8 +31,8 @@ returns-in-Err-clause-err c =
     let closed = c.in-Err.ensures.moved ∙ ap change c.index_mut.ensures.value in
     ap (λ (q : QueueHistory). record { limits = c.self.inside.limits; next_uid = c.self.inside.next_uid; queues = set c.self.inside.queues.items c.args.place q }) closed
     ∙ ap (λ (qs : List QueueHistory). record { limits = c.self.inside.limits; next_uid = c.self.inside.next_uid; queues = qs })
-    (set-read change c.self.inside.queues.items c.args.place c.index_mut.result.now (subst (λ (w : World). c.args.place < length w.queues) (sym c.self.view_is) within))
-    ∙ ap (λ (w : World). with_place_changed w c.args.place change) c.self.view_is
+    (set-read change c.self.inside.queues.items c.args.place c.index_mut.result.now (subst (λ (w : House). c.args.place < length w.queues) (sym c.self.view_is) within))
+    ∙ ap (λ (w : House). with_place_changed w c.args.place change) c.self.view_is
 
 pub returns-in-Ok-clause-cost : goal.returns-in-Ok-clause-cost
 returns-in-Ok-clause-cost c =

@@ -1,5 +1,5 @@
 use Rattle.std.proofs.Common.{◌≡◌, Ok, IfOk, IfSome, ap, inl, inr, refl, subst, ◌∙◌}
-use Rattle.desk.specs.Views.{Knowledge}
+use Rattle.desk.specs.Views.{Pass}
 use Rattle.sqs_server.proofs.front.Front.create.Goals as goal
 
 pub returns-in-Ok-Some : goal.returns-in-Ok-Some
@@ -9,5 +9,5 @@ pub returns-in-Ok-Some-2 : goal.returns-in-Ok-Some-2
 returns-in-Ok-Some-2 g c =
     let found = subst (λ known. IfSome known (λ queue. queue.pass.start.name ≡ c.args.creation.name)) c.in-Ok-Some.field-0-is
     (subst (λ answer. IfOk answer (λ known. IfSome known (λ queue. queue.pass.start.name ≡ c.args.creation.name))) c.in-Ok-Some.is c.find.ensures.name) in
-    let name = ap (λ (pass : Knowledge). pass.start.name) c.of.ensures.2 ∙ found in
+    let name = ap (λ (pass : Pass). pass.start.name) c.of.ensures.2 ∙ found in
     (Ok c.in-Ok.target, c.in-Ok.ensures, inr (inl (c.of.result, name, c.send.ensures)), tt)
