@@ -4,7 +4,7 @@
 //! - [`parse`]: the request that an action and a body are, or the first fault in a fixed order: the
 //!   action, JSON, the kinds of all members that the action knows, at any depth, then these members
 //!   one after another. A batch is a list of [`Entries`], each a queue's command or its own fault.
-//! - [`reply_text`]: the JSON text of a reply. Of a batch it is the [`BatchAnswers`].
+//! - [`reply_text`]: the JSON text of a reply. [`BatchAnswers`]: the answers to the entries of a batch, in its text.
 //! - [`fault_text`] and [`status`]: the JSON text and the status of a refusal.
 //! - [`explain`]: what was wrong with a request that was refused, in words.
 //! - [`QueueAttribute`] and [`SystemAttribute`]: the attributes that a client asks for by their names.
