@@ -208,7 +208,7 @@ class Rows:
             found.append(refusal(sqs.add_permission, QueueUrl="jobs", Label="a", AWSAccountIds=["1"], Actions=["*"]))
             found.append(curl(server.endpoint, "-d", "{}"))
             actions = [f"The action {it} is not served" for it in ("ListQueueTags", "StartMessageMoveTask", "AddPermission")]
-            self.logged(server, *actions, "The request names no action of this server")
+            self.logged(server, *actions, "X-Amz-Target names no action of AmazonSQS")
         return self.alike("UnsupportedOperation", found)
 
     def other_kinds(self):

@@ -80,10 +80,14 @@ fn refused(alloc: Global, action: &str, body: &[u8]) -> Looked {
     members(alloc, action, &body)
 }
 
+/// What is said where no action is named.
+const NO_ACTION: &str =
+    "X-Amz-Target names no action of AmazonSQS; SDKs from before November 2023 do not send it";
+
 /// Says that an action is not served.
 fn unserved(alloc: Global, action: &str) -> Looked {
     if action.is_empty() {
-        return found(String::from_str(alloc, "The request names no action of this server"));
+        return found(String::from_str(alloc, NO_ACTION));
     }
     let action = quoted(alloc, action)?;
     found(format!(in alloc; "The action {action} is not served"))

@@ -7,7 +7,19 @@ use std::mem;
 /// How long a line is held back after it was told, in milliseconds.
 const PAUSE: u64 = 1000;
 
-/// The last line that was told, when, and how often it has come again since then.
+/// How many bytes a time of day has, as 12:03:04.123.
+const TIME: usize = 12;
+
+/// What a line says behind the time of day that it may begin with: its first word, if that is as long as a time.
+fn behind_time(line: &str) -> &str {
+    match line.split_once(' ') {
+        Some((time, rest)) if time.len() == TIME => rest,
+        _ => line,
+    }
+}
+
+/// The last line that came, when one was last told, and how often it has come again since then. Lines that differ only by
+/// their time of day are the same.
 #[derive(Debug, Drop)]
 pub struct Burst {
     alloc: Global,
@@ -58,11 +70,12 @@ impl Burst {
     }
 
     /// What is told where a line came at a moment, before that line, which is told itself only where this says so: the
-    /// last line within a second is counted.
+    /// last line within a second is counted, and told with its latest time.
     pub fn hear(&mut self, at: Moment, line: &str) -> Result<(Option<String>, bool), AllocError> {
-        let is_last = line == self.line.as_str();
+        let is_last = behind_time(line) == behind_time(self.line.as_str());
         if is_last && (self.is_fresh(at) || self.again > 0) {
             self.again = self.again.saturating_add(1);
+            self.line = String::from_str(self.alloc, line)?;
             return Ok((self.rest(at)?, false));
         }
         let before = self.told_again()?;

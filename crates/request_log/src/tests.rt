@@ -152,6 +152,14 @@ const BURSTS: &str = "100 a => a
 20000 c => c (2 times more)
 20001 d => d
 5000 d => d
+6100 12:00:00.000 GetQueueUrl nope 400 => 12:00:00.000 GetQueueUrl nope 400
+6200 12:00:00.100 GetQueueUrl nope 400 =>
+6900 12:00:00.800 GetQueueUrl nope 400 =>
+7100 12:00:01.000 GetQueueUrl nope 400 => 12:00:01.000 GetQueueUrl nope 400 (3 times more)
+7200 12:00:01.100 GetQueueUrl nope 400 =>
+7300 12:00:01.200 GetQueueUrl none 400 => 12:00:01.100 GetQueueUrl nope 400 (1 time more)|12:00:01.200 GetQueueUrl none 400
+7400 sqs_server: accept: none => sqs_server: accept: none
+7500 sqs_server: accept: none, again => sqs_server: accept: none, again
 ";
 
 /// What is told of a line.

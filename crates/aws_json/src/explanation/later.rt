@@ -26,7 +26,11 @@ pub(super) fn refused_later(
     }
     match fault {
         Fault::QueueDoesNotExist => of_queue(alloc, request, "and no open queue has this name"),
-        Fault::JournalFull => of_queue(alloc, request, "and its journal is full"),
+        Fault::JournalFull => of_queue(
+            alloc,
+            request,
+            "and its journal is full (max_lines) until messages expire or it is deleted",
+        ),
         Fault::Spent => of_queue(
             alloc,
             request,
@@ -96,7 +100,7 @@ fn of_limit(alloc: Global, request: &Request, fault: Fault) -> Looked {
         (Request::ReceiveMessage { .. }, Fault::OverLimit) => of_queue(
             alloc,
             request,
-            "and it has as many messages in flight as it may have",
+            "and it has as many messages in flight as it may have (in_flight)",
         ),
         _ => Ok(()),
     }

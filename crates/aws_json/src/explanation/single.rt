@@ -14,10 +14,14 @@ use std::alloc::Global;
 /// What the name of a queue and the id of an entry have to be.
 pub(super) const NAME_WANTED: &str = "1 to 80 ASCII letters, digits, - and _ are";
 
+/// What is said beside a name by which FIFO queues are known.
+const NO_FIFO: &str = " (there are no FIFO queues)";
+
 /// Says what is wrong with a name that is no queue's.
 pub(super) fn no_name(alloc: Global, place: &str, name: &str) -> Looked {
+    let note = if name.ends_with(".fifo") { NO_FIFO } else { "" };
     let name = quoted(alloc, name)?;
-    found(format!(in alloc; "{place} is {name}, and {NAME_WANTED} wanted"))
+    found(format!(in alloc; "{place} is {name}, and {NAME_WANTED} wanted{note}"))
 }
 
 /// Looks at the `QueueUrl`.
@@ -111,8 +115,9 @@ pub(super) fn look_at_numbers(alloc: Global, body: &Value) -> Looked {
 
 /// Says that a list or an object has a name that is not known.
 pub(super) fn unknown(alloc: Global, place: &str, name: &str) -> Looked {
+    let note = if name == "FifoQueue" { NO_FIFO } else { "" };
     let name = quoted(alloc, name)?;
-    found(format!(in alloc; "{place} has the unknown name {name}"))
+    found(format!(in alloc; "{place} has the unknown name {name}{note}"))
 }
 
 /// Looks at the names of a queue's attributes.

@@ -8,7 +8,7 @@ pub(super) const CASES: &str =
     r##"QueueDoesNotExist SendMessage {"QueueUrl":"http://localhost:9324/000000000000/no such","MessageBody":"a"} => The name in QueueUrl is "no such", and 1 to 80 ASCII letters, digits, - and _ are wanted
 QueueDoesNotExist PurgeQueue {"QueueUrl":"jobs/"} => The name in QueueUrl is "", and 1 to 80 ASCII letters, digits, - and _ are wanted
 QueueDoesNotExist SendMessageBatch {"QueueUrl":"no such","Entries":[]} => The name in QueueUrl is "no such", and 1 to 80 ASCII letters, digits, - and _ are wanted
-QueueDoesNotExist GetQueueUrl {"QueueName":"jobs.fifo"} => QueueName is jobs.fifo, and 1 to 80 ASCII letters, digits, - and _ are wanted
+QueueDoesNotExist GetQueueUrl {"QueueName":"jobs.fifo"} => QueueName is jobs.fifo, and 1 to 80 ASCII letters, digits, - and _ are wanted (there are no FIFO queues)
 QueueDoesNotExist GetQueueUrl {"QueueName":"http://x/jobs"} => QueueName is "http://x/jobs", and 1 to 80 ASCII letters, digits, - and _ are wanted
 QueueDoesNotExist SendMessage {"QueueUrl":"http://localhost:9324/000000000000/jobs","MessageBody":"a"} => QueueUrl names the queue jobs, and no open queue has this name
 QueueDoesNotExist DeleteMessageBatch {"QueueUrl":"jobs","Entries":[{"Id":"a"}]} => QueueUrl names the queue jobs, and no open queue has this name
@@ -19,7 +19,7 @@ InvalidAttributeName SetQueueAttributes {"QueueUrl":"jobs","Attributes":{"DelayS
 InvalidAttributeName SetQueueAttributes {"QueueUrl":"jobs","Attributes":{"":"5"}} => Attributes has the unknown name ""
 InvalidAttributeName SetQueueAttributes {"QueueUrl":"jobs","Attributes":{"Délay":"5"}} => Attributes has the unknown name "Délay"
 InvalidAttributeName SetQueueAttributes {"QueueUrl":"jobs","Attributes":{"a \"quoted\" name \\ of more than sixty bytes, which is cut off behind those":"5"}} => Attributes has the unknown name "a \"quoted\" name \\ of more than sixty bytes, which is cut ..."
-InvalidAttributeName GetQueueAttributes {"QueueUrl":"jobs","AttributeNames":["All","FifoQueue"]} => AttributeNames has the unknown name FifoQueue
+InvalidAttributeName GetQueueAttributes {"QueueUrl":"jobs","AttributeNames":["All","FifoQueue"]} => AttributeNames has the unknown name FifoQueue (there are no FIFO queues)
 InvalidAttributeName ReceiveMessage {"QueueUrl":"jobs","AttributeNames":["All","all"]} => AttributeNames has the unknown name all
 InvalidAttributeName ReceiveMessage {"QueueUrl":"jobs","AttributeNames":["All"],"MessageSystemAttributeNames":["SenderId","QueueArn"]} => MessageSystemAttributeNames has the unknown name QueueArn
 InvalidAttributeValue CreateQueue {"QueueName":"jobs","Attributes":{"DelaySeconds":"901"}} => Attributes.DelaySeconds is 901, and 0 to 900, in 1 to 9 digits, is wanted
@@ -88,7 +88,7 @@ ReceiptHandleIsInvalid DeleteMessage {"QueueUrl":"jobs","ReceiptHandle":"0000000
 ReceiptHandleIsInvalid DeleteMessageBatch {"QueueUrl":"jobs","Entries":[{"Id":"a","ReceiptHandle":"000000000000000000000000000000000000000000000000"}]} => ReceiptHandle of an entry of Entries is none that the queue jobs gave
 MessageNotInflight ChangeMessageVisibility {"QueueUrl":"jobs","ReceiptHandle":"000000000000000100000000000000000000000000000001","VisibilityTimeout":60} => ReceiptHandle is of a message that is not in flight, or not the latest of its message
 MessageNotInflight ChangeMessageVisibilityBatch {"QueueUrl":"jobs","Entries":[{"Id":"a","ReceiptHandle":"000000000000000100000000000000000000000000000001","VisibilityTimeout":5}]} => ReceiptHandle of an entry of Entries is of a message that is not in flight, or not the latest of its message
-OverLimit ReceiveMessage {"QueueUrl":"jobs"} => QueueUrl names the queue jobs, and it has as many messages in flight as it may have
+OverLimit ReceiveMessage {"QueueUrl":"jobs"} => QueueUrl names the queue jobs, and it has as many messages in flight as it may have (in_flight)
 OverLimit CreateQueue {"QueueName":"jobs"} => QueueName is jobs, and 1,000 queues are open, or all numbers of queues are used
 EmptyBatchRequest SendMessageBatch {"QueueUrl":"nosuch","Entries":[]} => Entries has no entries, and 1 to 10 are wanted
 TooManyEntriesInBatchRequest DeleteMessageBatch {"QueueUrl":"jobs","Entries":[{},{},{},{},{},{},{},{},{},{},{}]} => Entries has 11 entries, more than 10
@@ -97,7 +97,7 @@ InvalidBatchEntryId SendMessageBatch {"QueueUrl":"jobs","Entries":[{"Id":"a","Me
 InvalidBatchEntryId ChangeMessageVisibilityBatch {"QueueUrl":"jobs","Entries":[{"ReceiptHandle":"z"}]} => Entries[0].Id is missing
 UnsupportedOperation TagQueue {"QueueUrl": => The action TagQueue is not served
 UnsupportedOperation send/message {} => The action "send/message" is not served
-UnsupportedOperation - {} => The request names no action of this server
+UnsupportedOperation - {} => X-Amz-Target names no action of AmazonSQS; SDKs from before November 2023 do not send it
 SerializationException SendMessage  => The body is empty, and a JSON object is wanted
 SerializationException SendMessage {"QueueUrl":"jobs","MessageBody":"a" => The body is no JSON: it ends too early, at or after line 1, column 36
 SerializationException SendMessage {"QueueUrl":"jobs => The body is no JSON: it ends too early, at or after line 1, column 13
@@ -125,8 +125,8 @@ SerializationException SendMessageBatch {"QueueUrl":5,"Entries":[{"Id":"a b"},nu
 SerializationException SendMessageBatch {"QueueUrl":5,"Entries":[{"Id":"a b"},{"Id":"a","MessageAttributes":{"a":{"StringValue":5}}}]} => Entries[1].MessageAttributes.a.StringValue is a number, and a string is wanted
 SerializationException DeleteMessageBatch {"QueueUrl":5,"Entries":null} => QueueUrl is a number, and a string is wanted
 SerializationException ChangeMessageVisibilityBatch {"QueueUrl":"jobs","Entries":[{"Id":"x","VisibilityTimeout":"5"}]} => Entries[0].VisibilityTimeout is a string, and a whole number is wanted
-JournalFull SendMessage {"QueueUrl":"jobs","MessageBody":"a"} => QueueUrl names the queue jobs, and its journal is full
-JournalFull PurgeQueue {"QueueUrl":"x/y/jobs"} => QueueUrl names the queue jobs, and its journal is full
+JournalFull SendMessage {"QueueUrl":"jobs","MessageBody":"a"} => QueueUrl names the queue jobs, and its journal is full (max_lines) until messages expire or it is deleted
+JournalFull PurgeQueue {"QueueUrl":"x/y/jobs"} => QueueUrl names the queue jobs, and its journal is full (max_lines) until messages expire or it is deleted
 OutOfMemory SendMessage {"QueueUrl":"jobs","MessageBody":"a"} => Memory was refused to the server while it worked at the request
 OutOfMemory CreateQueue {"QueueName":"jobs"} => Memory was refused to the server, or the thread of the new queue could not be started
 Spent GetQueueAttributes {"QueueUrl":"jobs"} => QueueUrl names the queue jobs, and it has answered as many calls as a queue can
