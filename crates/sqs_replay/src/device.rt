@@ -185,7 +185,7 @@ impl<W: io::Write> Outlet for Device<W> {
 }
 
 /// The fault that an error of a device is: lack of memory, or the one given.
-pub(crate) fn fault_of(error: &io::Error, fault: ReplayFault) -> ReplayFault
+fn fault_of(error: &io::Error, fault: ReplayFault) -> ReplayFault
     ensures exact { result ≡ fault_of (error_kind error.now) fault }
     ensures either { (result ≡ fault) ⊎ (result ≡ ReplayFault.OutOfMemory) }
 {

@@ -43,11 +43,11 @@ pub use laws::{
 pub use lines::{LINE_LIMIT, Lines, one_return_is_dropped, pieces_join_to_the_bytes};
 pub use moves::all_parcels_move;
 pub use program::Refusal;
-use program::{Ending, Wanted, arguments_among, configuration_in, default_configuration, finish};
+use program::{Wanted, arguments_among, default_configuration, finish};
 use queue_config::Config;
 pub use run::run_lines;
 pub use shown::LineAnswer;
-use startup::VERSION;
+use startup::{Ending, StartFault, VERSION, configuration_in};
 use std::process::ExitCode;
 use std::{env, fs, io};
 pub use whole::replay;
@@ -72,8 +72,8 @@ fn main(rt: HostRuntime) -> ExitCode {
 }
 
 /// Does as the arguments say.
-fn start(rt: &HostRuntime) -> Result<(), Ending> {
-    match arguments_among(env::args(rt))? {
+fn start(rt: &HostRuntime) -> Result<(), Ending<Refusal>> {
+    match arguments_among(env::args(rt)).map_err(Refusal::Start)? {
         Wanted::Run(path) => replay_input(rt, path),
         Wanted::Help => {
             let _ = rt.print(HELP);
@@ -87,8 +87,11 @@ fn start(rt: &HostRuntime) -> Result<(), Ending> {
 }
 
 /// Runs the replay on standard input and output.
-fn replay_input(rt: &HostRuntime, path: Option<String>) -> Result<(), Ending> {
-    let config = configuration(rt, path)?;
+fn replay_input(rt: &HostRuntime, path: Option<String>) -> Result<(), Ending<Refusal>> {
+    let config = configuration(rt, path).map_err(|ending| Ending {
+        refusal: Refusal::Start(ending.refusal),
+        more: ending.more,
+    })?;
     let mut ticks = Ticks::new(rt);
     let mut inlet = Device::new(rt.reader());
     let mut outlet = Device::new(io::writer(rt));
@@ -99,7 +102,7 @@ fn replay_input(rt: &HostRuntime, path: Option<String>) -> Result<(), Ending> {
 }
 
 /// The configuration of the file of a path, or that of an empty text.
-fn configuration(rt: &HostRuntime, path: Option<String>) -> Result<Config, Ending> {
+fn configuration(rt: &HostRuntime, path: Option<String>) -> Result<Config, Ending<StartFault>> {
     match path {
         Some(path) => configuration_in(rt.alloc(), path.as_str(), fs::read(rt, path.as_str())),
         None => Ok(default_configuration(rt.alloc())?),

@@ -1,19 +1,16 @@
-//! What the program makes of its arguments and of its configuration, and what it tells of how it ended.
+//! What the program makes of its arguments and its environment, and what it tells of how it ended.
 
-ghost use Rattle.std.specs.Prelude.{◌≡◌, ◌++◌, false, Err, None, IfOk, IfErr, string_bytes};
+ghost use Rattle.std.specs.Prelude.{◌≡◌, ◌++◌, Err, IfOk, IfErr, string_bytes};
 ghost use Rattle.std.specs.IoError.{error_kind};
 ghost use Rattle.std.specs.Process.{exit_status};
-ghost use Rattle.std.specs.Str.{is_utf8};
 ghost use Rattle.std.specs.Vec.Iter.{into_iter_items};
 ghost use Rattle.std.specs.Result.{result_map_both};
-ghost use Rattle.queue_config.specs.ConfigText.{configuration_of_bytes};
-ghost use Rattle.sqs_server.specs.Program.{arguments_among, count_of, environment_among, level_among, port_among, port_of, refusal_of_arguments, refusal_of_file, refused_by, IsConfigured, message_of, status_of, variable_name, wanted_of};
+ghost use Rattle.startup.specs.Start.{refusal_of_arguments, refused_by};
+ghost use Rattle.sqs_server.specs.Program.{arguments_among, count_of, environment_among, level_among, port_among, port_of, message_of, status_of, variable_name, wanted_of};
 
-use config_report::report;
-use queue_config::{Config, ConfigFault, config_from_bytes, decimal_number};
+use queue_config::decimal_number;
 use request_log::Level;
-use startup::{ProgramOption, option_of};
-use std::alloc::Global;
+use startup::{Ending, ProgramOption, StartFault, option_of, refusal_of_arguments, start_message};
 use std::env::VarError;
 use std::process::ExitCode;
 use std::{env, io};
@@ -27,14 +24,8 @@ const STATISTICS_PORT: u16 = 9325;
 /// Why the program does not serve.
 #[derive(Clone, Copy, Debug, PartialEq, Eq)]
 pub enum Refusal {
-    /// It was started with other arguments than it takes.
-    Usage,
-    /// The configuration is refused.
-    Config(ConfigFault),
-    /// The file of the configuration cannot be read.
-    Read,
-    /// There is no memory for what is there from the start.
-    OutOfMemory,
+    /// It does not start, as for want of memory for what is there from the start.
+    Start(StartFault),
     /// The port cannot be opened, or its connections cannot be waited for.
     Listen,
     /// A variable of the environment has a value that it cannot have.
@@ -85,16 +76,6 @@ pub struct Arguments {
     pub connections: Option<u64>,
 }
 
-/// Why the arguments could not be read: an argument is no text, or memory ran out.
-fn refusal_of_arguments(error: &io::Error) -> Refusal
-    ensures { result ≡ refusal_of_arguments (error_kind error.now) }
-{
-    match error.kind() {
-        io::ErrorKind::OutOfMemory => Refusal::OutOfMemory,
-        _ => Refusal::Usage,
-    }
-}
-
 /// How many connections a text asks for: 1 to 9 decimal digits, and not 0.
 fn count_of(text: &str) -> Option<u64>
     ensures { result ≡ count_of text.now }
@@ -106,19 +87,19 @@ fn count_of(text: &str) -> Option<u64>
 }
 
 /// What is asked for by a first argument, which is this option if it is one, and the number of connections.
-fn wanted_of(arguments: Arguments, option: Option<ProgramOption>) -> Result<Wanted, Refusal>
+fn wanted_of(arguments: Arguments, option: Option<ProgramOption>) -> Result<Wanted, StartFault>
     ensures { result ≡ wanted_of arguments option }
 {
     match option {
         None => Ok(Wanted::Serve(arguments)),
         Some(ProgramOption::Help) if arguments.connections.is_none() => Ok(Wanted::Help),
         Some(ProgramOption::Version) if arguments.connections.is_none() => Ok(Wanted::Version),
-        Some(_) => Err(Refusal::Usage),
+        Some(_) => Err(StartFault::Usage),
     }
 }
 
 /// What the arguments ask for, the first of which is the program's own name.
-pub(crate) fn arguments_among(arguments: io::Result<env::Args>) -> Result<Wanted, Refusal>
+pub(crate) fn arguments_among(arguments: io::Result<env::Args>) -> Result<Wanted, StartFault>
     ensures given { IfOk arguments (λ given. result ≡ arguments_among (λ s. string_bytes s) (λ path count. record { path = path; connections = count }) (into_iter_items given)) }
     ensures unread { IfErr arguments (λ error. result ≡ Err (refusal_of_arguments (error_kind error))) }
 {
@@ -128,16 +109,16 @@ pub(crate) fn arguments_among(arguments: io::Result<env::Args>) -> Result<Wanted
     };
     let _program = arguments.next();
     let Some(path) = arguments.next() else {
-        return Err(Refusal::Usage);
+        return Err(StartFault::Usage);
     };
     let connections = match arguments.next() {
-        Some(text) => Some(count_of(text.as_str()).ok_or(Refusal::Usage)?),
+        Some(text) => Some(count_of(text.as_str()).ok_or(StartFault::Usage)?),
         None => None,
     };
     let option = option_of(path.as_str());
     match arguments.next() {
         None => wanted_of(Arguments { path, connections }, option),
-        Some(_) => Err(Refusal::Usage),
+        Some(_) => Err(StartFault::Usage),
     }
 }
 
@@ -160,7 +141,7 @@ fn port_among(
         Ok(text) => port_of(text.as_str()).ok_or(Refusal::Variable(variable)),
         Err(VarError::NotPresent) => Ok(usual),
         Err(VarError::NotUnicode) => Err(Refusal::Variable(variable)),
-        Err(VarError::OutOfMemory) => Err(Refusal::OutOfMemory),
+        Err(VarError::OutOfMemory) => Err(Refusal::Start(StartFault::OutOfMemory)),
     }
 }
 
@@ -172,7 +153,7 @@ fn level_among(value: Result<String, VarError>) -> Result<Level, Refusal>
         Ok(text) => Level::named(text.as_str()).ok_or(Refusal::Variable(Variable::Log)),
         Err(VarError::NotPresent) => Ok(Level::Refused),
         Err(VarError::NotUnicode) => Err(Refusal::Variable(Variable::Log)),
-        Err(VarError::OutOfMemory) => Err(Refusal::OutOfMemory),
+        Err(VarError::OutOfMemory) => Err(Refusal::Start(StartFault::OutOfMemory)),
     }
 }
 
@@ -214,81 +195,30 @@ pub(crate) fn environment_among(values: Values) -> Result<Environment, Refusal>
     })
 }
 
-/// Why a file could not be read: memory ran out, or the system refused.
-fn refusal_of_file(error: &io::Error) -> Refusal
-    ensures { result ≡ refusal_of_file (error_kind error.now) }
-{
-    match error.kind() {
-        io::ErrorKind::OutOfMemory => Refusal::OutOfMemory,
-        _ => Refusal::Read,
-    }
-}
-
-/// What is said of a file that could not be read: which and why, but for lack of memory, of which one line is enough.
-fn unread(alloc: Global, path: &str, error: &io::Error) -> Ending
-    ensures refusal { result.refusal ≡ refusal_of_file (error_kind error.now) }
-    ensures short { result.refusal ≡ Refusal.OutOfMemory → result.more ≡ None }
-{
-    let refusal = refusal_of_file(error);
-    let more = match &refusal {
-        Refusal::OutOfMemory => None,
-        _ => format!(in alloc; "{path}: {error}").ok(),
-    };
-    Ending { refusal, more }
-}
-
-/// What is said of a file that is no configuration.
-fn misread(alloc: Global, path: &str, bytes: &[u8], fault: ConfigFault) -> Ending
-    ensures { result.refusal ≡ Refusal.Config fault }
-{
-    Ending {
-        refusal: Refusal::Config(fault),
-        more: report(alloc, path, bytes, fault).ok().flatten(),
-    }
-}
-
-/// The configuration that the bytes of the file of a path are, which may not have been read. Those that are no UTF-8 are
-/// refused without memory.
-pub(crate) fn configuration_in(
-    alloc: Global,
-    path: &str,
-    bytes: io::Result<Vec<u8>>,
-) -> Result<Config, Ending>
-    ensures given { IfOk bytes (λ given. IsConfigured (refused_by result) (configuration_of_bytes given.items)) }
-    ensures no_text { IfOk bytes (λ given. is_utf8 given.items ≡ false → refused_by result ≡ Err (Refusal.Config ConfigFault.Syntax)) }
-    ensures unread { IfErr bytes (λ error. refused_by result ≡ Err (refusal_of_file (error_kind error))) }
-{
-    let bytes = match bytes {
-        Ok(bytes) => bytes,
-        Err(error) => return Err(unread(alloc, path, &error)),
-    };
-    match config_from_bytes(alloc, bytes.as_slice()) {
-        Ok(config) => Ok(config),
-        Err(fault) => Err(misread(alloc, path, bytes.as_slice(), fault)),
-    }
-}
-
-/// What is told on standard error, in two parts, one after another.
-pub(crate) fn message_of(refusal: Refusal) -> (&'static str, &'static str)
-    ensures { result.0.now ++ result.1.now ≡ message_of refusal }
+/// What is told on standard error, in three parts, one after another.
+pub(crate) fn message_of(refusal: Refusal) -> (&'static str, &'static str, &'static str)
+    ensures { result.0.now ++ (result.1.now ++ result.2.now) ≡ message_of refusal }
 {
     match refusal {
-        Refusal::Usage => ("usage: sqs_server config.toml [connections]", ""),
-        Refusal::Config(ConfigFault::OutOfMemory) => ("sqs_server: ", "out of memory"),
-        Refusal::Config(fault) => ("sqs_server: config: ", fault.name()),
-        Refusal::Read => ("sqs_server: ", "read failed"),
-        Refusal::OutOfMemory => ("sqs_server: ", "out of memory"),
-        Refusal::Listen => ("sqs_server: ", "cannot listen"),
+        Refusal::Start(fault) => start_message(
+            "usage: sqs_server config.toml [connections]",
+            "sqs_server",
+            fault,
+        ),
+        Refusal::Listen => ("sqs_server", ": ", "cannot listen"),
         Refusal::Variable(Variable::Requests) => (
-            "sqs_server: JUTKARIQ_PORT",
+            "sqs_server: ",
+            "JUTKARIQ_PORT",
             " must be a port number, 0 to 65535",
         ),
         Refusal::Variable(Variable::Statistics) => (
-            "sqs_server: JUTKARIQ_STATISTICS_PORT",
+            "sqs_server: ",
+            "JUTKARIQ_STATISTICS_PORT",
             " must be a port number, 0 to 65535",
         ),
         Refusal::Variable(Variable::Log) => (
-            "sqs_server: JUTKARIQ_LOG",
+            "sqs_server: ",
+            "JUTKARIQ_LOG",
             " must be refused, all or none",
         ),
     }
@@ -301,7 +231,7 @@ fn status_of(outcome: &Result<(), Refusal>) -> u8
 {
     match outcome {
         Ok(()) => 0,
-        Err(Refusal::Usage | Refusal::Variable(_)) => 2,
+        Err(Refusal::Start(StartFault::Usage) | Refusal::Variable(_)) => 2,
         Err(Refusal::Listen) => 3,
         Err(_) => 1,
     }
@@ -314,36 +244,17 @@ pub(crate) fn exit_code(outcome: &Result<(), Refusal>) -> ExitCode
     ExitCode::from(status_of(outcome))
 }
 
-/// Why the program ends, and what there is to say beyond that, in a line of its own.
-#[derive(Debug, Drop)]
-pub struct Ending {
-    pub refusal: Refusal,
-    /// Such as which port could not be opened, and why; `None` where there is no more to say, or no memory to say it.
-    pub more: Option<String>,
-}
-
-impl From<Refusal> for Ending {
-    ghost from_gives = { λ refusal ending. ending.refusal ≡ refusal };
-
-    fn from(refusal: Refusal) -> Ending {
-        Ending {
-            refusal,
-            more: None,
-        }
-    }
-}
-
 /// Tells why the program ends on standard error.
-fn tell(rt: &HostRuntime, ending: &Ending) {
-    let (what, why) = message_of(ending.refusal);
-    let _ = rt.eprintln(format_args!("{what}{why}"));
+fn tell(rt: &HostRuntime, ending: &Ending<Refusal>) {
+    let (who, what, why) = message_of(ending.refusal);
+    let _ = rt.eprintln(format_args!("{who}{what}{why}"));
     if let Some(more) = &ending.more {
         let _ = rt.eprintln(format_args!("{more}"));
     }
 }
 
 /// Tells a refusal on standard error, if there is one, and ends with the status.
-pub(crate) fn finish(rt: &HostRuntime, outcome: Result<(), Ending>) -> ExitCode
+pub(crate) fn finish(rt: &HostRuntime, outcome: Result<(), Ending<Refusal>>) -> ExitCode
     ensures { exit_status result ≡ status_of (refused_by outcome) }
 {
     let outcome = match outcome {

@@ -1,6 +1,6 @@
 //! The HTTP server: the actions of a client over HTTP/1.1, each queue in a thread of its own.
 //!
-//! - `arguments`: what the program makes of its arguments and its configuration, and how it ends.
+//! - `arguments`: what the program makes of its arguments and its environment, and how it ends.
 //! - `head`: the order in which a request is judged, and what it asks. What it asks of one queue, one command after
 //!   another, is its plan (request_plan). `reply`: what is sent.
 //! - `clock`: the wall clock. `queues`: how a queue comes to be served.
@@ -14,7 +14,8 @@
 #![tactic(auto)]
 
 ghost use Rattle.std.specs.Prelude.{◌≡◌, ◌<◌, ◌≤◌, ◌⊎◌, IfErr};
-ghost use Rattle.sqs_server.specs.declared.arguments.Refusal.TheVariants.{Listen, OutOfMemory};
+ghost use Rattle.startup.specs.declared.ending.StartFault.TheVariants.{OutOfMemory};
+ghost use Rattle.sqs_server.specs.declared.arguments.Refusal.TheVariants.{Listen, Start};
 
 mod answering;
 mod arguments;
@@ -38,15 +39,15 @@ mod tests;
 mod watch;
 
 use arguments::{
-    Arguments, Ending, Environment, Refusal, Values, Variable, Wanted, arguments_among,
-    configuration_in, environment_among, finish,
+    Arguments, Environment, Refusal, Values, Variable, Wanted, arguments_among, environment_among,
+    finish,
 };
 use message::Fault;
 use notices::{Notices, start_telling};
 use register::Register;
 use request_log::Level;
 use serving::{Port, Ports, listen, refusal_of_system, serve};
-use startup::VERSION;
+use startup::{Ending, StartFault, VERSION, configuration_in};
 use std::net::{Ipv4Addr, Net, SocketAddr, TcpListener, TcpStream};
 use std::process::ExitCode;
 use std::random::RandomSource;
@@ -85,7 +86,7 @@ fn main(rt: HostRuntime) -> ExitCode {
 }
 
 /// Does as the arguments say.
-fn run<R>(rt: &R, host: &HostRuntime) -> Result<(), Ending>
+fn run<R>(rt: &R, host: &HostRuntime) -> Result<(), Ending<Refusal>>
 where
     R: Wait
         + Threads
@@ -100,7 +101,7 @@ where
         + Drop
         + 'static,
 {
-    match arguments_among(env::args(host))? {
+    match arguments_among(env::args(host)).map_err(Refusal::Start)? {
         Wanted::Serve(arguments) => run_server(rt, host, &arguments),
         Wanted::Help => {
             let _ = host.print(HELP);
@@ -154,10 +155,10 @@ where
 }
 
 /// Opens a port for requests or for statistics.
-fn open<R>(rt: &R, purpose: &str, port: u16) -> Result<Port, Ending>
+fn open<R>(rt: &R, purpose: &str, port: u16) -> Result<Port, Ending<Refusal>>
 where
     R: Net<Listener = TcpListener, Stream = TcpStream> + AllocGlobal,
-    ensures { IfErr result (λ ending. (ending.refusal ≡ OutOfMemory) ⊎ (ending.refusal ≡ Listen)) }
+    ensures { IfErr result (λ ending. (ending.refusal ≡ Start OutOfMemory) ⊎ (ending.refusal ≡ Listen)) }
 {
     match listen(rt, address_of(port)) {
         Ok(port) => Ok(port),
@@ -182,7 +183,7 @@ fn greet(host: &HostRuntime, ports: &Ports, count: usize, path: &str) {
 }
 
 /// Serves the queues of a configuration.
-fn run_server<R>(rt: &R, host: &HostRuntime, arguments: &Arguments) -> Result<(), Ending>
+fn run_server<R>(rt: &R, host: &HostRuntime, arguments: &Arguments) -> Result<(), Ending<Refusal>>
 where
     R: Wait
         + Threads
@@ -199,14 +200,19 @@ where
 {
     let path = arguments.path.as_str();
     let environment = environment(host)?;
-    let config = configuration_in(host.alloc(), path, fs::read(host, path))?;
+    let config = configuration_in(host.alloc(), path, fs::read(host, path)).map_err(
+        |ending| Ending {
+            refusal: Refusal::Start(ending.refusal),
+            more: ending.more,
+        },
+    )?;
     let ports = Ports {
         requests: open(rt, "requests", environment.port)?,
         statistics: open(rt, "statistics", environment.statistics_port)?,
         workers: workers(rt),
     };
     let Ok(register) = register_of(rt, environment.level) else {
-        return Err(Refusal::OutOfMemory.into());
+        return Err(Refusal::Start(StartFault::OutOfMemory).into());
     };
     greet(host, &ports, config.queues.len(), path);
     serve(rt, host, ports, &config, register, arguments.connections)?;

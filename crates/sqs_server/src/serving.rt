@@ -4,7 +4,8 @@ ghost use Rattle.std.specs.Prelude.{◌≡◌, ◌⊎◌, IfErr, IfOk, IfSome};
 ghost use Rattle.std.specs.IoError.{error_kind};
 ghost use Rattle.tokio.specs.Locks.{CanAcquire};
 ghost use Rattle.sqs_server.specs.Program.{refusal_of_system};
-ghost use Rattle.sqs_server.specs.declared.arguments.Refusal.TheVariants.{Listen, OutOfMemory};
+ghost use Rattle.startup.specs.declared.ending.StartFault.TheVariants.{OutOfMemory};
+ghost use Rattle.sqs_server.specs.declared.arguments.Refusal.TheVariants.{Listen, Start};
 
 use crate::arguments::Refusal;
 use crate::attendance::Attendance;
@@ -18,6 +19,7 @@ use crate::statistics::StatisticsFront;
 use hyper::rt::TokioTimer;
 use hyper::server::conn::http1::Builder;
 use queue_config::Config;
+use startup::StartFault;
 use std::hash::RandomState;
 use std::net::{self, Net, SocketAddr};
 use std::random::RandomSource;
@@ -34,7 +36,7 @@ pub(crate) fn refusal_of_system(error: &io::Error) -> Refusal
     ensures { result ≡ refusal_of_system (error_kind error.now) }
 {
     match error.kind() {
-        io::ErrorKind::OutOfMemory => Refusal::OutOfMemory,
+        io::ErrorKind::OutOfMemory => Refusal::Start(StartFault::OutOfMemory),
         _ => Refusal::Listen,
     }
 }
@@ -455,10 +457,10 @@ where
         + Sync
         + Drop
         + 'static,
-    ensures { IfErr result (λ refusal. (refusal ≡ OutOfMemory) ⊎ (refusal ≡ Listen)) }
+    ensures { IfErr result (λ refusal. (refusal ≡ Start OutOfMemory) ⊎ (refusal ≡ Listen)) }
 {
     let Ok(opened) = open_all(rt, host, rt.alloc(), config) else {
-        return Err(Refusal::OutOfMemory);
+        return Err(Refusal::Start(StartFault::OutOfMemory));
     };
     match serve_ports(rt, ports, opened, register, connections) {
         Ok(()) => Ok(()),

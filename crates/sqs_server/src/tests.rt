@@ -3,7 +3,7 @@
 
 mod conversations;
 
-use crate::arguments::{Refusal, configuration_in};
+use crate::arguments::Refusal;
 use crate::notices::Notices;
 use crate::queues::is_full;
 use crate::register::Register;
@@ -12,6 +12,7 @@ use crossbeam_channel::{Receiver, unbounded};
 use desk::NoPress;
 use queue_actor::Mail;
 use request_log::Level;
+use startup::configuration_in;
 use std::alloc::{AllocError, Global};
 use std::io::{ErrorKind, Read, Write};
 use std::net::{Ipv4Addr, Net, SocketAddr, TcpListener, TcpStream};

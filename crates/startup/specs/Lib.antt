@@ -1,1 +1,2 @@
 pub mod Option
+pub mod Start

@@ -1,12 +1,20 @@
 //! What both programs share at their start.
 //!
 //! - [`option_of`]: the option that an argument is, as `--help`.
+//! - [`configuration_in`]: the configuration that the bytes of a file are, or why there is none.
+//! - [`StartFault`]: why a program does not start; [`start_message`]: what it tells of that; [`Ending`]: that and what more
+//!   there is to say.
+//! - [`refusal_of_arguments`] and [`refusal_of_file`]: what an error of the system comes to.
 //!
-//! The definitions stand in `specs/`.
+//! It reads and prints nothing: it is given what was read. The definitions stand in `specs/`.
 #![tactic(auto)]
 
+mod configuration;
+mod ending;
 mod option;
 #[cfg(test)]
 mod tests;
 
+pub use configuration::configuration_in;
+pub use ending::{Ending, StartFault, refusal_of_arguments, refusal_of_file, start_message};
 pub use option::{ProgramOption, VERSION, option_of};

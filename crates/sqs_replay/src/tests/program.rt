@@ -3,17 +3,16 @@
 use super::same;
 use crate::ReplayFault;
 use crate::program::{
-    Refusal, Wanted, arguments_among, configuration_in, default_configuration, exit_code,
-    message_of,
+    Refusal, Wanted, arguments_among, default_configuration, exit_code, message_of,
 };
 use queue_config::ConfigFault;
-use std::alloc::Global;
+use startup::StartFault;
 use std::io;
 use std::process::ExitCode;
 use std::test::Fail;
 
 /// What so many arguments, with a space between them, ask for.
-fn asked(rt: &HostRuntime, arguments: &str) -> Result<Result<Wanted, Refusal>, Fail> {
+fn asked(rt: &HostRuntime, arguments: &str) -> Result<Result<Wanted, StartFault>, Fail> {
     let mut given = Vec::new(rt.alloc());
     for argument in arguments.split(' ') {
         given.push(String::from_str(rt.alloc(), argument)?)?;
@@ -21,41 +20,24 @@ fn asked(rt: &HostRuntime, arguments: &str) -> Result<Result<Wanted, Refusal>, F
     Ok(arguments_among(Ok(given.into_iter())))
 }
 
-/// The refusal of the configuration of a file that was read so, if it is one.
-fn refusal_in(alloc: Global, bytes: io::Result<Vec<u8>>) -> Option<Refusal> {
-    match configuration_in(alloc, "config.toml", bytes) {
-        Ok(_) => None,
-        Err(ending) => Some(ending.refusal),
-    }
-}
-
-/// The refusal of the configuration of a file with such bytes, if it is one.
-fn refusal_of(rt: &HostRuntime, text: &[u8]) -> Result<Option<Refusal>, Fail> {
-    let mut bytes = Vec::new(rt.alloc());
-    bytes.extend_from_slice(text)?;
-    Ok(refusal_in(rt.alloc(), Ok(bytes)))
-}
-
 /// Refusals, each with what the program tells of it and its status: of two arguments, of an option that there is not,
-/// of arguments that are no text and for which there is no memory; of a file that is no configuration, no text, absent, and
-/// for which there is no memory; and the others.
-const REFUSALS: &str = "Usage: usage: sqs_replay [config.toml], status 2
-Usage: usage: sqs_replay [config.toml], status 2
-Usage: usage: sqs_replay [config.toml], status 2
-Replay(OutOfMemory): sqs_replay: out of memory, status 1
-Config(Syntax): sqs_replay: config: Syntax, status 1
-Config(Syntax): sqs_replay: config: Syntax, status 1
+/// of arguments that are no text and for which there is no memory; and the others.
+const REFUSALS: &str = "Start(Usage): usage: sqs_replay [config.toml], status 2
+Start(Usage): usage: sqs_replay [config.toml], status 2
+Start(Usage): usage: sqs_replay [config.toml], status 2
+Start(OutOfMemory): sqs_replay: out of memory, status 1
+Start(Config(UnknownKey)): sqs_replay: config: UnknownKey, status 1
+Start(Config(OutOfMemory)): sqs_replay: out of memory, status 1
+Start(Read): sqs_replay: read failed, status 1
 Replay(Read): sqs_replay: read failed, status 1
-Replay(OutOfMemory): sqs_replay: out of memory, status 1
-Config(UnknownKey): sqs_replay: config: UnknownKey, status 1
-Config(OutOfMemory): sqs_replay: out of memory, status 1
 Replay(Write): sqs_replay: write failed, status 1
+Replay(OutOfMemory): sqs_replay: out of memory, status 1
 ";
 
 /// Tells a refusal as a line of [`REFUSALS`].
 fn tell(told: &mut String, refusal: Refusal) -> Result<(), Fail> {
-    let (what, why) = message_of(refusal);
-    write!(told, "{refusal:?}: {what}{why}, status ")?;
+    let (who, what, why) = message_of(refusal);
+    write!(told, "{refusal:?}: {who}{what}{why}, status ")?;
     for status in 0..=9u8 {
         if exit_code(&Err(refusal)) == ExitCode::from(status) {
             write!(told, "{status}\n")?;
@@ -76,22 +58,24 @@ fn refusals(rt: HostRuntime) -> Result<(), Fail> {
     same(asked(&rt, "sqs_replay -h")?, Ok(Wanted::Help))?;
     same(asked(&rt, "sqs_replay --version")?, Ok(Wanted::Version))?;
     same(default_configuration(alloc).is_ok(), true)?;
-    same(refusal_of(&rt, b"[limits]\nmax_lines = 4\n")?, None)?;
     same(exit_code(&Ok(())) == ExitCode::from(0), true)?;
-    for refusal in [
+    for fault in [
         asked(&rt, "sqs_replay config.toml more")?.err(),
         asked(&rt, "sqs_replay --verbose")?.err(),
         arguments_among(Err(io::Error::from(io::ErrorKind::InvalidData))).err(),
         arguments_among(Err(io::Error::from(io::ErrorKind::OutOfMemory))).err(),
-        refusal_of(&rt, b"[")?,
-        refusal_of(&rt, b"\xFF")?,
-        refusal_in(alloc, Err(io::Error::from(io::ErrorKind::NotFound))),
-        refusal_in(alloc, Err(io::Error::from(io::ErrorKind::OutOfMemory))),
-        Some(Refusal::Config(ConfigFault::UnknownKey)),
-        Some(Refusal::Config(ConfigFault::OutOfMemory)),
-        Some(Refusal::Replay(ReplayFault::Write)),
+        Some(StartFault::Config(ConfigFault::UnknownKey)),
+        Some(StartFault::Config(ConfigFault::OutOfMemory)),
+        Some(StartFault::Read),
     ] {
-        tell(&mut told, refusal.ok_or("a refusal")?)?;
+        tell(&mut told, Refusal::Start(fault.ok_or("a fault")?))?;
+    }
+    for fault in [
+        ReplayFault::Read,
+        ReplayFault::Write,
+        ReplayFault::OutOfMemory,
+    ] {
+        tell(&mut told, Refusal::Replay(fault))?;
     }
     same(told.as_str(), REFUSALS)?;
     for (fault, code, text) in [
