@@ -1,4 +1,4 @@
--- What a line of the input asks, and what a house answers it.
+-- What a line of the input asks, and what the registry answers it.
 use Rattle.std.specs.Prelude.{◌≡◌, ℕ, zero, suc, ⊤, nat_lt, if◌then◌else◌, List, ◌++◌, length, codes, decimal, Option, Some, None, option_and_then, Result, Ok, Err, MatchBool}
 use Rattle.std.specs.Option.{option_map_or}
 use Rattle.std.specs.Str.{bytes_eq}
