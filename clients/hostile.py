@@ -1,6 +1,6 @@
 #!/usr/bin/env python3
-"""Shows what the server does with heads that it does not take, with more requests than may wait for a queue, and where the system gives it no descriptor, no
-thread, no standard error or no more connections for statistics. Ends with one line 'N passed, M failed'.
+"""Shows what the server does with heads that it does not take and with HEAD, with more requests than may wait for a queue, and where the system gives it no
+descriptor, no thread, no standard error or no more connections for statistics. Ends with one line 'N passed, M failed'.
 
 usage: clients/hostile.py [PROGRAM]     by default the one that `make run` starts
 
@@ -446,6 +446,19 @@ def silence(it, program, room):
         it.equal("the health, with standard error closed", server.health(), HEALTHY)
 
 
+def without_text(it, program, room):
+    """An answer to HEAD has no text, and what is asked behind it on its connection is answered as ever."""
+    found = []
+    with Server(program, room) as server:
+        line = http.client.HTTPConnection("127.0.0.1", server.statistics, timeout=LIMIT)
+        for method, path in (("HEAD", "/health"), ("GET", "/health"), ("HEAD", "/metrics"), ("GET", "/health")):
+            line.request(method, path)
+            answer = line.getresponse()
+            found.append((answer.status, answer.read().decode()))
+        line.close()
+    it.equal("HEAD, and GET behind it", found, [(200, ""), HEALTHY, (405, ""), HEALTHY])
+
+
 def main(words):
     """Does all parts, and returns the status."""
     if len(words) > 1:
@@ -453,7 +466,7 @@ def main(words):
         return 2
     program = words[0] if words else subprocess.check_output([f"{ROOT}/tools/run", "--which", "sqs_server"], text=True).strip()
     it = Checks()
-    for part in (heads, behind, descriptors, reopened, threads, silence):
+    for part in (heads, behind, descriptors, reopened, threads, silence, without_text):
         with tempfile.TemporaryDirectory(prefix="hostile-") as room:
             part(it, os.path.abspath(program), room)
     print(f"{it.passed} passed, {it.failed} failed")

@@ -7,7 +7,7 @@ use Rattle.board.specs.Sheet.{Sheet}
 use Rattle.statistics_api.specs.declared.routes.Route.{Route}
 use Rattle.statistics_api.specs.declared.routes.Route.TheVariants.{Queues, Queue, Rows, Alarms}
 use Rattle.statistics_api.specs.Answer.{StatusText, sheet_named, of_queue, told, if_allowed, answer_of, not_found, method_not_allowed}
-use Rattle.statistics_api.specs.Response.{TypedText, as_json, page, health, metrics, if_get, is_constant, response_of}
+use Rattle.statistics_api.specs.Response.{TypedText, as_json, page, health, metrics, if_get, if_read, is_constant, response_of}
 use Rattle.statistics_api.specs.Asked.{TellsOfQueues}
 use Rattle.statistics_api.specs.Routes.{target_of}
 
@@ -38,7 +38,7 @@ by_answer-if false false true p h m n a b none same = absurd cc
 by_answer : (method path : List ℕ) (xs ys : List Sheet) (own : List ℕ) → bytes_eq path (codes "/metrics") ≡ false → answer_of method path xs ≡ answer_of method path ys
     → response_of method path xs own ≡ response_of method path ys own
 by_answer method path xs ys own other same =
-    by_answer-if (bytes_eq path (codes "/")) (bytes_eq path (codes "/health")) (bytes_eq path (codes "/metrics")) (if_get method page) (if_get method health)
+    by_answer-if (bytes_eq path (codes "/")) (bytes_eq path (codes "/health")) (bytes_eq path (codes "/metrics")) (if_read method page) (if_read method health)
     (if_get method (metrics xs own)) (if_get method (metrics ys own)) (answer_of method path xs) (answer_of method path ys) other same
 
 -- a path of a queue
@@ -76,7 +76,7 @@ both-if false false false p h m n a b first second = ap as_json second
 pub enough_refused : (method path : List ℕ) (sheets : List Sheet) (own : List ℕ) → bytes_eq method (codes "GET") ≡ false
     → response_of method path sheets own ≡ response_of method path [] own
 enough_refused method path sheets own other =
-    both-if (bytes_eq path (codes "/")) (bytes_eq path (codes "/health")) (bytes_eq path (codes "/metrics")) (if_get method page) (if_get method health)
+    both-if (bytes_eq path (codes "/")) (bytes_eq path (codes "/health")) (bytes_eq path (codes "/metrics")) (if_read method page) (if_read method health)
     (if_get method (metrics sheets own)) (if_get method (metrics [] own)) (answer_of method path sheets) (answer_of method path [])
     (get_refused method (metrics sheets own) other ∙ sym (get_refused method (metrics [] own) other)) (allowed_refused method (target_of path) sheets [] other)
 
@@ -148,7 +148,7 @@ of_named method path name route get other is =
     ∙ ap (λ (b : Bool). (cond b (told route name sheets) method_not_allowed).0) get ∙ told_of route name in (
       sheets,
       [],
-      status_by_answer (bytes_eq path (codes "/")) (bytes_eq path (codes "/health")) (bytes_eq path (codes "/metrics")) (if_get method page) (if_get method health)
+      status_by_answer (bytes_eq path (codes "/")) (bytes_eq path (codes "/health")) (bytes_eq path (codes "/metrics")) (if_read method page) (if_read method health)
           (if_get method (metrics sheets [])) (answer_of method path sheets) other_path other answered,
       other_path,
     )

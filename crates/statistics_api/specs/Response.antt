@@ -39,6 +39,10 @@ metrics sheets own = for_prometheus (metrics_text sheets own)
 abbrev pub if_get : List ℕ → TypedText → TypedText
 if_get method told = if bytes_eq method (codes "GET") then told else as_json method_not_allowed
 
+-- what is told to the methods `GET` and `HEAD`, and to no other; HTTP leaves out the text that answers `HEAD`
+abbrev pub if_read : List ℕ → TypedText → TypedText
+if_read method told = if bytes_eq method (codes "GET") || bytes_eq method (codes "HEAD") then told else as_json method_not_allowed
+
 -- the paths at which a constant is told
 abbrev pub is_constant : List ℕ → Bool
 is_constant path = bytes_eq path (codes "/") || bytes_eq path (codes "/health")
@@ -46,7 +50,7 @@ is_constant path = bytes_eq path (codes "/") || bytes_eq path (codes "/health")
 -- what a method and a path are answered by these queues and by what the server tells of itself
 abbrev pub response_of : List ℕ → List ℕ → List Sheet → List ℕ → TypedText
 response_of method path sheets own =
-    if bytes_eq path (codes "/") then if_get method page
-    else if bytes_eq path (codes "/health") then if_get method health
+    if bytes_eq path (codes "/") then if_read method page
+    else if bytes_eq path (codes "/health") then if_read method health
     else if bytes_eq path (codes "/metrics") then if_get method (metrics sheets own)
     else as_json (answer_of method path sheets)

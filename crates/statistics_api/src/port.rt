@@ -4,7 +4,7 @@ ghost use Rattle.std.specs.Prelude.{◌≡◌, ◌≢◌, ◌⊎◌, true, false
 ghost use Rattle.statistics_api.specs.Text.{is_written, shown};
 ghost use Rattle.statistics_api.specs.Answer.{out_of_memory};
 ghost use Rattle.statistics_api.specs.Metrics.{served_text};
-ghost use Rattle.statistics_api.specs.Response.{told_by, as_json, page, health, for_prometheus, metrics, if_get, is_constant, response_of};
+ghost use Rattle.statistics_api.specs.Response.{told_by, as_json, page, health, for_prometheus, metrics, if_get, if_read, is_constant, response_of};
 
 use crate::metrics::metrics_text;
 use crate::page::PAGE;
@@ -51,12 +51,12 @@ fn page() -> Response
     }
 }
 
-/// The page, where the method is `GET`.
+/// The page, where the method is `GET` or `HEAD`.
 fn page_to(method: &str) -> Response
-    ensures told { told_by result ≡ if_get method.now page }
+    ensures told { told_by result ≡ if_read method.now page }
     ensures constant { is_written result.text ≡ false }
 {
-    if method != "GET" {
+    if method != "GET" && method != "HEAD" {
         return as_json(method_not_allowed());
     }
     page()
@@ -70,12 +70,12 @@ fn health() -> Response
     as_json((200, AnswerText::Constant(r#"{"status":"ok"}"#)))
 }
 
-/// The same, where the method is `GET`.
+/// The same, where the method is `GET` or `HEAD`.
 fn health_to(method: &str) -> Response
-    ensures told { told_by result ≡ if_get method.now health }
+    ensures told { told_by result ≡ if_read method.now health }
     ensures constant { is_written result.text ≡ false }
 {
-    if method != "GET" {
+    if method != "GET" && method != "HEAD" {
         return as_json(method_not_allowed());
     }
     health()
@@ -125,10 +125,11 @@ fn metrics_to(alloc: Global, method: &str, sheets: &[Sheet], served: &ServerFact
     metrics(alloc, sheets, served)
 }
 
-/// What the port of the statistics answers (this project's own): to `GET /` the page, and to `GET /health` that the
-/// server is there, which take no memory; to `GET /metrics` the numbers of all queues and of the server for
+/// What the port of the statistics answers (this project's own): to `GET` or `HEAD` at `/` the page, and at `/health`
+/// that the server is there, which take no memory; to `GET /metrics` the numbers of all queues and of the server for
 /// Prometheus; to every other path what [`answer`] says. Another method on these three paths is 405. 500 may stand in
-/// the place of a 200 for lack of memory, but not of a constant's, and of no other answer.
+/// the place of a 200 for lack of memory, but not of a constant's, and of no other answer. HTTP leaves out the text of
+/// an answer to `HEAD`.
 pub fn respond(
     alloc: Global,
     method: &str,

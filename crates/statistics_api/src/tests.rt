@@ -323,9 +323,12 @@ process_start_time_seconds 1764218284
 
 /// What else the port answers.
 const PORT: &str = r#"GET / => 200 text/html; charset=utf-8 PAGE
+HEAD / => 200 text/html; charset=utf-8 PAGE
 POST / => 405 application/json {"message":"method not allowed"}
 GET /health => 200 application/json {"status":"ok"}
-HEAD /health => 405 application/json {"message":"method not allowed"}
+HEAD /health => 200 application/json {"status":"ok"}
+head /health => 405 application/json {"message":"method not allowed"}
+POST /health => 405 application/json {"message":"method not allowed"}
 GET /health/ => 404 application/json {"message":"not found"}
 HEAD /metrics => 405 application/json {"message":"method not allowed"}
 GET /metrics/ => 404 application/json {"message":"not found"}
