@@ -88,10 +88,7 @@ fn start(rt: &HostRuntime) -> Result<(), Ending<Refusal>> {
 
 /// Runs the replay on standard input and output.
 fn replay_input(rt: &HostRuntime, path: Option<String>) -> Result<(), Ending<Refusal>> {
-    let config = configuration(rt, path).map_err(|ending| Ending {
-        refusal: Refusal::Start(ending.refusal),
-        more: ending.more,
-    })?;
+    let config = configuration(rt, path).map_err(|ending| ending.of_program(Refusal::Start))?;
     let mut ticks = Ticks::new(rt);
     let mut inlet = Device::new(rt.reader());
     let mut outlet = Device::new(io::writer(rt));

@@ -201,10 +201,7 @@ where
     let path = arguments.path.as_str();
     let environment = environment(host)?;
     let config = configuration_in(host.alloc(), path, fs::read(host, path)).map_err(
-        |ending| Ending {
-            refusal: Refusal::Start(ending.refusal),
-            more: ending.more,
-        },
+        |ending| ending.of_program(Refusal::Start),
     )?;
     let ports = Ports {
         requests: open(rt, "requests", environment.port)?,

@@ -31,7 +31,7 @@ pub fn refusal_of_arguments(error: &io::Error) -> StartFault
 }
 
 /// Why a file could not be read: memory ran out, or the system refused.
-pub fn refusal_of_file(error: &io::Error) -> StartFault
+pub(crate) fn refusal_of_file(error: &io::Error) -> StartFault
     ensures { result ≡ refusal_of_file (error_kind error.now) }
 {
     match error.kind() {
@@ -64,6 +64,20 @@ pub struct Ending<R> {
     pub refusal: R,
     /// Such as which file could not be read, and why; `None` where there is no more to say, or no memory to say it.
     pub more: Option<String>,
+}
+
+impl Ending<StartFault> {
+    /// The same end of a program that has this refusal for such a fault.
+    pub fn of_program<R, F: FnOnce(StartFault) -> R>(self, refusal_of: F) -> Ending<R>
+        requires { F.IsAlwaysCallable refusal_of }
+        ensures refusal { F.post refusal_of self.refusal result.refusal }
+        ensures more { result.more ≡ self.more }
+    {
+        Ending {
+            refusal: refusal_of(self.refusal),
+            more: self.more,
+        }
+    }
 }
 
 impl<R> From<R> for Ending<R> {

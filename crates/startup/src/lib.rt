@@ -4,7 +4,7 @@
 //! - [`configuration_in`]: the configuration that the bytes of a file are, or why there is none.
 //! - [`StartFault`]: why a program does not start; [`start_message`]: what it tells of that; [`Ending`]: that and what more
 //!   there is to say.
-//! - [`refusal_of_arguments`] and [`refusal_of_file`]: what an error of the system comes to.
+//! - [`refusal_of_arguments`]: what an argument that is no text comes to.
 //!
 //! It reads and prints nothing: it is given what was read. The definitions stand in `specs/`.
 #![tactic(auto)]
@@ -16,5 +16,5 @@ mod option;
 mod tests;
 
 pub use configuration::configuration_in;
-pub use ending::{Ending, StartFault, refusal_of_arguments, refusal_of_file, start_message};
+pub use ending::{Ending, StartFault, refusal_of_arguments, start_message};
 pub use option::{ProgramOption, VERSION, option_of};
