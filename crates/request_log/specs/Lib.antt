@@ -1,3 +1,3 @@
 pub mod Actions
 pub mod Level
-pub mod private
+pub mod Line

@@ -1,10 +1,11 @@
 //! The line for a request.
 
-ghost use Rattle.std.specs.Prelude.{◌≡◌, IfErr, Ok, Some, None, option_map, string_bytes};
+ghost use Rattle.std.specs.Prelude.{◌≡◌, IfErr, IfOk, Ok, Some, None, option_map, string_bytes};
 ghost use Rattle.message.specs.Fault.{Meets};
 ghost use Rattle.message.specs.declared.fault.Fault.TheVariants.{OutOfMemory};
 ghost use Rattle.aws_json.specs.Steps.{result_map};
-ghost use Rattle.request_log.specs.private.Line.{queue_text, refusal_text, line_text};
+ghost use Rattle.request_log.specs.Actions.{name_at, place_of};
+ghost use Rattle.request_log.specs.Line.{queue_text, refusal_text, line_text};
 
 use crate::actions::{name_at, place_of};
 use crate::object::object_in;
@@ -160,6 +161,7 @@ pub fn line_for(
     body: &[u8],
     reply: &Reply<'_>,
 ) -> Result<String, Fault>
+    ensures line { IfOk result (λ line. (queue : _) × (refusal : _) × (string_bytes line ≡ line_text at (name_at (place_of action.now)) queue reply.now.status refusal)) }
     ensures short { IfErr result (λ fault. fault ≡ OutOfMemory) }
 {
     let queue = queue_in(alloc, body)?;

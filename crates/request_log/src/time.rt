@@ -3,7 +3,7 @@
 ghost use Rattle.std.specs.Prelude.{◌≡◌, Ok, string_bytes};
 ghost use Rattle.message.specs.Fault.{Meets};
 ghost use Rattle.aws_json.specs.Steps.{result_map};
-ghost use Rattle.request_log.specs.private.Line.{time_of_day, two_digits, three_digits};
+ghost use Rattle.request_log.specs.Line.{time_of_day, two_digits, three_digits};
 
 use journal::Moment;
 use message::Fault;
