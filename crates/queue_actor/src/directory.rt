@@ -7,7 +7,7 @@ ghost use Rattle.std.proofs.Props.{props};
 ghost use Rattle.std.specs.Str.{bytes_eq};
 ghost use Rattle.message.specs.Fault.{Meets};
 ghost use Rattle.message.specs.declared.fault.Fault.TheVariants.{OutOfMemory, QueueDoesNotExist, QueueNameExists, OverLimit};
-ghost use Rattle.redrive.specs.Catalog.{IsDirectory, add_answer, empty_directory, has_uid, names_listed, uid_of_name, with_registered, with_target, without_uid};
+ghost use Rattle.redrive.specs.Catalog.{IsDirectory, add_answer, empty_directory, has_uid, names_listed, source_names, uid_of_name, with_registered, with_target, without_uid};
 ghost use Rattle.message.specs.declared.fault.Fault.{Fault};
 ghost use Rattle.queue_core.specs.declared.command.Command.TheVariants as commands;
 ghost use Rattle.queue_core.specs.declared.reply.Reply.{Reply};
@@ -394,7 +394,9 @@ impl<P: Press> Directory<P> {
     }
 
     /// The uid of a name.
-    pub fn uid_of<R: Wait>(&self, rt: &R, name: &QueueName) -> Option<u64> {
+    pub fn uid_of<R: Wait>(&self, rt: &R, name: &QueueName) -> Option<u64>
+        ensures { (listed : _) × IsDirectory listed × (result ≡ uid_of_name listed name.now) }
+    {
         self.entries.lock(rt).catalog.find(name)
     }
 
@@ -483,6 +485,7 @@ impl<P: Press> Directory<P> {
     /// The names of the queues whose target the queue of a uid is, in the order of their bytes. They are put in
     /// order once the lock is let go.
     pub fn sources<R: Wait>(&self, rt: &R, alloc: Global, uid: u64) -> Result<Vec<QueueName>, Fault>
+        ensures ok { IfOk result (λ names. (listed : _) × (has_uid listed uid ≡ true) × (names.items ≡ source_names listed uid)) }
         ensures errors { IfErr result (λ fault. (fault ≡ QueueDoesNotExist) ⊎ (fault ≡ OutOfMemory)) }
     {
         let names = self.entries.lock(rt).catalog.names_to(alloc, uid)?;

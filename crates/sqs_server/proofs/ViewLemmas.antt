@@ -15,7 +15,7 @@ use Rattle.statistics_api.specs.Response.{TypedText, is_constant, response_of, t
 use Rattle.statistics_api.specs.declared.served.ServerFacts.{ServerFacts}
 use Rattle.statistics_api.specs.Text.{is_written}
 use Rattle.statistics_api.specs.declared.port.Response as answers
-use Rattle.sqs_server.specs.Viewed.{IsTold, IsJudged, Sends, no_memory}
+use Rattle.sqs_server.specs.Viewed.{ArePrinted, IsTold, IsJudged, Sends, no_memory}
 
 -- where queues are asked for, there may be no memory for them
 pub refused_of_queues : {X Q : Type 0} (given : Result X Fault) → IfErr given (λ fault. fault ≡ OutOfMemory) → Q → IfErr given (λ fault. (fault ≡ OutOfMemory) × Q)
@@ -26,23 +26,23 @@ pub one_is_asked_for : (asked : AskedSheets) (name : Bor (List ℕ)) → asked �
 one_is_asked_for asked name is none = absurd cc
 
 -- there was no memory for an answer, which is no constant, and not one that takes none
-unwritten : (method path : List ℕ) (sheets : List Sheet) (served : ServerFacts) (told : TypedText) → told ≡ no_memory
+unwritten : (method path : List ℕ) (sheets : List Sheet) (served : ServerFacts) (told : TypedText) → ArePrinted sheets → told ≡ no_memory
     → (is_constant path ≡ true → told ≡ response_of method path sheets (served_text served))
     → ((response_of method path sheets (served_text served)).0 ≢ 200 → told ≡ response_of method path sheets (served_text served))
     → (constant : Bool) → is_constant path ≡ constant → (good : Bool) → Decides good ((response_of method path sheets (served_text served)).0 ≡ 200) → IsTold method path told
-unwritten method path sheets served told is constants exact true at good known = inl (sheets, served, constants at)
-unwritten method path sheets served told is constants exact false at true known = inr (is, (sheets, served_text served, known.0 refl, at))
-unwritten method path sheets served told is constants exact false at false known =
-    inl (sheets, served, exact (λ e. (let e' : false ≡ true = known.1 e in absurd cc)))
+unwritten method path sheets served told printed is constants exact true at good known = inl (sheets, printed, served, constants at)
+unwritten method path sheets served told printed is constants exact false at true known = inr (is, (sheets, served_text served, known.0 refl, at))
+unwritten method path sheets served told printed is constants exact false at false known =
+    inl (sheets, printed, served, exact (λ e. (let e' : false ≡ true = known.1 e in absurd cc)))
 
 -- what is told of these sheets and by this server
-pub told_by_sheets : (method path : List ℕ) (sheets : List Sheet) (served : ServerFacts) (told : TypedText)
+pub told_by_sheets : (method path : List ℕ) (sheets : List Sheet) (served : ServerFacts) (told : TypedText) → ArePrinted sheets
     → (told ≡ response_of method path sheets (served_text served)) ⊎ (told ≡ no_memory)
     → (is_constant path ≡ true → told ≡ response_of method path sheets (served_text served))
     → ((response_of method path sheets (served_text served)).0 ≢ 200 → told ≡ response_of method path sheets (served_text served)) → IsTold method path told
-told_by_sheets method path sheets served told (inl e) constants exact = inl (sheets, served, e)
-told_by_sheets method path sheets served told (inr e) constants exact =
-    unwritten method path sheets served told e constants exact (is_constant path) refl
+told_by_sheets method path sheets served told printed (inl e) constants exact = inl (sheets, printed, served, e)
+told_by_sheets method path sheets served told printed (inr e) constants exact =
+    unwritten method path sheets served told printed e constants exact (is_constant path) refl
     ((response_of method path sheets (served_text served)).0 == 200) (unsigned_Decides (response_of method path sheets (served_text served)).0 200)
 
 -- a text that was written tells of queues

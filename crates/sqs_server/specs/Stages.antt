@@ -1,6 +1,6 @@
 -- What comes of each stage of a request: what a client is told, or what is asked of which queue next, at which moment and for which purpose. Of the
 -- directory no clause says which queues it has, so a queue that was found under a name is some queue that was opened under it.
-use Rattle.std.specs.Prelude.{◌≡◌, ◌≢◌, ◌⊎◌, ◌||◌, nat_lt, Bool, true, false, ⊤, ℕ, List, [], codes, Option, Some, None, Result, Ok, Err, IfOk, IfErr, IsSomeAnd, IsErrAnd, MatchBool, option_map}
+use Rattle.std.specs.Prelude.{◌≡◌, ◌≢◌, ◌⊎◌, ◌||◌, nat_lt, Bool, true, false, ⊤, ℕ, List, [], codes, Option, Some, None, Result, Ok, Err, IfOk, IfErr, IsSomeAnd, IsErrAnd, MatchBool, ok_or, option_map}
 use Rattle.std.specs.Arc.{arc_value}
 use Rattle.aws_json.specs.Steps.{result_map}
 use Rattle.aws_json.specs.declared.reply.ReplyShape.{ReplyShape}
@@ -37,7 +37,7 @@ use Rattle.queue_core.specs.declared.command.Command.{Command}
 use Rattle.queue_core.specs.declared.command.Command.TheVariants as commands
 use Rattle.queue_core.specs.declared.reply.Reply.{Reply}
 use Rattle.queue_core.specs.declared.reply.Reply.TheVariants as replies
-use Rattle.redrive.specs.Catalog.{NameDirectory, IsDirectory, names_listed}
+use Rattle.redrive.specs.Catalog.{NameDirectory, IsDirectory, names_listed, source_names, uid_of_name}
 use Rattle.std.specs.Str.{bytes_eq}
 use Rattle.tokio.specs.declared.net.stream.TcpStream.{TcpStream}
 use Rattle.sqs_server.specs.declared.arriving.Arriving.{Arriving}
@@ -91,6 +91,10 @@ abbrev pub is_for_attributes : Step → Bool
 is_for_attributes (steps.Ask command seconds (thens.Attributes queue names)) = true
 is_for_attributes _ = false
 
+-- what a client is sent whose queue is there: there is no memory for a pass of it, or too much mail waits for it
+abbrev pub IsHeldUp : Sent → Type 0
+IsHeldUp sent = (sent ≡ refused OutOfMemory) ⊎ (sent ≡ busy)
+
 -- what a client is sent for whose step no queue is found, or too busy a one: none is too busy to tell its attributes
 abbrev pub IsTurnedAwayWith : Step → Sent → Type 0
 IsTurnedAwayWith step sent = MatchBool (is_for_attributes step) (IsLost sent) (IsTurnedAway sent)
@@ -101,10 +105,11 @@ IsTurnedAwayWith step sent = MatchBool (is_for_attributes step) (IsLost sent) (I
 abbrev pub IsMissed : Fault → Type 0
 IsMissed fault = (fault ≡ QueueDoesNotExist) ⊎ (fault ≡ OutOfMemory)
 
--- the uid of the dead-letter queue that a queue of a name is to have, 0 for none: it has to be there, and to be another one
+-- the uid of the dead-letter queue that a queue of a name is to have, 0 for none: a directory has it, and it is another one
 abbrev pub IsTarget : List ℕ → Option (Option (List ℕ)) → Result ℕ Fault → Type 0
 IsTarget own (Some (Some name)) found =
-    MatchBool (bytes_eq name own) (found ≡ Err InvalidAttributeValue) (IfErr found (λ fault. fault ≡ InvalidAttributeValue))
+    MatchBool (bytes_eq name own) (found ≡ Err InvalidAttributeValue)
+    ((listed : NameDirectory) × IsDirectory listed × (found ≡ ok_or (uid_of_name listed name) InvalidAttributeValue))
 IsTarget own asked found = found ≡ Ok 0
 
 -- what became of a command that was answered
@@ -143,10 +148,18 @@ module _ {R : Type 0} where
 
   -- ---- queues
 
+  -- a queue at hand is the one that was opened under its uid
+  abbrev pub IsOpened : Queue R → Type 0
+  IsOpened queue = queue.pass.start.uid ≡ queue.uid
+
+  -- the same, and under a name
+  abbrev pub IsOpenedAs : List ℕ → Queue R → Type 0
+  IsOpenedAs name queue = (queue.pass.start.name ≡ name) × IsOpened queue
+
   -- a queue was found that was opened under a name, and this holds of it; or the client is sent something else, of which that holds
   abbrev pub Opens : List ℕ → (Queue R → Type 0) → (Sent → Type 0) → Next R → Type 0
   Opens name P Else next =
-      ((queue : Queue R) × (queue.pass.start.name ≡ name) × P queue)
+      ((queue : Queue R) × IsOpenedAs name queue × P queue)
       ⊎ ((sent : Sent) × Else sent × (next ≡ Ends (Ok sent)))
 
   -- the target that is asked for a queue of a name was found, and this holds of its uid; or the request is refused
@@ -266,7 +279,7 @@ module _ {R : Type 0} (port : ℕ) where
   -- the queue of a uid is looked for, and asked; where it is not to be had, that is what became of the command
   abbrev pub AsksFound : ℕ → ℕ → Command → ℕ → Then → Next R → Type 0
   AsksFound uid at command seconds then next =
-      ((queue : Queue R) × (queue.uid ≡ uid) × Asks queue at command seconds (purposes.Plan then) next)
+      ((queue : Queue R) × (queue.uid ≡ uid) × IsOpened queue × Asks queue at command seconds (purposes.Plan then) next)
       ⊎ ((fault : Fault) × IsMissed fault × Resumes uid None at (purposes.Plan then) (Err fault) next)
 
   -- a step of the queue of a uid, at a moment
@@ -287,10 +300,10 @@ module _ {R : Type 0} (port : ℕ) where
       ((listed : NameDirectory) × IsDirectory listed × Tells (Ok (shapes.QueueUrls (names_listed listed prefix))) next)
       ⊎ (next ≡ refuses OutOfMemory)
 
-  -- names are told of queues that have a queue for their dead letters
+  -- the names of the queues are told that have the queue of a uid for their dead letters in a directory
   abbrev pub TellsSources : Next R → Type 0
   TellsSources next =
-      ((names : List (List ℕ)) × Tells (Ok (shapes.SourceQueueUrls names)) next)
+      ((listed : NameDirectory) × (uid : ℕ) × Tells (Ok (shapes.SourceQueueUrls (source_names listed uid))) next)
       ⊎ ((fault : Fault) × IsMissed fault × (next ≡ refuses fault))
 
   -- what a task begins with at a moment
@@ -330,7 +343,7 @@ module _ {R : Type 0} (port : ℕ) where
   abbrev pub Creates : Creation → Result (Next R) Creation → Type 0
   Creates creation (Ok next) =
       Targets creation.name creation.wish (λ target.
-      Ordered creation target next ⊎ Opens creation.name (λ queue. Sends queue creation.at commands.Look 0 (purposes.Existing creation) next) IsTurnedAway next) next
+      Ordered creation target next ⊎ Opens creation.name (λ queue. Sends queue creation.at commands.Look 0 (purposes.Existing creation) next) IsHeldUp next) next
   Creates creation (Err back) = back ≡ creation
 
   -- ---- all stages

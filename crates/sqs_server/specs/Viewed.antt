@@ -1,5 +1,6 @@
 -- What is sent at the port of the statistics (this project's own).
 use Rattle.std.specs.Prelude.{◌≡◌, ◌⊎◌, ℕ, nat_lt, ◌&&◌, MatchBool, Option, option_map, List, [], codes, unwrap_or}
+use Rattle.std.specs.List.{All}
 use Rattle.std.specs.Str.{bytes_eq}
 use Rattle.board.specs.Sheet.{Sheet}
 use Rattle.http.specs.Request as request
@@ -14,6 +15,7 @@ use Rattle.http_header.specs.HeaderMap.{Entries, get, insert}
 use Rattle.http_uri.specs.Uri.{uri_path}
 use Rattle.hyper.specs.Incoming.{size_left}
 use Rattle.hyper.specs.declared.body.incoming.Incoming.{Incoming}
+use Rattle.queue_actor.specs.Reading.{IsSheetUnder}
 use Rattle.statistics_api.specs.Answer.{out_of_memory}
 use Rattle.statistics_api.specs.Asked.{TellsOfQueues}
 use Rattle.statistics_api.specs.Metrics.{served_text}
@@ -41,10 +43,16 @@ pub record Sends (told : TypedText) (response : Response (Full (List ℕ))) : Ty
   pub body : HoldsBody (body_of response) told.2
   pub headers : ((head_of response).headers ≡ typed_headers told.1) ⊎ ((head_of response).headers ≡ [])
 
--- A method and a path are answered by the statistics of some queues and by what a server tells of itself. There may be no memory for an answer that tells of queues, and for no other.
+-- each of these was printed of a queue that was opened under its name
+abbrev pub ArePrinted : List Sheet → Type 0
+ArePrinted sheets = All (λ sheet. IsSheetUnder sheet.name sheet) sheets
+
+-- A method and a path are answered by what was printed of some queues and by what a server tells of itself. There may be no memory for an answer that tells of
+-- queues, and for no other.
 abbrev pub IsTold : List ℕ → List ℕ → TypedText → Type 0
 IsTold method path told =
-    ((sheets : List Sheet) × (served : ServerFacts) × (told ≡ response_of method path sheets (served_text served))) ⊎ ((told ≡ no_memory) × TellsOfQueues method path)
+    ((sheets : List Sheet) × ArePrinted sheets × (served : ServerFacts) × (told ≡ response_of method path sheets (served_text served)))
+    ⊎ ((told ≡ no_memory) × TellsOfQueues method path)
 
 -- the same, where a body of this least size is not too large for the one method whose bodies are looked at
 abbrev pub IsJudgedBySize : List ℕ → List ℕ → ℕ → TypedText → Type 0

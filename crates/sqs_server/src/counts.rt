@@ -3,6 +3,7 @@
 ghost use Rattle.std.specs.Prelude.{◌≡◌, ◌<◌, IfErr};
 ghost use Rattle.message.specs.declared.fault.Fault.TheVariants.{OutOfMemory};
 ghost use Rattle.request_log.specs.Actions.{places};
+ghost use Rattle.sqs_server.specs.private.Counts.{status_place};
 
 use message::Fault;
 use request_log::{PLACES, name_at};
@@ -15,7 +16,8 @@ const STATUSES: [u16; 7] = [200, 400, 403, 405, 413, 503, 500];
 
 /// The place of a status among them.
 fn status_place(status: u16) -> usize
-    ensures { result < 7 }
+    ensures below { result < 7 }
+    ensures place { result ≡ status_place status }
 {
     match status {
         200 => 0,

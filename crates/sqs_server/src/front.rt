@@ -5,12 +5,12 @@ ghost use Rattle.futures.specs.Task.{IsArmed, Keeps};
 ghost use Rattle.aws_json.specs.declared.reply.ReplyShape.TheVariants as shapes;
 ghost use Rattle.message.specs.declared.fault.Fault.TheVariants.{OutOfMemory, QueueDoesNotExist};
 ghost use Rattle.queue_config.specs.Settings.{requested_target};
-ghost use Rattle.redrive.specs.Catalog.{NameDirectory, IsDirectory, names_listed};
+ghost use Rattle.redrive.specs.Catalog.{NameDirectory, IsDirectory, names_listed, source_names};
 ghost use Rattle.sqs_server.specs.declared.stage.Purpose.TheVariants as purposes;
 ghost use Rattle.sqs_server.specs.declared.stage.Stage.TheVariants as stages;
 ghost use Rattle.request_plan.specs.declared.task.Task.TheVariants as tasks;
 ghost use Rattle.sqs_server.specs.Responses.{Halts, OnHeld};
-ghost use Rattle.sqs_server.specs.Stages.{Asks, AsksFound, AsksNow, AwaitsAnswer, AwaitsQueue, Begun, Changed, Collects, Compared, Creates, GoesOn, IsJudged, IsLost, IsMissed, IsOrder, IsPostponed, IsRead, IsTarget, IsTurnedAway, IsTurnedAwayWith, Looked, Makes, Names, Ordered, Regains, Resumes, Returned, Seen, Sends, SentOfError, Tells, TellsSources, TellsUrl, TellsUrls, Turns};
+ghost use Rattle.sqs_server.specs.Stages.{Asks, AsksFound, AsksNow, AwaitsAnswer, AwaitsQueue, Begun, Changed, Collects, Compared, Creates, GoesOn, IsJudged, IsLost, IsMissed, IsOpenedAs, IsOrder, IsPostponed, IsRead, IsTarget, IsTurnedAway, IsTurnedAwayWith, Looked, Makes, Names, Ordered, Regains, Resumes, Returned, Seen, Sends, SentOfError, Tells, TellsSources, TellsUrl, TellsUrls, Turns};
 ghost use Rattle.sqs_server.specs.Stages as told;
 ghost use Rattle.request_plan.specs.Task.{Begins};
 ghost use Rattle.sqs_server.specs.Turns.{OnWaits};
@@ -199,7 +199,7 @@ impl<R: Wait + Clock + Drop> Front<R> {
 
     /// The queue of a name; or what the client is sent.
     fn find(&self, name: &QueueName) -> Result<Queue<R>, Sent>
-        ensures found { IfOk result (λ queue. queue.pass.start.name ≡ name.now) }
+        ensures found { IfOk result (IsOpenedAs name.now) }
         ensures errors { IfErr result IsLost }
     {
         match self.hall.queues.find(&self.rt, name) {
@@ -211,7 +211,7 @@ impl<R: Wait + Clock + Drop> Front<R> {
 
     /// The queue of a name, where more mail may wait for it; or what the client is sent.
     fn find_free(&self, name: &QueueName) -> Result<Queue<R>, Sent>
-        ensures found { IfOk result (λ queue. queue.pass.start.name ≡ name.now) }
+        ensures found { IfOk result (IsOpenedAs name.now) }
         ensures errors { IfErr result IsTurnedAway }
     {
         match self.find(name) {
@@ -223,7 +223,7 @@ impl<R: Wait + Clock + Drop> Front<R> {
 
     /// The queue of a name for what a request asks of it. However much mail waits, attributes are told.
     fn find_for(&self, name: &QueueName, step: &Step) -> Result<Queue<R>, Sent>
-        ensures found { IfOk result (λ queue. queue.pass.start.name ≡ name.now) }
+        ensures found { IfOk result (IsOpenedAs name.now) }
         ensures errors { IfErr result (IsTurnedAwayWith step.now) }
     {
         if is_for_attributes(step) {
@@ -275,7 +275,7 @@ impl<R: Wait + Clock + Drop> Front<R> {
 
     /// The URLs of the queues that have a queue for their dead letters.
     fn source_urls(&self, name: &QueueName) -> Result<ReplyShape, Fault>
-        ensures ok { IfOk result (λ shape. (names : _) × (shape ≡ shapes.SourceQueueUrls names)) }
+        ensures ok { IfOk result (λ shape. (listed : NameDirectory) × (uid : _) × (shape ≡ shapes.SourceQueueUrls (source_names listed uid))) }
         ensures errors { IfErr result IsMissed }
     {
         let Some(uid) = self.hall.queues.uid_of(&self.rt, name) else {

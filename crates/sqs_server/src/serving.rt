@@ -1,8 +1,8 @@
 //! What serves the connections of the ports: the runtimes, the queues and what accepts connections.
 
-ghost use Rattle.std.specs.Prelude.{◌≡◌, ◌⊎◌, IfErr, IfOk, IfSome};
+ghost use Rattle.std.specs.Prelude.{◌≡◌, ◌⊎◌, IfErr, IfOk, IfSome, min, option_map};
 ghost use Rattle.std.specs.IoError.{error_kind};
-ghost use Rattle.tokio.specs.Locks.{CanAcquire};
+ghost use Rattle.tokio.specs.Locks.{CanAcquire, owned_permits_wanted};
 ghost use Rattle.sqs_server.specs.Program.{refusal_of_system};
 ghost use Rattle.startup.specs.declared.ending.StartFault.TheVariants.{OutOfMemory};
 ghost use Rattle.sqs_server.specs.declared.arguments.Refusal.TheVariants.{Listen, Start};
@@ -115,7 +115,8 @@ where
 
 /// The future of so many closed connections.
 fn closings(closed: &Arc<Semaphore>, connections: Option<u64>) -> io::Result<Option<AcquireOwned>>
-    ensures { IfOk result (λ enough. IfSome enough CanAcquire) }
+    ensures fresh { IfOk result (λ enough. IfSome enough CanAcquire) }
+    ensures count { IfOk result (λ enough. option_map (λ e. owned_permits_wanted e) enough ≡ option_map (λ n. min n 4294967295) connections) }
 {
     let Some(count) = connections else {
         return Ok(None);

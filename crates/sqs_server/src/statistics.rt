@@ -9,7 +9,7 @@ ghost use Rattle.statistics_api.specs.Asked.{TellsOfQueues};
 ghost use Rattle.statistics_api.specs.Response.{told_by};
 ghost use Rattle.statistics_api.specs.Text.{bytes_of, is_written};
 ghost use Rattle.sqs_server.specs.Sent.{HoldsBody};
-ghost use Rattle.sqs_server.specs.Viewed.{IsAnswered, IsJudged, IsJudgedBySize, IsTold, Sends, body_too_large, foreign_host, host_in, no_memory, typed_headers};
+ghost use Rattle.sqs_server.specs.Viewed.{ArePrinted, IsAnswered, IsJudged, IsJudgedBySize, IsTold, Sends, body_too_large, foreign_host, host_in, no_memory, typed_headers};
 
 use crate::head::{BODY_LIMIT, is_foreign};
 use crate::queues::Queues;
@@ -146,7 +146,8 @@ fn response_of(alloc: Global, told: Told) -> Response<Full<Bytes>>
 impl<R: Wait + Drop> StatisticsFront<R> {
     /// The statistics of the queue of a name, where there is one. `OutOfMemory` is the only refusal.
     fn sheets_named(&self, name: &str) -> Result<Vec<Sheet>, Fault>
-        ensures { IfErr result (λ fault. fault ≡ OutOfMemory) }
+        ensures printed { IfOk result (λ sheets. ArePrinted sheets.items) }
+        ensures errors { IfErr result (λ fault. fault ≡ OutOfMemory) }
     {
         let mut sheets = Vec::new(self.alloc);
         if let Ok(name) = QueueName::read(name) {
@@ -160,7 +161,8 @@ impl<R: Wait + Drop> StatisticsFront<R> {
     /// The statistics that the answer to a request takes. `OutOfMemory` is the only refusal, and only where an
     /// answer can tell of queues.
     fn sheets(&self, method: &str, path: &str) -> Result<Vec<Sheet>, Fault>
-        ensures { IfErr result (λ fault. (fault ≡ OutOfMemory) × TellsOfQueues method.now path.now) }
+        ensures printed { IfOk result (λ sheets. ArePrinted sheets.items) }
+        ensures errors { IfErr result (λ fault. (fault ≡ OutOfMemory) × TellsOfQueues method.now path.now) }
     {
         match asked_for(method, path) {
             AskedSheets::Nothing => Ok(Vec::new(self.alloc)),

@@ -80,6 +80,49 @@ A gets 200 {"Messages":[{"Body":"b","MD5OfBody":"92eb5ffee6ae2fec3ad71c777531578
 A asks SendMessageBatch {"QueueUrl":"nosuch","Entries":[{"Id":"x","MessageBody":"a"},{"Id":"y","MessageBody":"b"},{"Id":"z","MessageBody":"c"}]}
 A gets 400 {"__type":"com.amazonaws.sqs#QueueDoesNotExist","message":"The specified queue does not exist."}
 
+each setting of a configured queue, and its alarms in the order of the file
+[[queue]]
+name = "jobs"
+delay_seconds = 600
+maximum_message_size = 2048
+retention_seconds = 6000
+visibility_timeout = 7
+wait_seconds = 2
+[[alarm]]
+queue = "jobs"
+name = "deep"
+metric = "ApproximateNumberOfMessagesVisible"
+operator = "GreaterThanThreshold"
+threshold = 0
+minutes = 3
+[[alarm]]
+queue = "jobs"
+name = "busy"
+metric = "NumberOfMessagesSent"
+operator = "GreaterThanThreshold"
+threshold = 0
+minutes = 3
+--
+A asks GetQueueAttributes {"QueueUrl":"jobs","AttributeNames":["DelaySeconds","MaximumMessageSize","MessageRetentionPeriod","ReceiveMessageWaitTimeSeconds","VisibilityTimeout"]}
+A gets 200 {"Attributes":{"DelaySeconds":"600","MaximumMessageSize":"2048","MessageRetentionPeriod":"6000","ReceiveMessageWaitTimeSeconds":"2","VisibilityTimeout":"7"}}
+a views /statistics/queues/jobs/alarms
+a gets 200 application/json {"alarms":[{"name":"deep","state":"INSUFFICIENT_DATA"},{"name":"busy","state":"INSUFFICIENT_DATA"}]}
+
+queues that share a target, in the order of their names, and one that is asked for again with its policy, and with another
+[[queue]]
+name = "dead"
+--
+A asks CreateQueue {"QueueName":"late","Attributes":{"RedrivePolicy":"{\"deadLetterTargetArn\":\"arn:aws:sqs:elasticmq:000000000000:dead\",\"maxReceiveCount\":3}"}}
+A gets 200 {"QueueUrl":"http://localhost:PORT/000000000000/late"}
+A asks CreateQueue {"QueueName":"early","Attributes":{"RedrivePolicy":"{\"deadLetterTargetArn\":\"arn:aws:sqs:elasticmq:000000000000:dead\",\"maxReceiveCount\":3}"}}
+A gets 200 {"QueueUrl":"http://localhost:PORT/000000000000/early"}
+A asks ListDeadLetterSourceQueues {"QueueUrl":"dead"}
+A gets 200 {"queueUrls":["http://localhost:PORT/000000000000/early","http://localhost:PORT/000000000000/late"]}
+A asks CreateQueue {"QueueName":"late","Attributes":{"RedrivePolicy":"{\"deadLetterTargetArn\":\"arn:aws:sqs:elasticmq:000000000000:dead\",\"maxReceiveCount\":3}"}}
+A gets 200 {"QueueUrl":"http://localhost:PORT/000000000000/late"}
+A asks CreateQueue {"QueueName":"late","Attributes":{"RedrivePolicy":"{\"deadLetterTargetArn\":\"arn:aws:sqs:elasticmq:000000000000:early\",\"maxReceiveCount\":3}"}}
+A begins 400 {"__type":"com.amazonaws.sqs#QueueNameExists",
+
 settings that a creation gives, and that are read, compared and changed
 --
 A asks CreateQueue {"QueueName":"jobs","Attributes":{"VisibilityTimeout":"7","DelaySeconds":"600","MessageRetentionPeriod":"6000","ReceiveMessageWaitTimeSeconds":"2","MaximumMessageSize":"2048"}}
