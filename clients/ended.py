@@ -26,6 +26,8 @@ GONE = '{"__type":"com.amazonaws.sqs#ActorGone","message":"The queue has stopped
 SENDERS = 8
 # How often ActorGone is to come, how many rounds there are at the least, and after how many seconds there is none more.
 OFTEN, ROUNDS, LONG = 50, 50, 60
+# In how many seconds all are answered. A thread whose queue is deleted waits 10 s for those who still have its desk: nobody is to wait for that.
+SOON = 8
 DONE = "done"
 
 
@@ -76,8 +78,8 @@ def received(line):
 
 
 def beside(lines, deleter, waiter, creator):
-    """Has requests go beside a deletion. Returns what the senders, the deleter, the waiter and the creator were answered."""
-    before = random.randrange(len(lines))
+    """Has requests go beside a deletion. Returns what the senders, the deleter, the waiter and the creator were answered, and how long that took."""
+    before, begun = random.randrange(len(lines)), time.monotonic()
     waiter.ask("ReceiveMessage", QueueUrl="jobs", WaitTimeSeconds=20, VisibilityTimeout=0)
     for it in lines[:before]:
         it.ask("SendMessage", QueueUrl="jobs", MessageBody="a")
@@ -89,16 +91,17 @@ def beside(lines, deleter, waiter, creator):
     # where the receive waits at the queue that was made anew, this ends its wait
     deleter.call("CreateQueue", QueueName="jobs")
     last = deleter.call("SendMessage", QueueUrl="jobs", MessageBody="a")
-    return [*sent, last], deleted, waiter.reply(), made
+    return [*sent, last], deleted, waiter.reply(), made, time.monotonic() - begun
 
 
 def round_of(it, lines, others, faults):
     """Has one round, whose answers are counted."""
     deleter = others[0]
     begun = deleter.call("CreateQueue", QueueName="jobs")
-    sent, deleted, waited, made = beside(lines, *others)
+    sent, deleted, waited, made, took = beside(lines, *others)
     faults.update([*map(told, sent), told(waited)])
     it.equal("the creations, the deletion, and a send to the queue that is made anew", [*map(told, (begun, deleted, made, sent[-1]))], [DONE] * 4)
+    it.equal(f"whether all are answered within {SOON} s", took < SOON, True)
     if identity(sent[-1]):
         own = [one for one in map(identity, sent) if one and uid(one) == uid(identity(sent[-1]))]
         it.equal("what the queue has that was made anew", received(deleter), sorted(own))

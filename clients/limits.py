@@ -210,8 +210,8 @@ def taken_of(checks, server, which, many):
     left = [it for it in many if it not in gone]
     text = '{"__type":"com.amazonaws.sqs#ServiceUnavailable","message":"Too much of other requests is on its way."}'
     checks.see(f"{which}: some are too many, and told so", told == {(503, text)}, told)
-    is_right = LARGE_AT_ONCE <= len(left) <= LARGE_AT_ONCE * server.threads
-    checks.see(f"{which}: as many are not as one thread takes at the least, and all threads at the most", is_right, len(left))
+    is_right = LARGE_AT_ONCE + (server.threads > 1) <= len(left) <= LARGE_AT_ONCE * server.threads
+    checks.see(f"{which}: more are not than one thread takes, where there are several, and as many as all take at the most", is_right, len(left))
     answers = {(ask(server.connect(), "GetQueueUrl", QueueName="jobs") or ["none"])[0] for _ in range(40)}
     checks.see(f"{which}: small requests are answered beside them", answers == {200}, answers)
     return left

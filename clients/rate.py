@@ -234,14 +234,15 @@ def measure(bench, options, found):
 
 def notes(found):
     """Returns what is to be known of the runs beside the table."""
-    lines = []
+    lines, served = [], {}
+    if any(it["busy"] > BUSY for pairs in found.values() for pair in pairs for it in pair):
+        lines.append(f"- Where wrk was busy for more than {100 * BUSY:.0f} % of a run's time (the last two columns), what is told may be wrk's own rate.")
     for (name, connections), pairs in found.items():
-        busiest = max(it["busy"] for pair in pairs for it in pair)
-        if busiest > BUSY:
-            lines.append(f"- wrk was busy for {100 * busiest:.0f} % of a run's time: {name}, connections: {connections}. What is told may be wrk's own rate.")
         if any(name == it.name and it.beside == "served" for line in KINDS for it in line):
             parts = sorted(ours["received"] for ours, _ in pairs)
-            lines.append(f"- {name}, connections: {connections}: at the end of a run {100 * parts[len(parts) // 2]:.0f} % of what was sent had been received.")
+            served.setdefault(name, []).append(f"{100 * parts[len(parts) // 2]:.0f} % over {connections}")
+    for name, parts in served.items():
+        lines.append(f"- {name}: at the end of a run so much of what was sent had been received: {', '.join(parts)}.")
     if not faketime():
         lines.append("- Without faketime no queue has 180 rows, so sends to one were not timed.")
     return lines
