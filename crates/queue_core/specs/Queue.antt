@@ -1,4 +1,4 @@
--- The queue of one thread: what each command adds to the journal, and what answers it.
+-- One queue: what each command adds to the journal, and what answers it.
 use Rattle.std.specs.Prelude.{◌≡◌, ℕ, ◌+◌, ◌-◌, ◌*◌, ◌==◌, ◌&&◌, ◌||◌, not, min, map, filter, count_by, slice_get, option_map, option_and_then, nat_lt, nat_le, max, Bool, true, false, if◌then◌else◌, List, [], ◌∷◌, ◌++◌, Option, Some, None, is_some, unwrap_or, Result, Ok, Err}
 use Rattle.std.specs.List.{filter_map}
 use Rattle.std.specs.Option.{option_map_or}

@@ -21,8 +21,8 @@ AreAnswered w [] (answer ∷ answers) = ⊥
 AreAnswered w (step ∷ steps) [] = ⊥
 AreAnswered w (step ∷ steps) (answer ∷ answers) = IsRegistry w × (IsAnswerOf w step answer × AreAnswered (house_after w step answer) steps answers)
 
--- what answers the steps that are left in the house as it is now answers, behind the answers so far, all steps; and what they may cost, and what was spent, all
--- steps may cost
+-- answers so far, in front of answers to the steps that are left, in the house as it is now, are answers to all steps; and what was spent, with what the
+-- steps that are left may cost, is at most what all steps may cost
 pub record Continues (begun : ℕ) (first : House) (steps : List HouseStep) (answers : List HouseAnswer) (spent : ℕ) (now : House) (left : List HouseStep) : Type 0 where
   pub answered : (rest : List HouseAnswer) → AreAnswered now left rest → AreAnswered first steps (answers ++ rest)
   pub state : (rest : List HouseAnswer) → house_after_all first steps (answers ++ rest) ≡ house_after_all now left rest

@@ -65,7 +65,7 @@ pub record WasTransferred (all : AllQueues) (q : QueueHistory) (t : Transfer) (l
   pub transferred : status_numbered q.lines t.number ≡ Some Transferred
   pub accepted : was_accepted all t.target q.uid t.number ≡ true
 
--- the target was gone, and the message came back
+-- the entry that ends the transfer says that the target is gone, and the message came back
 pub record CameBack (lines : List (Entry ContentText)) (t : Transfer) (later : List (Entry ContentText)) : Type 0 where
   pub entry : Entry ContentText
   pub ended : end_of t later ≡ Some entry
