@@ -19,6 +19,7 @@ use Rattle.queue_actor.specs.contracts.directory.Directory.TheInside as inside
 use Rattle.queue_actor.specs.contracts.readers.Shown as shown
 use Rattle.queue_actor.specs.contracts.readers.Readers as readers
 use Rattle.queue_actor.proofs.Sending.{envelope_sends}
+use Rattle.queue_actor.proofs.duties.Duties.TheSendSync as duties
 
 catalog_send : IsSend catalog.the_row
 catalog_send = search (sendable, crosses) depth 40 fits 100000
@@ -40,12 +41,12 @@ module _ (P T : RattleType) (g : Ghosts P.Denot T.Denot) (sent : IsSend P) where
   pass_own_send = pass_sends P T g sent
 
   pub actor_sends : IsSend (actor.the_row P T g)
-  actor_sends = search (desk_arc_send, desk_arc_sync, pass_own_send, sendable, crosses) depth 40 fits 100000
+  actor_sends = search (desk_arc_send, desk_arc_sync, pass_own_send, duties.the_send, duties.the_sync, sendable, crosses) depth 40 fits 100000
 
   pub served_sends : IsSend (served.the_row P T g)
   served_sends =
       let letter = envelope_sends P T g sent in
-      search (desk_arc_send, desk_arc_sync, pass_own_send, sendable, crosses) depth 40 fits 100000
+      search (desk_arc_send, desk_arc_sync, pass_own_send, duties.the_send, duties.the_sync, sendable, crosses) depth 40 fits 100000
 
   entries_sends : IsSend (entries.the_row P T g)
   entries_sends = search (served_sends, catalog_send, sendable, crosses) depth 40 fits 100000

@@ -65,10 +65,10 @@ Nothing = (unit-field).row
 state_send : IsSend (state.the_row Nothing)
 state_send = search (waker_send, sendable, crosses) depth 40 fits 100000
 
-inner_send : IsSend (inner.the_row Nothing)
+pub inner_send : IsSend (inner.the_row Nothing)
 inner_send = search (state_send, source.the_send, sendable, crosses) depth 40 fits 100000
 
-inner_sync : IsSync (inner.the_row Nothing)
+pub inner_sync : IsSync (inner.the_row Nothing)
 inner_sync = search (state_send, source.the_sync, sendable, crosses) depth 40 fits 100000
 
 module _ (P T : RattleType) (g : Ghosts P.Denot T.Denot) (sent : IsSend P) where

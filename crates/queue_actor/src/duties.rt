@@ -1,7 +1,8 @@
 //! What an actor has to do behind a call that was made without it.
 
 use queue_core::Command;
-use std::sync::atomic::{AtomicBool, AtomicU64, Ordering};
+use std::sync::OnceLock;
+use std::sync::atomic::{AtomicU64, Ordering};
 
 /// What an actor has to do behind a call that was made without it: polls wait, or a dead letter may have come to be
 /// there. The actor, the directory and those who ask the queue's desk share it. Of what threads store no clause
@@ -12,8 +13,9 @@ pub struct Duties {
     polls: AtomicU64,
     /// The uid of the queue that dead letters go to, 0 for none.
     target: AtomicU64,
-    /// Whether dead letters ever had a target: some may still wait to be moved, also where they have none now.
-    moves: AtomicBool,
+    /// Whether dead letters ever had a target: some may still wait to be moved, also where they have none now. By its
+    /// type it stays so.
+    moves: OnceLock<()>,
 }
 
 impl Duties {
@@ -22,7 +24,7 @@ impl Duties {
         Duties {
             polls: AtomicU64::new(0),
             target: AtomicU64::new(0),
-            moves: AtomicBool::new(false),
+            moves: OnceLock::new(),
         }
     }
 
@@ -35,7 +37,7 @@ impl Duties {
     /// Stores the target of dead letters, 0 for none.
     pub(crate) fn set_target(&self, target: u64) {
         if target != 0 {
-            self.moves.store(true, Ordering::SeqCst);
+            let _ = self.moves.try_set(());
         }
         self.target.store(target, Ordering::SeqCst);
     }
@@ -49,6 +51,6 @@ impl Duties {
     /// Whether there is nothing for the actor to do as time goes by: no poll waits, and dead letters never had a
     /// target.
     pub(crate) fn are_none(&self) -> bool {
-        self.polls.load(Ordering::SeqCst) == 0 && !self.moves.load(Ordering::SeqCst)
+        self.polls.load(Ordering::SeqCst) == 0 && self.moves.get().is_none()
     }
 }

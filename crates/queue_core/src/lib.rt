@@ -18,9 +18,9 @@
 //!
 //! A command that is refused memory moves the clock and nothing else. One that adds no entry and makes no
 //! checkpoint needs none. `FirstParcel` is the exception to both: it leaves the clock as it is, and may need
-//! memory for the parcel that it hands over. [`QueueState::run`] performs a list of commands: its answers are those of the
-//! definitions one after another. What follows from the definitions, as that no message is offered
-//! before its due time, stands in the laws, which are functions without a body.
+//! memory for the parcel that it hands over. [`QueueState::run`] performs a list of commands: its answers are
+//! those of the definitions one after another. What follows from the definitions, as that no message is
+//! offered before its due time, stands in the laws, which are functions without a body.
 #![tactic(auto)]
 
 mod accepted;

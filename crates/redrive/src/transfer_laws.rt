@@ -42,8 +42,9 @@ pub fn transfers_are_accepted_once()
 {}
 
 /// In each queue that is there, each message that left for a dead-letter queue waits for it still, or
-/// was transferred, and that queue, which is there or was deleted, has accepted it, or came back. A message that left more than once has such a fate each time; the first entry
-/// behind the departure that ends the transfer tells which.
+/// was transferred, and that queue, which is there or was deleted, has accepted it, or came back. A message
+/// that left more than once has such a fate each time; the first entry behind the departure that ends the
+/// transfer tells which.
 pub fn each_departure_has_its_fate()
     ensures { (config : Configuration) (at : ℕ) (steps : List HistoryStep) (answers : List HouseAnswer)
         → AreHistoryAnswers (first_history config at) steps answers
