@@ -3,8 +3,8 @@
 # them into PREFIX/bin. `make test` is what each commit must pass: the edits can be applied, each crate has a verdict that holds, and all tests pass. It takes
 # minutes where the verdicts hold. `make prove` proves everything from nothing, and writes every verdict anew. `make verdicts` says which hold. `make clients`
 # tours the server, with boto3 and the AWS command line; `make polls` shows what becomes of receives that wait, of dead letters and of clients that make faults,
-# and behind that what 1,000 quiet queues take, as `make rest` does alone: both fail beyond their limits. `make limits` shows what becomes of large bodies, of
-# connections that stand still and of want of memory. `make clock` shows what a wall clock does that is put back; `make rate` times the proved one beside nginx,
+# and behind that what 1,000 quiet queues take, as `make rest` does alone: both fail beyond their limits. `make limits` shows what becomes of large bodies, too
+# many queues, connections that stand still and want of memory. `make clock` shows what a wall clock does that is put back; `make rate` times the proved one beside nginx,
 # `make many` with 1,000 queues, and `make watched` while its statistics are read; `make bench` times the proved replay; `make checkpoints` makes 10,000,000
 # cycles, tells what its checkpoints take of time and memory, and fails where a cycle costs more than 1.2 times what it costs at first. `make wrong-bodies`
 # tries the edits that the gate leaves out; with CRATE=name those of one crate. `make test-edits` tries those that tests alone refuse, without a proof. `make

@@ -1,5 +1,5 @@
 #!/usr/bin/env python3
-"""Shows what becomes of large bodies that come together, of connections that stand still, and of want of memory, by a server of its own.
+"""Shows what becomes of large bodies that come together, of too many queues, of connections that stand still, and of want of memory, by servers of its own.
 
 usage: clients/limits.py [--quick] [PROGRAM]
 
@@ -13,6 +13,7 @@ prints names a check, and the last says 'N passed, M failed'; the status is 1 wh
     taken, and answered.
   - A large body counts until its request is answered. Receives wait whose bodies have 8 MB, or come in chunks, each sent when the one before has come: as many
     are taken as may count at once, and others are turned away. Once those are answered, large bodies are taken again over the same connections.
+  - As many queues are created as there may be. One more is refused, leaves no name, and is created once another one was deleted.
   - A body of which no byte comes any more, and a reply of which none is taken, end their connection between 30 and 45 seconds later. A receive that
     waits for 20 seconds does not: it is answered, and so is what is asked next over its connection.
   - The proved server may have no more than some bytes of addresses beyond those of its start, fewer than a thread takes for large bodies. A request that finds
@@ -41,6 +42,10 @@ LARGEST, THREADS, LARGE_AT_ONCE = 8_388_608, 16, 4
 MEMORY = '{"__type":"com.amazonaws.sqs#OutOfMemory","message":"Out of memory."}'
 SHORT = "sqs_server: out of memory"
 WANT = r"\d\d:\d\d:\d\d\.\d{3} \S+ \S+ 500 OutOfMemory\b.*|sqs_server: (accept|connection|requests): .+"
+# How many queues there may be, what one more is answered, and what is answered then to who asks for it: docs/PROFILE.md, sections 7 and 20.
+QUEUES = 1000
+OVER = (400, '{"__type":"com.amazonaws.sqs#OverLimit","message":"A limit is reached."}')
+ABSENT = (400, '{"__type":"com.amazonaws.sqs#QueueDoesNotExist","message":"The specified queue does not exist."}')
 # How often large bodies come together, and how long no reply has to come until none is waited for, in seconds: where as many wait as may be taken at the most,
 # and where more do.
 ROUNDS, QUIET, LATE = 4, 1, 30
@@ -255,6 +260,23 @@ def waits(checks, program):
     checks.see("the server goes on", server.end())
 
 
+def queues(checks, program):
+    """As many queues as there may be, of which the server has one at its start."""
+    server = Server(program)
+    it = server.connect()
+    statuses = {(ask(it, "CreateQueue", QueueName=f"q{place}") or ["none"])[0] for place in range(1, QUEUES)}
+    checks.see("as many queues are created as there may be", statuses == {200}, statuses)
+    found = ask(it, "CreateQueue", QueueName="more")
+    checks.see("one more is refused", found == OVER, found)
+    found = ask(it, "GetQueueUrl", QueueName="more")
+    checks.see("it leaves no name", found == ABSENT, found)
+    found = [(ask(it, "CreateQueue", QueueName="q1") or ["none"])[0], (ask(it, "DeleteQueue", QueueUrl="q1") or ["none"])[0]]
+    checks.see("one that is there is found, and can be deleted", found == [200, 200], found)
+    found = [(ask(it, "CreateQueue", QueueName="more") or ["none"])[0], ask(it, "CreateQueue", QueueName="q1")]
+    checks.see("then one more is created, and no other", found == [200, OVER], found)
+    checks.see("the server goes on", server.end())
+
+
 def stillness(checks, program):
     """Connections at which nothing happens."""
     server = Server(program)
@@ -341,7 +363,7 @@ def main():
         raise SystemExit("usage: clients/limits.py [--quick] [PROGRAM]")
     program = words[0] if words else subprocess.run([f"{ROOT}/tools/run", "--which", "sqs_server"], stdout=subprocess.PIPE, text=True, check=True).stdout.strip()
     checks = Checks()
-    for part in (bodies, waits, shortage) if is_quick else (bodies, waits, shortage, stillness):
+    for part in (bodies, waits, queues, shortage) if is_quick else (bodies, waits, queues, shortage, stillness):
         try:
             part(checks, program)
         except OSError as error:

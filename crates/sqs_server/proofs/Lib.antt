@@ -1,4 +1,6 @@
 pub mod BodyLemmas
+pub mod CountLemmas
+pub mod OrderLemmas
 pub mod ServerSending
 pub mod Refusals
 pub mod StageLemmas

@@ -1,14 +1,13 @@
 -- What becomes of a refusal.
 use Rattle.std.proofs.Common.{◌≡◌, ◌≢◌, ℕ, Err, refl}
-use Rattle.std.specs.Prelude.{⊤}
 use Rattle.message.specs.declared.fault.Fault.{Fault}
 use Rattle.message.specs.declared.fault.Fault.TheVariants.{QueueNameExists, ActorGone}
 use Rattle.sqs_server.specs.declared.stage.Creation.{Creation}
 use Rattle.sqs_server.specs.declared.stage.Next.{Next}
-use Rattle.sqs_server.specs.Stages.{Looked, Makes, refuses}
+use Rattle.sqs_server.specs.Stages.{Looked, Unmade, refuses}
 
 -- an order of a queue that was refused, though none of its name is there
-pub made_refused : {R : Type 0} (port : ℕ) (creation : Creation) (fault : Fault) (next : Next R) → fault ≢ QueueNameExists → next ≡ refuses fault → Makes port {T = ⊤} creation (Err fault) next
+pub made_refused : {R : Type 0} (port : ℕ) (creation : Creation) (fault : Fault) (next : Next R) → fault ≢ QueueNameExists → next ≡ refuses fault → Unmade port creation fault next
 made_refused port creation QueueNameExists next other is = absurd (other refl)
 made_refused port creation fault next other is = is
 

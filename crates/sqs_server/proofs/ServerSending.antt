@@ -5,6 +5,7 @@ use denote.Struct.Declared as parts
 use denote.Struct.Field.{unit-field}
 use Rattle.std.proofs.Crossing.{crosses}
 use Rattle.std.proofs.alloc.Global.TheSendSync as global
+use Rattle.std.proofs.sync.OnceLock.TheSendSync as once
 use Rattle.crossbeam_channel.proofs.channel.Receiver.TheSendSync as channel
 use Rattle.board.proofs.Sending.{publisher_send}
 use Rattle.board.specs.contracts.publisher.Publisher as publisher
@@ -15,10 +16,12 @@ use Rattle.desk.specs.contracts.desk.Desk as desk
 use Rattle.desk.specs.contracts.pass.Pass as pass
 use Rattle.desk.specs.declared.printing.Press.{Ghosts}
 use Rattle.futures.specs.contracts.future.made.ready.Ready as ready
-use Rattle.queue_actor.proofs.Sending.{future_sends, envelope_sends}
+use Rattle.counted_slot.proofs.Counted.TheSendSync as counted
+use Rattle.queue_actor.proofs.Sending.{future_sends, envelope_sends, inner_send, inner_sync}
 use Rattle.queue_actor.proofs.ActorSending.{directory_sends, directory_syncs}
 use Rattle.queue_actor.specs.contracts.actor.Actor as actor
 use Rattle.queue_actor.specs.contracts.directory.Directory as directory
+use Rattle.queue_actor.specs.contracts.duties.Duties as duties
 use Rattle.queue_actor.specs.contracts.future.AskFuture as future
 use Rattle.queue_actor.specs.contracts.envelope.Envelope as envelope
 use Rattle.bytes.proofs.shared.Bytes.TheSendSync as bytes
@@ -32,17 +35,38 @@ use Rattle.sqs_server.proofs.arriving.Arriving.TheSendSync as arriving
 use Rattle.sqs_server.proofs.attendance.Attendance.TheSendSync as attendance
 use Rattle.sqs_server.proofs.bodies.Bodies.TheSendSync as bodies
 use Rattle.sqs_server.proofs.notices.Notices.TheSendSync as notices
-use Rattle.sqs_server.proofs.queues.Made.TheSendSync as made
-use Rattle.sqs_server.proofs.queues.Order.TheSendSync as order
 use Rattle.sqs_server.proofs.register.Register.TheSendSync as register
 use Rattle.sqs_server.proofs.serving.Port.TheSendSync as port
 use Rattle.sqs_server.specs.contracts.front.Front as front
 use Rattle.sqs_server.specs.contracts.front.Hall as hall
+use Rattle.sqs_server.specs.contracts.order.Made as made
+use Rattle.sqs_server.specs.contracts.order.MadeSlot as slot
+use Rattle.sqs_server.specs.contracts.order.Order as order
 use Rattle.sqs_server.specs.contracts.queues.Maker as maker
 use Rattle.sqs_server.specs.contracts.queues.Serving as serving
 use Rattle.sqs_server.specs.contracts.serving.StatisticsWorker as statistics_worker
 use Rattle.sqs_server.specs.contracts.serving.RequestWorker as request_worker
 use Rattle.sqs_server.specs.contracts.stage.Stage as stage
+
+-- what an actor has to do
+duties_send : IsSend duties.the_row
+duties_send = search (once.the_send, once.the_sync, sendable, crosses) depth 40 fits 100000
+
+duties_sync : IsSync duties.the_row
+duties_sync = search (once.the_send, once.the_sync, sendable, crosses) depth 40 fits 100000
+
+-- what is ordered, and what becomes of it
+made_send : IsSend made.the_row
+made_send = search (sendable, crosses) depth 40 fits 100000
+
+made_sync : IsSync made.the_row
+made_sync = search (sendable, crosses) depth 40 fits 100000
+
+slot_send : IsSend slot.the_row
+slot_send = search (made_send, made_sync, inner_send, inner_sync, counted.the_send, counted.the_sync, sendable, crosses) depth 40 fits 100000
+
+order_send : IsSend order.the_row
+order_send = search (slot_send, sendable, crosses) depth 40 fits 100000
 
 -- what a queue is served with, where the runtime may go to another thread
 module _ (T : RattleType) (w : wait.Ghosts T.Denot) (s : IsSend T) where
@@ -72,7 +96,7 @@ module _ (T : RattleType) (w : wait.Ghosts T.Denot) (s : IsSend T) where
 
   -- part by part, as a field of what goes with it
   actor_field_send : IsSend (actor.the_field Prints told.the_row g).row
-  actor_field_send = search (desk_send, desk_sync, pass_send, sendable, crosses) depth 40 fits 100000
+  actor_field_send = search (desk_send, desk_sync, pass_send, duties_send, duties_sync, sendable, crosses) depth 40 fits 100000
 
   pub directory_send : IsSend (directory.the_row Prints told.the_row g)
   directory_send = directory_sends Prints told.the_row g prints_send
@@ -84,13 +108,13 @@ pub hall_send : (T : RattleType) (w : wait.Ghosts T.Denot) → IsSend T → IsSe
 hall_send T w s =
     let one = directory_send T w s in
     let both = directory_sync T w s in
-    search (order.the_send, register.the_send, register.the_sync, bodies.the_send, bodies.the_sync, sendable, crosses) depth 40 fits 100000
+    search (order_send, register.the_send, register.the_sync, bodies.the_send, bodies.the_sync, sendable, crosses) depth 40 fits 100000
 
 pub hall_sync : (T : RattleType) (w : wait.Ghosts T.Denot) → IsSend T → IsSync (hall.the_row T w)
 hall_sync T w s =
     let one = directory_send T w s in
     let both = directory_sync T w s in
-    search (order.the_send, register.the_send, register.the_sync, bodies.the_send, bodies.the_sync, sendable, crosses) depth 40 fits 100000
+    search (order_send, register.the_send, register.the_sync, bodies.the_send, bodies.the_sync, sendable, crosses) depth 40 fits 100000
 
 -- part by part, as a field of what goes with it
 front_field_send : (T : RattleType) (w : wait.Ghosts T.Denot) → IsSend T → IsSend (front.the_field T w).row
@@ -131,7 +155,7 @@ pub maker_send : (T : RattleType) (w : wait.Ghosts T.Denot) → IsSend T → IsS
 maker_send T w s =
     let one = directory_send T w s in
     let both = directory_sync T w s in
-    search (order.the_send, channel.the_send, sendable, crosses) depth 40 fits 100000
+    search (order_send, channel.the_send, sendable, crosses) depth 40 fits 100000
 
 pub statistics_worker_send : (T : RattleType) (w : wait.Ghosts T.Denot) → IsSend T → IsSend (statistics_worker.the_row T w)
 statistics_worker_send T w s =

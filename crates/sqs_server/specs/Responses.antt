@@ -27,7 +27,7 @@ use Rattle.sqs_server.specs.declared.stage.Stage.TheVariants as stages
 use Rattle.sqs_server.specs.declared.stage.Polled.TheVariants.{Goes, Waits}
 use Rattle.sqs_server.specs.Head.{body_limit, counted, denial_of}
 use Rattle.sqs_server.specs.Sent.{HoldsBody, crowded, denied, refused, reply_headers}
-use Rattle.sqs_server.specs.Stages.{Turns}
+use Rattle.sqs_server.specs.Stages.{IsWokenAt, Turns}
 
 -- ---- what is sent
 
@@ -70,9 +70,9 @@ module _ {R : Type 0} where
 
   -- ---- where it waits or ends
 
-  -- a fact of where a request waits
-  abbrev pub OnHeld : Halt R → Type 0 → Type 0
-  OnHeld (halts.Waits stage) P = P
+  -- a fact of the stage at which a request waits
+  abbrev pub OnHeld : Halt R → (Stage R → Type 0) → Type 0
+  OnHeld (halts.Waits stage) P = P stage
   OnHeld (halts.Ends ended) P = ⊤
 
   -- where there was no memory to begin, what is known by the head is sent, and else that refusal
@@ -104,6 +104,11 @@ abbrev pub Begins : {R : Type 0} → ℕ → Stage R → Way R → Type 0
 Begins port stage (ways.Stages request) = (request.value.front.port ≡ port) × (request.value.stage ≡ stage)
 Begins port stage (ways.Known sent) = sent ≡ without_memory stage
 Begins port stage ways.Over = ⊥
+
+-- the sources that wake who waits for what comes so
+abbrev pub WayNeeds : {R : Type 0} → Way R → ℕ → Type 0
+WayNeeds (ways.Stages request) source = IsWokenAt request.value.stage source
+WayNeeds way source = ⊥
 
 -- what comes so may be this
 abbrev pub IsGiven : {R : Type 0} → Way R → Result (Response (Full (List ℕ))) Error → Type 0

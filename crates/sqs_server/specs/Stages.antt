@@ -1,6 +1,6 @@
 -- What comes of each stage of a request: what a client is told, or what is asked of which queue next, at which moment and for which purpose. Of the
 -- directory no clause says which queues it has, so a queue that was found under a name is some queue that was opened under it.
-use Rattle.std.specs.Prelude.{◌≡◌, ◌≢◌, ◌⊎◌, ◌||◌, nat_lt, Bool, true, false, ⊤, ℕ, List, [], codes, Option, Some, None, Result, Ok, Err, IfOk, IfErr, IsSomeAnd, IsErrAnd, MatchBool, ok_or, option_map}
+use Rattle.std.specs.Prelude.{◌≡◌, ◌≢◌, ◌⊎◌, ◌||◌, nat_lt, Bool, true, false, ℕ, List, codes, Option, Some, None, Result, Ok, Err, IfOk, IfErr, IsSomeAnd, IsErrAnd, MatchBool, ok_or, option_map}
 use Rattle.std.specs.Arc.{arc_value}
 use Rattle.aws_json.specs.Steps.{result_map}
 use Rattle.aws_json.specs.declared.reply.ReplyShape.{ReplyShape}
@@ -8,8 +8,7 @@ use Rattle.aws_json.specs.declared.reply.ReplyShape.TheVariants as shapes
 use Rattle.aws_json.specs.declared.request.Request.{Request}
 use Rattle.board.specs.Printed.{Publications}
 use Rattle.desk.specs.Views.{SeesMore}
-use Rattle.futures.specs.Channel.{canceled_source, completed_source}
-use Rattle.futures.specs.declared.channel.oneshot.Receiver.{Receiver}
+use Rattle.futures.specs.Channel.{completed_source}
 use Rattle.http.specs.declared.request.Parts.{Parts}
 use Rattle.http_body_util.specs.Collected as gathering
 use Rattle.http_body_util.specs.Collected.{collected_bytes}
@@ -21,7 +20,7 @@ use Rattle.http_body_util.specs.declared.limited.LimitedError.{LimitedError}
 use Rattle.http_body_util.specs.declared.limited.LimitedError.TheVariants as limits
 use Rattle.http_header.specs.HeaderMap.{get}
 use Rattle.hyper.specs.Error.{kind_of}
-use Rattle.hyper.specs.Incoming.{IncomingYields}
+use Rattle.hyper.specs.Incoming.{IncomingNeeds, IncomingYields}
 use Rattle.hyper.specs.declared.body.incoming.Incoming.{Incoming}
 use Rattle.hyper.specs.declared.error.Error.{Error}
 use Rattle.hyper.specs.declared.error.Kind.TheVariants as kinds
@@ -29,10 +28,10 @@ use Rattle.message.specs.Fault.{Meets}
 use Rattle.message.specs.declared.fault.Fault.{Fault}
 use Rattle.message.specs.declared.fault.Fault.TheVariants.{OutOfMemory, QueueDoesNotExist, QueueNameExists, InvalidAttributeValue, ActorGone}
 use Rattle.queue_actor.specs.Answered.{Answered}
-use Rattle.queue_actor.specs.Asking.{Asking, IfSent, IfUnsent, MayGive, is_for_actor, waiting_question}
+use Rattle.queue_actor.specs.Asking.{Asking, IfSent, IfUnsent, MayGive, WaitsAt, is_for_actor, waiting_question}
 use Rattle.queue_actor.specs.Questions.{IsAnswerTo, question}
 use Rattle.queue_actor.specs.declared.fault.AskFault.{AskFault}
-use Rattle.queue_config.specs.Settings.{QueueSettings, RequestedAttributes, default_settings, requested_target, same_settings, settings_with}
+use Rattle.queue_config.specs.Settings.{QueueSettings, RequestedAttributes, requested_target, same_settings, settings_with}
 use Rattle.queue_core.specs.declared.command.Command.{Command}
 use Rattle.queue_core.specs.declared.command.Command.TheVariants as commands
 use Rattle.queue_core.specs.declared.reply.Reply.{Reply}
@@ -47,8 +46,9 @@ use Rattle.request_plan.specs.declared.plan.Step.{Step}
 use Rattle.request_plan.specs.declared.plan.Step.TheVariants as steps
 use Rattle.request_plan.specs.declared.plan.Then.{Then}
 use Rattle.request_plan.specs.declared.plan.Then.TheVariants as thens
-use Rattle.sqs_server.specs.declared.queues.Made.{Made}
-use Rattle.sqs_server.specs.declared.queues.Order.{Order}
+use Rattle.sqs_server.specs.declared.order.Made.{Made}
+use Rattle.sqs_server.specs.declared.order.MadePlace.{MadePlace}
+use Rattle.sqs_server.specs.declared.order.Order.{Order}
 use Rattle.sqs_server.specs.declared.queues.Queue.{Queue}
 use Rattle.sqs_server.specs.declared.reply.Sent.{Sent}
 use Rattle.sqs_server.specs.declared.stage.Creation.{Creation}
@@ -66,6 +66,7 @@ use Rattle.request_plan.specs.declared.task.Task.{Task}
 use Rattle.request_plan.specs.declared.task.Task.TheVariants as tasks
 use Rattle.sqs_server.specs.Head.{action_of, asked_of}
 use Rattle.request_plan.specs.Plan.{Follows, after}
+use Rattle.sqs_server.specs.Orders.{IsMadeFor, IsOrder}
 use Rattle.sqs_server.specs.Sent.{busy, denied, refused, sent_for}
 use Rattle.request_plan.specs.Task.{Begins}
 use Rattle.sqs_server.specs.Times.{wait_limit}
@@ -131,13 +132,6 @@ MayCollect body given =
     gathering.Collects (λ piece bytes. bytes ≡ piece) (Limits (λ piece. piece) (IncomingYields body.body.inner) body.body.remaining) held given)
     ⊎ IsErrAnd given (λ error. (cause : Error) × (error ≡ limits.Body cause) × (kind_of cause ≡ kinds.OutOfMemory))
 
--- what is ordered: a queue of the name without alarms, with what is wished in the place of the defaults, at the moment of the request
-pub record IsOrder (creation : Creation) (target : ℕ) (order : Order) : Type 0 where
-  pub name : order.new.name ≡ creation.name
-  pub settings : order.new.settings ≡ settings_with default_settings creation.wish target
-  pub rules : order.new.rules.items ≡ []
-  pub moment : order.at ≡ creation.at
-
 -- R is the runtime that the server waits by
 module _ {R : Type 0} where
   -- ---- what ends a request
@@ -184,14 +178,22 @@ module _ {R : Type 0} where
     pub same_command : back.command ≡ command
     pub same_purpose : back.purpose ≡ purpose
 
-  -- One is ordered, and what became of it is awaited where it is told. The client may be turned away
+  -- There is an order for one, and what becomes of it is awaited where that is told. The client may be turned away
   abbrev pub Ordered : Creation → ℕ → Next R → Type 0
   Ordered creation target next =
-      ((order : Order) × IsOrder creation target order
-      × ((made : Receiver Made) × (canceled_source order.made ≡ completed_source made) × (next ≡ On (stages.Making creation made))))
+      ((order : Order) × IsOrder creation target order.ordered
+      × ((made : MadePlace) × (arc_value made.cell ≡ order.ordered) × (order.slot.source ≡ completed_source made.told)
+      × (next ≡ On (stages.Making creation made))))
       ⊎ (next ≡ refuses OutOfMemory) ⊎ (next ≡ Ends (Ok busy)) ⊎ (next ≡ refuses ActorGone)
 
   -- ---- turns
+
+  -- the sources that wake a request that waits at a stage: that of its body, of its order or of its answer. One that lets others have a turn asks for it itself
+  abbrev pub IsWokenAt : Stage R → ℕ → Type 0
+  IsWokenAt (stages.Collecting arriving) source = IncomingNeeds arriving.body.body.inner source
+  IsWokenAt (stages.Making creation made) source = source ≡ completed_source made.told
+  IsWokenAt (stages.Asking exchange) source = WaitsAt exchange.future source
+  IsWokenAt stage source = ⊥
 
   -- a stage goes on, and this holds of it; or it waits, and this holds of the stage that is left
   abbrev pub Leads : (Next R → Type 0) → (Stage R → Type 0) → Polled R → Type 0
@@ -333,11 +335,15 @@ module _ {R : Type 0} (port : ℕ) where
 
   -- ---- a queue is to be there
 
-  -- one was ordered: it is there, or one of its name came to be there meanwhile, which is looked for, or it is refused
+  -- an order was refused; where one of its name came to be there meanwhile, that is looked for
+  abbrev pub Unmade : Creation → Fault → Next R → Type 0
+  Unmade creation QueueNameExists next = next ≡ On (stages.Creating creation)
+  Unmade creation fault next = next ≡ refuses fault
+
+  -- one was ordered: it is there, or the order was refused
   abbrev pub Makes : {T : Type 0} → Creation → Result T Fault → Next R → Type 0
-  Makes creation (Ok made) next = Tells (Ok (shapes.QueueUrl creation.name)) next
-  Makes creation (Err QueueNameExists) next = next ≡ On (stages.Creating creation)
-  Makes creation (Err fault) next = next ≡ refuses fault
+  Makes creation (Ok opened) next = Tells (Ok (shapes.QueueUrl creation.name)) next
+  Makes creation (Err fault) next = Unmade creation fault next
 
   -- one is ordered, or that of its name is looked at; while that one is being opened, what is asked for comes back
   abbrev pub Creates : Creation → Result (Next R) Creation → Type 0
@@ -364,11 +370,11 @@ module _ {R : Type 0} (port : ℕ) where
   abbrev pub Names : Creation → Polled R → Type 0
   Names creation = Leads (λ next. Creates creation (Ok next)) (λ stage. stage ≡ stages.Creating creation)
 
-  -- a queue was ordered; or the thread that makes queues is gone
-  abbrev pub AwaitsQueue : Creation → Polled R → Type 0
-  AwaitsQueue creation =
-      Leads (λ next. ((outcome : Result ⊤ Fault) × Makes creation outcome next) ⊎ (next ≡ refuses ActorGone))
-      (λ stage. (made : Receiver Made) × (stage ≡ stages.Making creation made))
+  -- A queue was ordered, and what is told is what became of that order, or that the thread which makes queues is gone. It is awaited at a place for the same order.
+  abbrev pub AwaitsQueue : Creation → MadePlace → Polled R → Type 0
+  AwaitsQueue creation place =
+      Leads (λ next. ((made : Made) × IsMadeFor (arc_value place.cell) made × Makes creation made.outcome next) ⊎ (next ≡ refuses ActorGone))
+      (λ stage. (left : MadePlace) × (stage ≡ stages.Making creation left) × (arc_value left.cell ≡ arc_value place.cell))
 
   -- a queue was asked
   abbrev pub AwaitsAnswer : Exchange R → Polled R → Type 0
@@ -382,7 +388,7 @@ module _ {R : Type 0} (port : ℕ) where
   abbrev pub Turns : Stage R → Polled R → Type 0
   Turns (stages.Collecting arriving) turn = Collects arriving turn
   Turns (stages.Creating creation) turn = Names creation turn
-  Turns (stages.Making creation made) turn = AwaitsQueue creation turn
+  Turns (stages.Making creation made) turn = AwaitsQueue creation made turn
   Turns (stages.Asking exchange) turn = AwaitsAnswer exchange turn
   Turns (stages.Going uid queue at step) turn = (next : Next R) × (turn ≡ Goes next) × GoesOn uid queue at step next
   Turns (stages.Sending sent) turn = turn ≡ Goes (Ends (Ok sent))

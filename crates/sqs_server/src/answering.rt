@@ -2,7 +2,7 @@
 
 ghost use Rattle.std.specs.Prelude.{◌≡◌, ℕ, Ok, None, IfOk};
 ghost use Rattle.sqs_server.specs.Responses as response;
-ghost use Rattle.sqs_server.specs.Responses.{Begins, Comes, IsFirstStage, IsGiven, IsFirstOf, Responds};
+ghost use Rattle.sqs_server.specs.Responses.{Begins, Comes, IsFirstStage, IsGiven, IsFirstOf, Responds, WayNeeds};
 
 use crate::arriving::{Arriving, KeptRequest};
 use crate::bodies::{Bodies, Part};
@@ -157,6 +157,8 @@ fn first_stage<R: Wait + Drop>(
 
 impl<R: Wait + Clock + Drop> Future for Answering<R> {
     type Output = Result<Response<Full<Bytes>>, hyper::Error>;
+
+    ghost needs = { λ answering. WayNeeds answering.way };
 
     ghost gives = { λ answering given. IsGiven answering.way given };
 

@@ -220,10 +220,10 @@ impl<R: Wait + Clock, M: MakeTask> Acceptor<'_, R, M> {
         }
     }
 
-    /// Tells a fault of the system, and accepts nothing for a while. It comes back where it is one too many. A shortage,
-    /// which is none of the port, does not count.
+    /// Tells a fault of the system, and accepts nothing for a while. It comes back where it is one too many. A
+    /// shortage, which is none of the port, does not count.
     fn refused(&mut self, error: io::Error) -> Option<io::Error>
-        ensures enough { self.new.enough ≡ self.old.enough }
+        ensures same { (self.new.enough ≡ self.old.enough) × (self.new.patience ≡ self.old.patience) }
         ensures patient { self.old.patience ≡ None → result ≡ None }
     {
         let line = format!(in self.alloc; "sqs_server: accept: {error}");
@@ -243,7 +243,7 @@ impl<R: Wait + Clock, M: MakeTask> Acceptor<'_, R, M> {
 
     /// Whether nothing is to be accepted yet.
     fn is_pausing(&mut self, cx: &mut Context<'_>) -> bool
-        ensures enough { self.new.enough ≡ self.old.enough }
+        ensures same { (self.new.enough ≡ self.old.enough) × (self.new.patience ≡ self.old.patience) }
         ensures armed { IsTrue result → IsArmed cx.new }
         ensures kept { Keeps cx.old cx.new }
     {
@@ -260,7 +260,7 @@ impl<R: Wait + Clock, M: MakeTask> Acceptor<'_, R, M> {
     /// Lets the other acceptors of the port have the next connection for a moment, once, where more are open here than
     /// there.
     fn gives_way(&mut self, cx: &mut Context<'_>) -> bool
-        ensures enough { self.new.enough ≡ self.old.enough }
+        ensures same { (self.new.enough ≡ self.old.enough) × (self.new.patience ≡ self.old.patience) }
         ensures armed { IsTrue result → IsArmed cx.new }
         ensures kept { Keeps cx.old cx.new }
     {
@@ -277,7 +277,8 @@ impl<R: Wait + Clock, M: MakeTask> Acceptor<'_, R, M> {
     fn is_enough(&mut self, cx: &mut Context<'_>) -> Poll<io::Result<()>>
         requires { IfSome self.old.enough CanAcquire }
         ensures again { OnPending result (IfSome self.new.enough CanAcquire) }
-        ensures never { self.old.enough ≡ None → result ≡ Pending }
+        ensures never { self.old.enough ≡ None → (result ≡ Pending) × (self.new.enough ≡ None) }
+        ensures patience { self.new.patience ≡ self.old.patience }
         ensures kept { Keeps cx.old cx.new }
     {
         match &mut self.enough {
@@ -295,6 +296,9 @@ impl<R: Wait + Clock + Drop, M: MakeTask> Future for Acceptor<'_, R, M> {
     type Output = io::Result<()>;
 
     ghost can_poll = { λ a. IfSome a.enough CanAcquire };
+
+    // Without a number of connections and with patience for ever it has no output.
+    ghost gives = { λ a _. a.enough ≡ None → a.patience ≡ None → ⊥ };
 
     fn poll(&mut self, cx: &mut Context<'_>) -> Poll<io::Result<()>> {
         if let Poll::Ready(ended) = self.is_enough(cx) {

@@ -1,9 +1,9 @@
 //! How many requests were answered, by their actions and statuses.
 
-ghost use Rattle.std.specs.Prelude.{◌≡◌, ◌<◌, IfErr};
+ghost use Rattle.std.specs.Prelude.{◌≡◌, ◌+◌, ◌*◌, ◌<◌, ◌++◌, ℕ, List, length, map, IfErr, IfOk, OnOk};
 ghost use Rattle.message.specs.declared.fault.Fault.TheVariants.{OutOfMemory};
 ghost use Rattle.request_log.specs.Actions.{places};
-ghost use Rattle.sqs_server.specs.private.Counts.{status_place};
+ghost use Rattle.sqs_server.specs.private.Counts.{status_at, status_place, told, told_at, told_from};
 
 use message::Fault;
 use request_log::{PLACES, name_at};
@@ -11,8 +11,8 @@ use statistics_api::Requested;
 use std::alloc::Global;
 use std::sync::atomic::{AtomicU64, Ordering};
 
-/// The statuses that a request can be answered with, the last one for all that is none of the others.
-const STATUSES: [u16; 7] = [200, 400, 403, 405, 413, 503, 500];
+/// How many statuses are counted, the last one for all that is none of the others.
+const STATUSES: usize = 7;
 
 /// The place of a status among them.
 fn status_place(status: u16) -> usize
@@ -30,6 +30,45 @@ fn status_place(status: u16) -> usize
     }
 }
 
+/// The place of an action's place and a status among all numbers.
+fn number_place(place: usize, status: u16) -> usize
+    requires { place < places }
+    ensures { result ≡ place * 7 + status_place status }
+{
+    place * STATUSES + status_place(status)
+}
+
+/// The status that is told for a place among them.
+fn status_at(place: usize) -> u16
+    ensures { result ≡ status_at place }
+{
+    match place {
+        0 => 200,
+        1 => 400,
+        2 => 403,
+        3 => 405,
+        4 => 413,
+        5 => 503,
+        _ => 500,
+    }
+}
+
+/// Tells how many requests were counted at a place, where there were any. `OutOfMemory` is the only refusal.
+fn tell_count(requests: &mut Vec<Requested>, place: usize, count: u64) -> Result<(), Fault>
+    ensures ok { OnOk result (map told requests.new.items ≡ map told requests.old.items ++ told_at place count) }
+    ensures errors { IfErr result (λ fault. fault ≡ OutOfMemory) }
+{
+    if count == 0 {
+        return Ok(());
+    }
+    requests.push(Requested {
+        action: name_at(place / STATUSES),
+        status: status_at(place % STATUSES),
+        count,
+    })?;
+    Ok(())
+}
+
 /// A number for each action and status.
 #[derive(Drop)]
 pub struct RequestCounts {
@@ -42,7 +81,7 @@ impl RequestCounts {
         ensures { IfErr result (λ fault. fault ≡ OutOfMemory) }
     {
         let mut numbers = Vec::new(alloc);
-        for _ in 0..PLACES * STATUSES.len() {
+        for _ in 0..PLACES * STATUSES {
             numbers.push(AtomicU64::new(0))?;
         }
         Ok(RequestCounts { numbers })
@@ -52,27 +91,20 @@ impl RequestCounts {
     pub fn add(&self, place: usize, status: u16)
         requires { place < places }
     {
-        let place = place * STATUSES.len() + status_place(status);
-        if let Some(number) = self.numbers.as_slice().get(place) {
+        if let Some(number) = self.numbers.as_slice().get(number_place(place, status)) {
             number.fetch_add(1, Ordering::SeqCst);
         }
     }
 
     /// Those that are not 0, by the actions. `OutOfMemory` is the only refusal.
     pub fn requested(&self, alloc: Global) -> Result<Vec<Requested>, Fault>
-        ensures { IfErr result (λ fault. fault ≡ OutOfMemory) }
+        ensures told { IfOk result (λ requests. (counts : List ℕ) × (length counts ≡ length self.now.numbers.items) × (map told requests.items ≡ told_from 0 counts)) }
+        ensures errors { IfErr result (λ fault. fault ≡ OutOfMemory) }
     {
         let mut requests = Vec::new(alloc);
-        for (place, number) in self.numbers.as_slice().iter().enumerate() {
-            let count = number.load(Ordering::SeqCst);
-            let status = STATUSES[place % STATUSES.len()];
-            if count > 0 {
-                requests.push(Requested {
-                    action: name_at(place / STATUSES.len()),
-                    status,
-                    count,
-                })?;
-            }
+        for place in 0..self.numbers.len() {
+            let count = self.numbers[place].load(Ordering::SeqCst);
+            tell_count(&mut requests, place, count)?;
         }
         Ok(requests)
     }

@@ -1,16 +1,16 @@
 //! What comes over HTTP is asked of the queues, and what they answer is sent.
 
-ghost use Rattle.std.specs.Prelude.{◌≡◌, ◌⊎◌, ⊤, Ok, Err, None, IfOk, IfErr};
-ghost use Rattle.futures.specs.Task.{IsArmed, Keeps};
+ghost use Rattle.std.specs.Prelude.{◌≡◌, ◌⊎◌, Ok, Err, None, IfOk, IfErr};
+ghost use Rattle.futures.specs.Task.{Covers, Keeps};
 ghost use Rattle.aws_json.specs.declared.reply.ReplyShape.TheVariants as shapes;
 ghost use Rattle.message.specs.declared.fault.Fault.TheVariants.{OutOfMemory, QueueDoesNotExist};
 ghost use Rattle.queue_config.specs.Settings.{requested_target};
 ghost use Rattle.redrive.specs.Catalog.{NameDirectory, IsDirectory, names_listed, source_names};
 ghost use Rattle.sqs_server.specs.declared.stage.Purpose.TheVariants as purposes;
-ghost use Rattle.sqs_server.specs.declared.stage.Stage.TheVariants as stages;
 ghost use Rattle.request_plan.specs.declared.task.Task.TheVariants as tasks;
 ghost use Rattle.sqs_server.specs.Responses.{Halts, OnHeld};
-ghost use Rattle.sqs_server.specs.Stages.{Asks, AsksFound, AsksNow, AwaitsAnswer, AwaitsQueue, Begun, Changed, Collects, Compared, Creates, GoesOn, IsJudged, IsLost, IsMissed, IsOpenedAs, IsOrder, IsPostponed, IsRead, IsTarget, IsTurnedAway, IsTurnedAwayWith, Looked, Makes, Names, Ordered, Regains, Resumes, Returned, Seen, Sends, SentOfError, Tells, TellsSources, TellsUrl, TellsUrls, Turns};
+ghost use Rattle.sqs_server.specs.Stages.{Asks, AsksFound, AsksNow, AwaitsAnswer, AwaitsQueue, Begun, Changed, Collects, Compared, Creates, GoesOn, IsJudged, IsLost, IsMissed, IsOpenedAs, IsPostponed, IsRead, IsTarget, IsTurnedAway, IsTurnedAwayWith, IsWokenAt, Looked, Makes, Names, Ordered, Regains, Resumes, Returned, Seen, Sends, SentOfError, Tells, TellsSources, TellsUrl, TellsUrls, Turns, Unmade};
+ghost use Rattle.sqs_server.specs.Orders.{IsOrder};
 ghost use Rattle.sqs_server.specs.Stages as told;
 ghost use Rattle.request_plan.specs.Task.{Begins};
 ghost use Rattle.sqs_server.specs.Turns.{OnWaits};
@@ -19,7 +19,8 @@ use crate::arriving::{Arriving, KeptRequest};
 use crate::bodies::{Bodies, Part};
 use crate::clock::{Day, wait_limit};
 use crate::head::{Denial, asked_of, target_of};
-use crate::queues::{Made, Mailbox, NewQueue, Order, Printer, Queue, Queues, is_full};
+use crate::order::{Made, MadePlace, Order, OrderedQueue, slot_and_place};
+use crate::queues::{Mailbox, Printer, Queue, Queues, is_full};
 use crate::register::Register;
 use crate::reply::{Sent, busy, denied, refused, sent_for};
 use crate::stage::{Creation, Exchange, Halt, Next, Polled, Postponed, Purpose, Stage};
@@ -27,8 +28,6 @@ use aws_json::{Prefix, QueueNames, ReplyShape, Request};
 use crossbeam_channel::{SendError, Sender};
 use desk::NoGate;
 use futures::Future;
-use futures::channel::oneshot;
-use futures::channel::oneshot::Receiver;
 use futures::task::{Context, Poll};
 use http::request::Parts;
 use http_body_util::{Collected, LimitedError};
@@ -122,19 +121,14 @@ fn sent_of_error(error: LimitedError<hyper::Error>) -> Result<Sent, hyper::Error
     }
 }
 
-/// The order for a queue that is not there.
-fn order_of(alloc: Global, creation: &Creation, target: u64, made: oneshot::Sender<Made>) -> Order
-    ensures order { IsOrder creation.now target result }
-    ensures made { result.made ≡ made }
+/// What is ordered where no queue is there.
+fn order_of(creation: &Creation, target: u64) -> OrderedQueue
+    ensures { IsOrder creation.now target result }
 {
-    Order {
-        new: NewQueue {
-            name: creation.name,
-            settings: Settings::default().with(&creation.wish, target),
-            rules: Vec::new(alloc),
-        },
+    OrderedQueue {
+        name: creation.name,
+        settings: Settings::default().with(&creation.wish, target),
         at: creation.at,
-        made,
     }
 }
 
@@ -179,7 +173,7 @@ impl<R: Wait + Clock + Drop> Front<R> {
 
     /// Goes on where an order of a queue was refused. One of its name that came to be there meanwhile is looked at.
     fn unmade(&self, creation: Creation, fault: Fault) -> Next<R>
-        ensures { Makes self.now.port {T = ⊤} creation (Err fault) result }
+        ensures { Unmade self.now.port creation fault result }
     {
         match fault {
             Fault::QueueNameExists => Next::On(Stage::Creating(creation)),
@@ -524,7 +518,7 @@ impl<R: Wait + Clock + Drop> Front<R> {
         arriving: Arriving,
         kept: &mut Option<KeptRequest>,
     ) -> Polled<R>
-        ensures waits { OnWaits result (IsArmed cx.new) }
+        ensures waits { OnWaits result (λ stage. Covers cx.new (IsWokenAt stage)) }
         ensures kept { Keeps cx.old cx.new }
         ensures leads { Collects self.now.port arriving result }
     {
@@ -547,11 +541,11 @@ impl<R: Wait + Clock + Drop> Front<R> {
         if is_full(self.hall.orders.len()) {
             return Next::Ends(Ok(busy()));
         }
-        let Ok((tells, made)) = oneshot::channel(self.alloc) else {
+        let ordered = order_of(&creation, target);
+        let Ok((slot, made)) = slot_and_place(self.alloc, &ordered) else {
             return refuses(Fault::OutOfMemory);
         };
-        let order = order_of(self.alloc, &creation, target, tells);
-        match self.hall.orders.send(&self.rt, order) {
+        match self.hall.orders.send(&self.rt, Order { ordered, slot }) {
             Ok(()) => Next::On(Stage::Making { creation, made }),
             Err(SendError::OutOfMemory(_)) => refuses(Fault::OutOfMemory),
             Err(SendError::Disconnected(_)) => refuses(Fault::ActorGone),
@@ -563,7 +557,7 @@ impl<R: Wait + Clock + Drop> Front<R> {
         ensures { Makes self.now.port creation made.outcome result }
     {
         match made.outcome {
-            Ok(()) => self.answers(Ok(ReplyShape::QueueUrl(creation.name))),
+            Ok(_opened) => self.answers(Ok(ReplyShape::QueueUrl(creation.name))),
             Err(fault) => self.unmade(creation, fault),
         }
     }
@@ -573,15 +567,18 @@ impl<R: Wait + Clock + Drop> Front<R> {
         &self,
         cx: &mut Context<'_>,
         creation: Creation,
-        mut made: Receiver<Made>,
+        mut made: MadePlace,
     ) -> Polled<R>
-        ensures waits { OnWaits result (IsArmed cx.new) }
+        ensures waits { OnWaits result (λ stage. Covers cx.new (IsWokenAt stage)) }
         ensures kept { Keeps cx.old cx.new }
-        ensures leads { AwaitsQueue self.now.port creation result }
+        ensures leads { AwaitsQueue self.now.port creation made result }
     {
-        match made.poll(cx) {
+        match made.told.poll(cx) {
             Poll::Pending => Polled::Waits(Stage::Making { creation, made }),
-            Poll::Ready(Ok(made)) => Polled::Goes(self.ordered(creation, made)),
+            Poll::Ready(Ok(())) => match made.take() {
+                Some(made) => Polled::Goes(self.ordered(creation, made)),
+                None => Polled::Goes(refuses(Fault::ActorGone)),
+            },
             Poll::Ready(Err(_gone)) => Polled::Goes(refuses(Fault::ActorGone)),
         }
     }
@@ -612,7 +609,7 @@ impl<R: Wait + Clock + Drop> Front<R> {
 
     /// The same, and looks for that one again once others had a turn.
     fn await_name(&self, cx: &mut Context<'_>, creation: Creation) -> Polled<R>
-        ensures waits { OnWaits result (IsArmed cx.new) }
+        ensures waits { OnWaits result (λ stage. Covers cx.new (IsWokenAt stage)) }
         ensures kept { Keeps cx.old cx.new }
         ensures leads { Names self.now.port creation result }
     {
@@ -771,7 +768,7 @@ impl<R: Wait + Clock + Drop> Front<R> {
 
     /// Looks whether a command was answered.
     fn await_answer(&self, cx: &mut Context<'_>, mut exchange: Exchange<R>) -> Polled<R>
-        ensures waits { OnWaits result (IsArmed cx.new) }
+        ensures waits { OnWaits result (λ stage. Covers cx.new (IsWokenAt stage)) }
         ensures kept { Keeps cx.old cx.new }
         ensures leads { AwaitsAnswer self.now.port exchange result }
     {
@@ -788,7 +785,7 @@ impl<R: Wait + Clock + Drop> Front<R> {
         stage: Stage<R>,
         kept: &mut Option<KeptRequest>,
     ) -> Polled<R>
-        ensures waits { OnWaits result (IsArmed cx.new) }
+        ensures waits { OnWaits result (λ stage. Covers cx.new (IsWokenAt stage)) }
         ensures kept { Keeps cx.old cx.new }
         ensures leads { Turns self.now.port stage result }
     {
@@ -822,7 +819,7 @@ impl<R: Wait + Clock + Drop> Front<R> {
         mut stage: Stage<R>,
         kept: &mut Option<KeptRequest>,
     ) -> Halt<R>
-        ensures waits { OnHeld result (IsArmed cx.new) }
+        ensures waits { OnHeld result (λ stage. Covers cx.new (IsWokenAt stage)) }
         ensures kept { Keeps cx.old cx.new }
         ensures leads { Halts self.now.port stage result }
     {

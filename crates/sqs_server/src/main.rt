@@ -3,17 +3,18 @@
 //! - `arguments`: what the program makes of its arguments and its environment, and how it ends.
 //! - `head`: the order in which a request is judged, and what it asks. What it asks of one queue, one command after
 //!   another, is its plan (request_plan). `reply`: what is sent.
-//! - `clock`: the wall clock. `queues`: how a queue comes to be served.
+//! - `clock`: the wall clock. `queues`: how a queue comes to be served. `order`: how one is ordered, and what becomes of that.
 //! - `stage`, `arriving`: how far a request is. `bodies`: how much all bodies may hold. `front`: what becomes of it
 //!   there, from its body to what is sent. `answering`: the service, whose future goes through these stages.
 //! - `register`, `counts`: what is told of the requests that were answered.
 //! - `statistics`: the service of the other port, which tells what was printed of the queues.
-//! - `connections`: what accepts and serves connections. `attendance`: how many are open. `watch`: whether anything happens at one. `notices`: lines for standard error. `serving`: the runtimes and the queues together.
+//! - `connections`: what accepts and serves connections. `attendance`: how many are open. `watch`: whether anything happens
+//!   at one. `notices`: lines for standard error. `serving`: the runtimes and the queues together.
 //!
 //! What is pure of it has exact contracts, whose definitions stand in `specs/`.
 #![tactic(auto)]
 
-ghost use Rattle.std.specs.Prelude.{◌≡◌, ◌<◌, ◌≤◌, ◌⊎◌, IfErr};
+ghost use Rattle.std.specs.Prelude.{◌≡◌, ◌<◌, ◌≤◌, ◌⊎◌, None, IfErr, IfOk};
 ghost use Rattle.startup.specs.declared.ending.StartFault.TheVariants.{OutOfMemory};
 ghost use Rattle.sqs_server.specs.declared.arguments.Refusal.TheVariants.{Listen, Start};
 
@@ -28,6 +29,7 @@ mod counts;
 mod front;
 mod head;
 mod notices;
+mod order;
 mod queues;
 mod register;
 mod reply;
@@ -197,6 +199,7 @@ where
         + Sync
         + Drop
         + 'static,
+    ensures goes_on { arguments.now.connections ≡ None → IfOk result (λ _. ⊥) }
 {
     let path = arguments.path.as_str();
     let environment = environment(host)?;

@@ -7,19 +7,23 @@ ghost use Rattle.board.specs.Printed.{place_of};
 ghost use Rattle.board.specs.Queue.{sheet_of};
 ghost use Rattle.desk.specs.Views.{first_pass};
 ghost use Rattle.message.specs.declared.fault.Fault.TheVariants.{OutOfMemory};
+ghost use Rattle.queue_config.specs.Config.{rules_of};
 ghost use Rattle.queue_core.specs.Kept.{opened_queue};
+ghost use Rattle.sqs_server.specs.Orders.{IsMadeFor, IsUnmade};
 
 use crate::clock::Day;
+use crate::order::{Made, Order, OrderedQueue};
 use board::{Publisher, Reader, Sheet, board};
 use crossbeam_channel::{Receiver, Sender, unbounded};
 use desk::{Desk, NoGate, Pass};
-use futures::channel::oneshot;
 use journal::Moment;
 use message::{Fault, QueueName};
 use queue_actor::{
     Actor, Beat, Directory, Duties, Envelope, Served, Shown, TICK_MILLISECONDS, deadline_loop,
 };
-use queue_config::{AlarmRule, Config, Limits, Settings, rules_of};
+use queue_config::{
+    AlarmRule, Config, ConfiguredAlarm, ConfiguredQueue, Limits, Settings, rules_of,
+};
 use queue_core::QueueState;
 use std::alloc::Global;
 use std::snapshot::Snapshot;
@@ -115,24 +119,10 @@ impl<C: Clock> Beat for Ticking<C> {
 
 /// A queue that is to be there.
 #[derive(Debug, Drop)]
-pub struct NewQueue {
-    pub name: QueueName,
-    pub settings: Settings,
-    pub rules: Vec<AlarmRule>,
-}
-
-/// What became of an order.
-#[derive(Debug, Drop)]
-pub struct Made {
-    pub outcome: Result<(), Fault>,
-}
-
-/// A queue that is to be made at a moment, and where it is told what became of it.
-#[derive(Drop)]
-pub struct Order {
-    pub new: NewQueue,
-    pub at: Moment,
-    pub made: oneshot::Sender<Made>,
+struct NewQueue {
+    name: QueueName,
+    settings: Settings,
+    rules: Vec<AlarmRule>,
 }
 
 /// The queues that are served, where more of them are ordered, and the time of day that they are told.
@@ -196,7 +186,9 @@ fn start_actor<R: Wait + Threads + Clock + Copy + Send + Drop + 'static>(
     actor: Actor<Printer<R>>,
     mails: Receiver<Envelope<Printer<R>>>,
     queues: Arc<Queues<R>>,
-) -> Result<(), Fault> {
+) -> Result<(), Fault>
+    ensures { IfErr result (λ fault. fault ≡ OutOfMemory) }
+{
     let serving = Serving {
         rt: *rt,
         alloc,
@@ -232,8 +224,18 @@ fn open_board<R: Wait + Copy + Drop>(
     }
 }
 
-/// Opens a queue at a moment, on a desk, and a board for its statistics. What it was then comes beside them, and takes
-/// no bytes. `OutOfMemory` is the only refusal.
+/// A queue that was opened: its desk, a pass of it, the reader of its statistics, and two snapshots of it as it was then,
+/// which take no bytes.
+#[derive(Drop)]
+struct OpenDesk<R: Wait + Drop> {
+    desk: Desk<Printer<R>>,
+    pass: Pass<Printer<R>>,
+    reader: Reader,
+    shown: Snapshot<QueueState>,
+    opened: Snapshot<QueueState>,
+}
+
+/// Opens a queue at a moment, on a desk, and a board for its statistics. `OutOfMemory` is the only refusal.
 fn open_desk<R: Wait + Copy + Drop>(
     rt: &R,
     host: &HostRuntime,
@@ -242,28 +244,27 @@ fn open_desk<R: Wait + Copy + Drop>(
     new: NewQueue,
     limits: Limits,
     at: Moment,
-) -> Result<
-    (
-        Desk<Printer<R>>,
-        Pass<Printer<R>>,
-        Reader,
-        Snapshot<QueueState>,
-    ),
-    Fault,
->
-    ensures ok { IfOk result (λ made. made.1 ≡ first_pass made.0 (opened_queue uid new.name new.settings limits new.rules.items at) (place_of made.2.book)) }
-    ensures given { IfOk result (λ made. made.2.given ≡ sheet_of (opened_queue uid new.name new.settings limits new.rules.items at)) }
-    ensures opened { IfOk result (λ made. made.3.value ≡ opened_queue uid new.name new.settings limits new.rules.items at) }
+) -> Result<OpenDesk<R>, Fault>
+    ensures ok { IfOk result (λ made. made.pass ≡ first_pass made.desk (opened_queue uid new.name new.settings limits new.rules.items at) (place_of made.reader.book)) }
+    ensures given { IfOk result (λ made. made.reader.given ≡ sheet_of (opened_queue uid new.name new.settings limits new.rules.items at)) }
+    ensures opened { IfOk result (λ made. (made.shown.value ≡ opened_queue uid new.name new.settings limits new.rules.items at) × (made.opened.value ≡ opened_queue uid new.name new.settings limits new.rules.items at)) }
     ensures errors { IfErr result (λ fault. fault ≡ OutOfMemory) }
 {
     let state = QueueState::open(alloc, uid, new.name, new.settings, limits, new.rules, at)?;
-    let opened = Snapshot::of(&state);
+    let (shown, opened) = (Snapshot::of(&state), Snapshot::of(&state));
     let (printer, reader) = open_board(rt, alloc, &state, at)?;
     let (desk, pass) = Desk::new(host, alloc, state, printer)?;
-    Ok((desk, pass, reader, opened))
+    Ok(OpenDesk {
+        desk,
+        pass,
+        reader,
+        shown,
+        opened,
+    })
 }
 
-/// Opens a queue at a moment under a uid that was entered, and serves it.
+/// Opens a queue at a moment under a uid that was entered, and serves it. What it was when it was opened comes back.
+#[tactic(auto, using(crate::proofs::OrderLemmas::memory_unmade))]
 fn start_queue<R: Wait + Threads + Clock + Copy + Send + Drop + 'static>(
     rt: &R,
     host: &HostRuntime,
@@ -272,26 +273,38 @@ fn start_queue<R: Wait + Threads + Clock + Copy + Send + Drop + 'static>(
     uid: u64,
     new: NewQueue,
     at: Moment,
-) -> Result<(), Fault> {
+) -> Result<Snapshot<QueueState>, Fault>
+    ensures opened { IfOk result (λ opened. opened.value ≡ opened_queue uid new.name new.settings (arc_value queues.now) new.rules.items at) }
+    ensures errors { IfErr result IsUnmade }
+{
     let name = new.name;
     let target = target_of(&new.settings);
     let limits = queues.limits();
-    let (desk, mut pass, reader, opened) = open_desk(rt, host, alloc, uid, new, limits, at)?;
+    let OpenDesk {
+        desk,
+        mut pass,
+        reader,
+        shown,
+        opened,
+    } = open_desk(rt, host, alloc, uid, new, limits, at)?;
     let own = desk.pass(&mut pass);
     let desk = Arc::new(alloc, desk)?;
     let (mailbox, mails) = unbounded::<Envelope<Printer<R>>, Global>(alloc)?;
     let duties = Arc::new(alloc, Duties::new())?;
     let shared = Arc::try_clone(&duties)?;
-    let actor = Actor::new(Arc::try_clone(&desk)?, own, uid, limits, shared);
-    start_actor(rt, alloc, actor, mails, Arc::try_clone(queues)?)?;
-    queues.show(rt, Shown::new(uid, name, reader, opened))?;
+    let asked = Arc::try_clone(&desk)?;
+    let others = Arc::try_clone(queues)?;
+    let actor = Actor::new(asked, own, uid, limits, shared);
+    start_actor(rt, alloc, actor, mails, others)?;
+    queues.show(rt, Shown::new(uid, name, reader, shown))?;
     let queue = Served::new(uid, name, desk, pass, mailbox, duties);
-    queues.serve(rt, alloc, queue, target)
+    queues.serve(rt, alloc, queue, target)?;
+    Ok(opened)
 }
 
 /// Makes a queue at a moment. `QueueNameExists` where its name is there, `OverLimit` where there are as
-/// many queues as there may be, and `OutOfMemory` also where its thread cannot be started. A refused
-/// queue leaves no name.
+/// many queues as there may be, `QueueDoesNotExist` where its name was taken out meanwhile, and `OutOfMemory` also where
+/// its thread cannot be started. A refused queue leaves no name. What the queue was when it was opened comes back.
 fn make_queue<R: Wait + Threads + Clock + Copy + Send + Drop + 'static>(
     rt: &R,
     host: &HostRuntime,
@@ -299,13 +312,33 @@ fn make_queue<R: Wait + Threads + Clock + Copy + Send + Drop + 'static>(
     queues: &Arc<Queues<R>>,
     new: NewQueue,
     at: Moment,
-) -> Result<(), Fault> {
+) -> Result<Snapshot<QueueState>, Fault>
+    ensures opened { IfOk result (λ opened. (uid : _) × (opened.value ≡ opened_queue uid new.name new.settings (arc_value queues.now) new.rules.items at)) }
+    ensures errors { IfErr result IsUnmade }
+{
     let uid = queues.enter(rt, alloc, new.name)?;
     let started = start_queue(rt, host, alloc, queues, uid, new, at);
     if started.is_err() {
         queues.remove(rt, uid);
     }
     started
+}
+
+/// A configured queue, as it is to be made under its uid. `OutOfMemory` is the only refusal.
+fn configured(
+    alloc: Global,
+    queue: ConfiguredQueue,
+    alarms: &[ConfiguredAlarm],
+    uid: u64,
+) -> Result<NewQueue, Fault>
+    ensures ok { IfOk result (λ new. (new.name ≡ queue.name) × (new.settings ≡ queue.settings) × (new.rules.items ≡ rules_of alarms.now uid)) }
+    ensures errors { IfErr result (λ fault. fault ≡ OutOfMemory) }
+{
+    Ok(NewQueue {
+        name: queue.name,
+        settings: queue.settings,
+        rules: rules_of(alloc, alarms, uid)?,
+    })
 }
 
 /// Makes the configured queues at a moment, in their order.
@@ -320,11 +353,7 @@ fn make_configured<R: Wait + Threads + Clock + Copy + Send + Drop + 'static>(
     let mut uid = 0u64;
     for queue in config.queues.as_slice() {
         uid = uid.saturating_add(1);
-        let new = NewQueue {
-            name: queue.name,
-            settings: queue.settings,
-            rules: rules_of(alloc, config.alarms.as_slice(), uid)?,
-        };
+        let new = configured(alloc, *queue, config.alarms.as_slice(), uid)?;
         make_queue(rt, host, alloc, queues, new, at)?;
     }
     Ok(())
@@ -358,14 +387,27 @@ pub struct Maker<R: Wait + Drop> {
 }
 
 impl<R: Wait + Threads + Clock + Copy + Send + Drop + 'static> Maker<R> {
+    /// What becomes of an order.
+    fn made(&self, ordered: OrderedQueue) -> Made
+        ensures { IsMadeFor ordered result }
+    {
+        let new = NewQueue {
+            name: ordered.name,
+            settings: ordered.settings,
+            rules: Vec::new(self.alloc),
+        };
+        let at = ordered.at;
+        let outcome = make_queue(&self.rt, &self.host, self.alloc, &self.queues, new, at);
+        Made { outcome }
+    }
+
     /// Makes the queues that are ordered, one after another, until nobody can order any more.
     fn run(self) {
         for _ in self.rt.forever() {
-            let Ok(Order { new, at, made }) = self.orders.recv(&self.rt) else {
+            let Ok(Order { ordered, slot }) = self.orders.recv(&self.rt) else {
                 return;
             };
-            let outcome = make_queue(&self.rt, &self.host, self.alloc, &self.queues, new, at);
-            let _ = made.send(Made { outcome });
+            slot.give(self.made(ordered));
         }
     }
 }

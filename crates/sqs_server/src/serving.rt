@@ -1,6 +1,6 @@
 //! What serves the connections of the ports: the runtimes, the queues and what accepts connections.
 
-ghost use Rattle.std.specs.Prelude.{◌≡◌, ◌⊎◌, IfErr, IfOk, IfSome, min, option_map};
+ghost use Rattle.std.specs.Prelude.{◌≡◌, ◌⊎◌, None, IfErr, IfOk, IfSome, min, option_map};
 ghost use Rattle.std.specs.IoError.{error_kind};
 ghost use Rattle.tokio.specs.Locks.{CanAcquire, owned_permits_wanted};
 ghost use Rattle.sqs_server.specs.Program.{refusal_of_system};
@@ -90,6 +90,7 @@ where
     R: Wait + Clock + RandomSource + AllocGlobal + Copy + Drop,
     M: MakeTask,
     requires { IfSome counted.1 CanAcquire }
+    ensures goes_on { counted.1 ≡ None → patience ≡ None → IfOk result (λ _. ⊥) }
 {
     let (attendance, enough) = counted;
     let timers = runtime.handle().time().clone()?;
@@ -116,6 +117,7 @@ where
 /// The future of so many closed connections.
 fn closings(closed: &Arc<Semaphore>, connections: Option<u64>) -> io::Result<Option<AcquireOwned>>
     ensures fresh { IfOk result (λ enough. IfSome enough CanAcquire) }
+    ensures none { connections ≡ None → IfOk result (λ enough. enough ≡ None) }
     ensures count { IfOk result (λ enough. option_map (λ e. owned_permits_wanted e) enough ≡ option_map (λ n. min n 4294967295) connections) }
 {
     let Some(count) = connections else {
@@ -287,7 +289,9 @@ where
         + 'static,
 {
     /// The same for another thread.
-    fn again(&self) -> io::Result<RequestWorker<R>> {
+    fn again(&self) -> io::Result<RequestWorker<R>>
+        ensures { IfOk result (λ other. other.connections ≡ self.now.connections) }
+    {
         let (Ok(front), Ok(notices)) = (self.front.apart(), self.notices.again()) else {
             return Err(io::ErrorKind::OutOfMemory.into());
         };
@@ -319,7 +323,9 @@ where
     }
 
     /// Lets connections in until enough have closed.
-    fn serve(&self) -> io::Result<()> {
+    fn serve(&self) -> io::Result<()>
+        ensures goes_on { self.now.connections ≡ None → IfOk result (λ _. ⊥) }
+    {
         let mut runtime = LocalRuntime::new(&self.rt)?;
         let listener = self.port.listener(&runtime)?;
         let make = self.request_tasks(&runtime)?;
@@ -401,6 +407,7 @@ where
         + Sync
         + Drop
         + 'static,
+    ensures goes_on { connections ≡ None → IfOk result (λ _. ⊥) }
 {
     let alloc = rt.alloc();
     let Ok(notices) = register.notices() else {
@@ -436,7 +443,8 @@ where
 }
 
 /// Serves the queues of a configuration at two open ports, the one for requests and the one for statistics, until as
-/// many connections have closed at both together as are asked for. What is to be told of requests is told by the register.
+/// many connections have closed at both together as are asked for. What is to be told of requests is told by the
+/// register.
 pub(crate) fn serve<R>(
     rt: &R,
     host: &HostRuntime,
@@ -458,7 +466,8 @@ where
         + Sync
         + Drop
         + 'static,
-    ensures { IfErr result (λ refusal. (refusal ≡ Start OutOfMemory) ⊎ (refusal ≡ Listen)) }
+    ensures errors { IfErr result (λ refusal. (refusal ≡ Start OutOfMemory) ⊎ (refusal ≡ Listen)) }
+    ensures goes_on { connections ≡ None → IfOk result (λ _. ⊥) }
 {
     let Ok(opened) = open_all(rt, host, rt.alloc(), config) else {
         return Err(Refusal::Start(StartFault::OutOfMemory));

@@ -1,9 +1,9 @@
 //! How far a request is.
 
 use crate::arriving::Arriving;
-use crate::queues::{Made, Mailbox, Printer, Queue};
+use crate::order::MadePlace;
+use crate::queues::{Mailbox, Printer, Queue};
 use crate::reply::Sent;
-use futures::channel::oneshot::Receiver;
 use journal::Moment;
 use message::QueueName;
 use queue_actor::{AskFuture, Duties};
@@ -60,7 +60,7 @@ pub enum Stage<R: Wait + Drop> {
     /// A queue was ordered.
     Making {
         creation: Creation,
-        made: Receiver<Made>,
+        made: MadePlace,
     },
     /// A queue is to be asked; one that is not at hand is looked for by its uid.
     Going {
@@ -90,14 +90,14 @@ pub enum Next<R: Wait + Drop> {
 #[derive(Drop)]
 pub enum Polled<R: Wait + Drop> {
     Goes(Next<R>),
-    /// It waits, and the task was registered.
+    /// It waits, and its task is woken by what it waits for, or has asked for another poll.
     Waits(Stage<R>),
 }
 
 /// What becomes of a request that goes on for as long as it need not wait.
 #[derive(Drop)]
 pub enum Halt<R: Wait + Drop> {
-    /// It waits at this stage, and the task was registered.
+    /// It waits at this stage, and its task is woken by what it waits for, or has asked for another poll.
     Waits(Stage<R>),
     /// It has ended.
     Ends(Result<Sent, hyper::Error>),
