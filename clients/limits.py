@@ -1,5 +1,6 @@
 #!/usr/bin/env python3
-"""Shows what becomes of large bodies that come together, of too many queues, of connections that stand still, and of want of memory, by servers of its own.
+"""Shows what becomes of large bodies that come together, of too many queues, of connections that stand still, and of want of memory, and which threads take
+part in a request, by servers of its own.
 
 usage: clients/limits.py [--quick] [PROGRAM]
 
@@ -14,6 +15,7 @@ prints names a check, and the last says 'N passed, M failed'; the status is 1 wh
   - A large body counts until its request is answered. Receives wait whose bodies have 8 MB, or come in chunks, each sent when the one before has come: as many
     are taken as may count at once, and others are turned away. Once those are answered, large bodies are taken again over the same connections.
   - As many queues are created as there may be. One more is refused, leaves no name, and is created once another one was deleted.
+  - Sends and batches over one connection are answered by its thread: no other one is woken for each.
   - A body of which no byte comes any more, and a reply of which none is taken, end their connection between 30 and 45 seconds later. A receive that
     waits for 20 seconds does not: it is answered, and so is what is asked next over its connection.
   - The proved server may have no more than some bytes of addresses beyond those of its start, fewer than a thread takes for large bodies. A request that finds
@@ -46,6 +48,8 @@ WANT = r"\d\d:\d\d:\d\d\.\d{3} \S+ \S+ 500 OutOfMemory\b.*|sqs_server: (accept|c
 QUEUES = 1000
 OVER = (400, '{"__type":"com.amazonaws.sqs#OverLimit","message":"A limit is reached."}')
 ABSENT = (400, '{"__type":"com.amazonaws.sqs#QueueDoesNotExist","message":"The specified queue does not exist."}')
+# How many sends and batches of ten come one after another, and in which part of them a thread has slept that takes part in each.
+SENDS, BATCHES, PARTS = 1000, 200, 0.5
 # How often large bodies come together, and how long no reply has to come until none is waited for, in seconds: where as many wait as may be taken at the most,
 # and where more do.
 ROUNDS, QUIET, LATE = 4, 1, 30
@@ -89,6 +93,14 @@ class Server:
         """Returns how many bytes of addresses it has."""
         with open(f"/proc/{self.process.pid}/statm", encoding="utf-8") as it:
             return int(it.read().split()[0]) * resource.getpagesize()
+
+    def wakings(self):
+        """Returns how often each of its threads has slept, by their numbers."""
+        found = {}
+        for number in os.listdir(f"/proc/{self.process.pid}/task"):
+            with contextlib.suppress(FileNotFoundError), open(f"/proc/{self.process.pid}/task/{number}/status", encoding="utf-8") as it:
+                found[number] = int(re.search(r"(?m)^voluntary_ctxt_switches:\s*(\d+)$", it.read())[1])
+        return found
 
     def told(self):
         """Returns the lines that it has told on standard error."""
@@ -277,6 +289,25 @@ def queues(checks, program):
     checks.see("the server goes on", server.end())
 
 
+def woken(server, it, times, action, **members):
+    """Asks so often over a connection. Returns the statuses, and how many threads have slept about as often meanwhile."""
+    before = server.wakings()
+    statuses = {(ask(it, action, **members) or ["none"])[0] for _ in range(times)}
+    return statuses, sum(slept - before.get(number, 0) >= times * PARTS for number, slept in server.wakings().items())
+
+
+def alone(checks, program):
+    """Which threads take part in a request."""
+    server = Server(program)
+    it = server.connect()
+    statuses, threads = woken(server, it, SENDS, "SendMessage", QueueUrl="jobs", MessageBody="a")
+    checks.see("sends are answered by one thread", statuses == {200} and threads <= 1, (statuses, threads))
+    entries = [{"Id": f"{place}", "MessageBody": "a"} for place in range(10)]
+    statuses, threads = woken(server, it, BATCHES, "SendMessageBatch", QueueUrl="jobs", Entries=entries)
+    checks.see("so are batches of ten", statuses == {200} and threads <= 1, (statuses, threads))
+    checks.see("the server goes on", server.end())
+
+
 def stillness(checks, program):
     """Connections at which nothing happens."""
     server = Server(program)
@@ -363,7 +394,7 @@ def main():
         raise SystemExit("usage: clients/limits.py [--quick] [PROGRAM]")
     program = words[0] if words else subprocess.run([f"{ROOT}/tools/run", "--which", "sqs_server"], stdout=subprocess.PIPE, text=True, check=True).stdout.strip()
     checks = Checks()
-    for part in (bodies, waits, queues, shortage) if is_quick else (bodies, waits, queues, shortage, stillness):
+    for part in (bodies, waits, queues, alone, shortage) if is_quick else (bodies, waits, queues, alone, shortage, stillness):
         try:
             part(checks, program)
         except OSError as error:
