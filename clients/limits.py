@@ -48,8 +48,9 @@ WANT = r"\d\d:\d\d:\d\d\.\d{3} \S+ \S+ 500 OutOfMemory\b.*|sqs_server: (accept|c
 QUEUES = 1000
 OVER = (400, '{"__type":"com.amazonaws.sqs#OverLimit","message":"A limit is reached."}')
 ABSENT = (400, '{"__type":"com.amazonaws.sqs#QueueDoesNotExist","message":"The specified queue does not exist."}')
-# How many sends and batches of ten come one after another, and in which part of them a thread has slept that takes part in each.
-SENDS, BATCHES, PARTS = 1000, 200, 0.5
+# How many sends and batches of ten come one after another, in which part of them a thread has slept that takes part in each, and how often a second at the most
+# one has that looks at the queues ten times a second.
+SENDS, BATCHES, PARTS, LOOKS = 1000, 200, 0.5, 30
 # How often large bodies come together, and how long no reply has to come until none is waited for, in seconds: where as many wait as may be taken at the most,
 # and where more do.
 ROUNDS, QUIET, LATE = 4, 1, 30
@@ -291,9 +292,10 @@ def queues(checks, program):
 
 def woken(server, it, times, action, **members):
     """Asks so often over a connection. Returns the statuses, and how many threads have slept about as often meanwhile."""
-    before = server.wakings()
+    before, begun = server.wakings(), time.monotonic()
     statuses = {(ask(it, action, **members) or ["none"])[0] for _ in range(times)}
-    return statuses, sum(slept - before.get(number, 0) >= times * PARTS for number, slept in server.wakings().items())
+    least = times * PARTS + LOOKS * (time.monotonic() - begun)
+    return statuses, sum(slept - before.get(number, 0) >= least for number, slept in server.wakings().items())
 
 
 def alone(checks, program):
