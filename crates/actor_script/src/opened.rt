@@ -12,9 +12,13 @@ use queue_actor::{Actor, Duties, Envelope, Served};
 use queue_config::{Limits, Settings};
 use queue_core::QueueState;
 use std::alloc::Global;
+use std::snapshot::Snapshot;
 use std::sync::Arc;
 
-/// A desk of a queue that was opened at 0 under a uid and a name, to be shared, and its first pass.
+/// A desk to be shared, its first pass, and its queue as it was opened.
+type Fresh = (Arc<Desk<NoPress>>, Pass<NoPress>, Snapshot<QueueState>);
+
+/// A desk of a queue that was opened at 0 under a uid and a name.
 fn opened(
     rt: &HostRuntime,
     alloc: Global,
@@ -22,17 +26,19 @@ fn opened(
     name: QueueName,
     settings: Settings,
     limits: Limits,
-) -> Result<(Arc<Desk<NoPress>>, Pass<NoPress>), Fault>
+) -> Result<Fresh, Fault>
     ensures desk { IfOk result (λ r. r.1.desk ≡ arc_value r.0) }
+    ensures start { IfOk result (λ r. r.2.value ≡ r.1.start) }
     ensures queue { IfOk result (λ r. (r.1.start.uid ≡ uid) × (r.1.start.name ≡ name) × (r.1.start.limits ≡ limits)) }
 {
     let rules = Vec::new(alloc);
     let state = QueueState::open(alloc, uid, name, settings, limits, rules, Moment::zero())?;
+    let start = Snapshot::of(&state);
     let (desk, pass) = Desk::new(rt, alloc, state, NoPress)?;
-    Ok((Arc::new(alloc, desk)?, pass))
+    Ok((Arc::new(alloc, desk)?, pass, start))
 }
 
-/// A queue that is served under a uid and a name, and its actor's place.
+/// A queue that is served under a uid and a name, as it was opened, and its actor's place.
 pub(crate) fn served(
     rt: &HostRuntime,
     alloc: Global,
@@ -40,13 +46,15 @@ pub(crate) fn served(
     name: QueueName,
     settings: Settings,
     limits: Limits,
-) -> Result<(Client, Place), Fault> {
+) -> Result<(Client, Snapshot<QueueState>, Place), Fault>
+    ensures { IfOk result (λ r. r.1.value ≡ r.0.pass.start) }
+{
     let (mailbox, mails) = unbounded::<Envelope<NoPress>, Global>(alloc)?;
-    let (desk, mut pass) = opened(rt, alloc, uid, name, settings, limits)?;
+    let (desk, mut pass, start) = opened(rt, alloc, uid, name, settings, limits)?;
     let own = desk.pass(&mut pass);
     let duties = Arc::new(alloc, Duties::new())?;
     let shared = Arc::try_clone(&duties)?;
     let actor = Actor::new(Arc::try_clone(&desk)?, own, uid, limits, shared);
     let queue = Served::new(uid, name, desk, pass, mailbox, duties);
-    Ok((queue, (actor, mails)))
+    Ok((queue, start, (actor, mails)))
 }

@@ -234,9 +234,9 @@ impl Stage {
         let limits = limits(words)?;
         let uid = self.entered(rt, name)?;
         let (settings, target) = settings(alloc, words)?;
-        let (client, place) = served(&self.host, alloc, uid, name, settings, limits)?;
+        let (client, start, place) = served(&self.host, alloc, uid, name, settings, limits)?;
         self.places.push(place)?;
-        self.directory.serve(rt, alloc, client, target)?;
+        self.directory.serve(rt, alloc, client, target, start)?;
         Ok(uid)
     }
 
@@ -345,11 +345,14 @@ impl Stage {
         }
     }
 
-    /// Removes a queue, and serves it after that.
+    /// Removes a queue, and serves a fresh one under its uid and its name after that.
     fn serve_late<R: Wait>(&self, rt: &R, uid: &str) -> Result<u64, Fault> {
-        let client = self.client(rt, uid)?;
-        self.directory.remove(rt, client.uid);
-        self.directory.serve(rt, self.host.alloc(), client, 0)?;
+        let alloc = self.host.alloc();
+        let Served { uid, name, .. } = self.client(rt, uid)?;
+        let (settings, limits) = (Settings::default(), Limits::default());
+        let (client, start, _place) = served(&self.host, alloc, uid, name, settings, limits)?;
+        self.directory.remove(rt, uid);
+        self.directory.serve(rt, alloc, client, 0, start)?;
         Ok(1)
     }
 

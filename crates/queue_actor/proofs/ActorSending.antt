@@ -3,6 +3,7 @@ use denote.RattleType.{RattleType}
 use denote.Param.Send.{IsSend, IsSync, sendable}
 use denote.Struct.Field.{unit-field}
 use Rattle.std.proofs.Crossing.{crosses}
+use Rattle.std.proofs.sync.OnceLock.TheSendSync as once
 use Rattle.redrive.specs.contracts.catalog.Catalog as catalog
 use Rattle.board.proofs.Sending.{reader_send}
 use Rattle.desk.specs.contracts.desk.Desk as desk
@@ -16,13 +17,26 @@ use Rattle.queue_actor.specs.contracts.directory.Served as served
 use Rattle.queue_actor.specs.contracts.directory.DirectoryEntries as entries
 use Rattle.queue_actor.specs.contracts.directory.Directory as directory
 use Rattle.queue_actor.specs.contracts.directory.Directory.TheInside as inside
+use Rattle.queue_actor.specs.contracts.duties.Duties as duties
+use Rattle.queue_actor.specs.contracts.mark.ServedMark as mark
 use Rattle.queue_actor.specs.contracts.readers.Shown as shown
 use Rattle.queue_actor.specs.contracts.readers.Readers as readers
 use Rattle.queue_actor.proofs.Sending.{envelope_sends}
-use Rattle.queue_actor.proofs.duties.Duties.TheSendSync as duties
 
 catalog_send : IsSend catalog.the_row
 catalog_send = search (sendable, crosses) depth 40 fits 100000
+
+pub duties_send : IsSend duties.the_row
+duties_send = search (once.the_send, sendable, crosses) depth 40 fits 100000
+
+pub duties_sync : IsSync duties.the_row
+duties_sync = search (once.the_sync, sendable, crosses) depth 40 fits 100000
+
+pub mark_send : IsSend mark.the_row
+mark_send = search (sendable, crosses) depth 40 fits 100000
+
+pub mark_sync : IsSync mark.the_row
+mark_sync = search (sendable, crosses) depth 40 fits 100000
 
 shown_send : IsSend shown.the_row
 shown_send = search (reader_send, sendable, crosses) depth 40 fits 100000
@@ -41,12 +55,12 @@ module _ (P T : RattleType) (g : Ghosts P.Denot T.Denot) (sent : IsSend P) where
   pass_own_send = pass_sends P T g sent
 
   pub actor_sends : IsSend (actor.the_row P T g)
-  actor_sends = search (desk_arc_send, desk_arc_sync, pass_own_send, duties.the_send, duties.the_sync, sendable, crosses) depth 40 fits 100000
+  actor_sends = search (desk_arc_send, desk_arc_sync, pass_own_send, duties_send, duties_sync, sendable, crosses) depth 40 fits 100000
 
   pub served_sends : IsSend (served.the_row P T g)
   served_sends =
       let letter = envelope_sends P T g sent in
-      search (desk_arc_send, desk_arc_sync, pass_own_send, duties.the_send, duties.the_sync, sendable, crosses) depth 40 fits 100000
+      search (desk_arc_send, desk_arc_sync, pass_own_send, duties_send, duties_sync, sendable, crosses) depth 40 fits 100000
 
   entries_sends : IsSend (entries.the_row P T g)
   entries_sends = search (served_sends, catalog_send, sendable, crosses) depth 40 fits 100000

@@ -19,6 +19,7 @@ use crate::answer::Answer;
 use crate::deadline::tell;
 use crate::duties::Duties;
 use crate::envelope::Envelope;
+use crate::mark::ServedMark;
 use crate::outbox::Outbox;
 use crate::readers::{Readers, Shown};
 use board::Sheet;
@@ -27,10 +28,11 @@ use desk::{Desk, Gate, NoGate, Pass, Press};
 use journal::Moment;
 use message::{Fault, QueueName};
 use queue_config::Limits;
-use queue_core::Command;
+use queue_core::{Command, QueueState};
 use redrive::{Catalog, Keys, in_order};
 use std::alloc::Global;
 use std::marker::Model;
+use std::snapshot::Snapshot;
 use std::sync::{Arc, Mutex, Wait};
 
 /// A queue that is served: its uid and its name, its desk, a pass of that desk, and the mailbox and the duties of
@@ -164,9 +166,9 @@ impl<P: Press> Served<P> {
 
 /// What lies under the directory's lock: the names, and the queues that are served, each once and under the name to which its uid belongs.
 #[derive(Drop)]
-struct DirectoryEntries<P: Press> {
+pub(crate) struct DirectoryEntries<P: Press> {
     catalog: Catalog,
-    served: Vec<Served<P>>,
+    pub(crate) served: Vec<Served<P>>,
     /// The uids and names of those that are served, by which their places are found.
     keys: Keys,
     ghost uids: { keys.uids ≡ map (λ queue. queue.uid) served.items },
@@ -255,9 +257,18 @@ impl<P: Press> DirectoryEntries<P> {
         }
     }
 
-    /// Adds a queue under the name to which its uid belongs, and gives it its target. It is `QueueNameExists` where one is
-    /// served under that uid or name, and `QueueDoesNotExist` where the name does not belong to the uid.
-    fn serve(&mut self, alloc: Global, queue: Served<P>, target: u64) -> Result<(), Fault>
+    /// Adds a queue that was opened as the snapshot says, under the name to which its uid belongs, and gives it its target.
+    /// It is `QueueNameExists` where one is served under that uid or name, and `QueueDoesNotExist` where the name does not
+    /// belong to the uid.
+    fn serve(
+        &mut self,
+        alloc: Global,
+        queue: Served<P>,
+        target: u64,
+        opened: Snapshot<QueueState>,
+    ) -> Result<ServedMark, Fault>
+        requires opened { opened.value ≡ queue.pass.start }
+        ensures mark { IfOk result (λ mark. mark ≡ queue.pass.start) }
         ensures ok { OnOk result (self.new.served.items ≡ self.old.served.items ++ queue ∷ []) }
         ensures target { OnOk result (self.new.catalog ≡ with_target self.old.catalog queue.uid target) }
         ensures named { OnOk result (uid_of_name self.old.catalog queue.name ≡ Some queue.uid) }
@@ -279,7 +290,7 @@ impl<P: Press> DirectoryEntries<P> {
         queue.duties.set_target(target);
         self.keys.push(queue.uid, queue.name);
         self.served.push_reserved(queue);
-        Ok(())
+        Ok(ServedMark::of(self, opened))
     }
 
     /// Gives the queue of a uid another target. The answer is whether it was there.
@@ -379,18 +390,22 @@ impl<P: Press> Directory<P> {
     }
 
     /// Adds the queue of a uid that was entered, under the name that was entered with it, and gives it its target, 0 for
-    /// none. It is `QueueDoesNotExist` where the uid was taken out meanwhile or its name is another, and
-    /// `QueueNameExists` where a queue of that uid or name is served already. A refused queue is dropped, and its name stays.
+    /// none. The snapshot is of the queue as it was opened. It is `QueueDoesNotExist` where the uid was taken out
+    /// meanwhile or its name is another, and `QueueNameExists` where a queue of that uid or name is served already. A
+    /// refused queue is dropped, and its name stays.
     pub fn serve<R: Wait>(
         &self,
         rt: &R,
         alloc: Global,
         queue: Served<P>,
         target: u64,
-    ) -> Result<(), Fault>
+        opened: Snapshot<QueueState>,
+    ) -> Result<ServedMark, Fault>
+        requires opened { opened.value ≡ queue.pass.start }
+        ensures mark { IfOk result (λ mark. mark ≡ queue.pass.start) }
         ensures errors { IfErr result (λ fault. (fault ≡ QueueDoesNotExist) ⊎ (fault ≡ QueueNameExists) ⊎ (fault ≡ OutOfMemory)) }
     {
-        self.entries.lock(rt).serve(alloc, queue, target)
+        self.entries.lock(rt).serve(alloc, queue, target, opened)
     }
 
     /// The uid of a name.

@@ -12,8 +12,8 @@
 //! - [`Actor`]: serves the mails of one queue, keeps polls that wait, and moves the queue's dead letters.
 //! - [`Inbox`]: where its mail comes from, and where its answers go.
 //! - [`Targets`]: the queues that dead letters are for, and [`Delivery`], what became of one there.
-//! - [`Directory`]: which queues there are, and where each is served; [`Served`] is one of them, and [`Shown`] the
-//!   reader of one's statistics.
+//! - [`Directory`]: which queues there are, and where each is served; [`Served`] is one of them, [`ServedMark`] shows that
+//!   one was added, and [`Shown`] is the reader of one's statistics.
 //! - [`deadline_loop`]: tells the queues the time.
 //!
 //! `Answered` in `specs/` has the words for answers. An answer's pass is of its desk, and its last call has
@@ -35,6 +35,7 @@ mod fault;
 mod future;
 mod inbox;
 mod mail;
+mod mark;
 mod now;
 mod outbox;
 mod parcels;
@@ -53,6 +54,7 @@ pub use fault::AskFault;
 pub use future::AskFuture;
 pub use inbox::Inbox;
 pub use mail::{Ask, Mail};
+pub use mark::ServedMark;
 pub use now::{Unasked, ask_now, is_for_actor};
 pub use outbox::Outbox;
 pub use parcels::{Delivery, Targets};

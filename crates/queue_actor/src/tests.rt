@@ -14,6 +14,7 @@ use message::{Fault, QueueName};
 use queue_config::{Limits, Settings};
 use queue_core::{Command, Maximum, QueueState, Reply};
 use std::alloc::Global;
+use std::snapshot::Snapshot;
 use std::sync::{Arc, Wait};
 use std::test::Fail;
 
@@ -26,39 +27,46 @@ type Client = Served<NoPress>;
 /// The actor of a queue that is served, and what it takes its mail from.
 type Place = (Actor<NoPress>, Receiver<Envelope<NoPress>>);
 
-/// A desk of a queue that was opened at 0 under a uid and a name, to be shared, and its first pass.
+/// A desk to be shared, its first pass, and its queue as it was opened.
+type Fresh = (Arc<Desk<NoPress>>, Pass<NoPress>, Snapshot<QueueState>);
+
+/// A desk of a queue that was opened at 0 under a uid and a name.
 fn opened(
     rt: &HostRuntime,
     alloc: Global,
     uid: u64,
     name: QueueName,
     limits: Limits,
-) -> Result<(Arc<Desk<NoPress>>, Pass<NoPress>), Fault>
+) -> Result<Fresh, Fault>
     ensures desk { IfOk result (λ r. r.1.desk ≡ arc_value r.0) }
+    ensures start { IfOk result (λ r. r.2.value ≡ r.1.start) }
     ensures queue { IfOk result (λ r. (r.1.start.uid ≡ uid) × (r.1.start.name ≡ name) × (r.1.start.limits ≡ limits)) }
 {
     let (settings, rules) = (Settings::default(), Vec::new(alloc));
     let state = QueueState::open(alloc, uid, name, settings, limits, rules, Moment::zero())?;
+    let start = Snapshot::of(&state);
     let (desk, pass) = Desk::new(rt, alloc, state, NoPress)?;
-    Ok((Arc::new(alloc, desk)?, pass))
+    Ok((Arc::new(alloc, desk)?, pass, start))
 }
 
-/// A queue that is served under a uid and a name, and its actor's place.
+/// A queue that is served under a uid and a name, as it was opened, and its actor's place.
 fn served(
     rt: &HostRuntime,
     alloc: Global,
     uid: u64,
     name: QueueName,
     limits: Limits,
-) -> Result<(Client, Place), Fault> {
+) -> Result<(Client, Snapshot<QueueState>, Place), Fault>
+    ensures { IfOk result (λ r. r.1.value ≡ r.0.pass.start) }
+{
     let (mailbox, mails) = unbounded::<Envelope<NoPress>, Global>(alloc)?;
-    let (desk, mut pass) = opened(rt, alloc, uid, name, limits)?;
+    let (desk, mut pass, start) = opened(rt, alloc, uid, name, limits)?;
     let own = desk.pass(&mut pass);
     let duties = Arc::new(alloc, Duties::new())?;
     let shared = Arc::try_clone(&duties)?;
     let actor = Actor::new(Arc::try_clone(&desk)?, own, uid, limits, shared);
     let queue = Served::new(uid, name, desk, pass, mailbox, duties);
-    Ok((queue, (actor, mails)))
+    Ok((queue, start, (actor, mails)))
 }
 
 /// Puts an ask for the queue of a uid at 0, which may wait until a moment.
@@ -134,8 +142,8 @@ fn has_waited(answer: &Answer<NoPress>) -> Result<bool, Fault> {
 fn entered<R: Wait>(rt: &R, host: &HostRuntime, queues: &Shared) -> Result<Place, Fault> {
     let (alloc, name) = (host.alloc(), QueueName::read("jobs")?);
     let uid = queues.enter(rt, alloc, name)?;
-    let (client, place) = served(host, alloc, uid, name, Limits::default())?;
-    queues.serve(rt, alloc, client, 0)?;
+    let (client, start, place) = served(host, alloc, uid, name, Limits::default())?;
+    queues.serve(rt, alloc, client, 0, start)?;
     Ok(place)
 }
 

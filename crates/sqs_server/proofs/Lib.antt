@@ -1,4 +1,5 @@
 pub mod BodyLemmas
+pub mod ConfiguredLemmas
 pub mod CountLemmas
 pub mod OrderLemmas
 pub mod ServerSending

@@ -1,11 +1,9 @@
 -- What goes between the threads of the server, whose desks print on boards. Each type by the types of its fields, so that no search goes through all of them.
 use denote.RattleType.{RattleType}
-use denote.Param.Send.{IsSend, IsSync, sendable, struct_send, enum_send, recorded_send}
+use denote.Param.Send.{IsSend, IsSync, sendable, struct_send, recorded_send}
 use denote.Struct.Declared as parts
-use denote.Struct.Field.{unit-field}
 use Rattle.std.proofs.Crossing.{crosses}
 use Rattle.std.proofs.alloc.Global.TheSendSync as global
-use Rattle.std.proofs.sync.OnceLock.TheSendSync as once
 use Rattle.crossbeam_channel.proofs.channel.Receiver.TheSendSync as channel
 use Rattle.board.proofs.Sending.{publisher_send}
 use Rattle.board.specs.contracts.publisher.Publisher as publisher
@@ -15,23 +13,13 @@ use Rattle.desk.proofs.Sending.{pass_sends, desk_sends, desk_syncs}
 use Rattle.desk.specs.contracts.desk.Desk as desk
 use Rattle.desk.specs.contracts.pass.Pass as pass
 use Rattle.desk.specs.declared.printing.Press.{Ghosts}
-use Rattle.futures.specs.contracts.future.made.ready.Ready as ready
 use Rattle.counted_slot.proofs.Counted.TheSendSync as counted
-use Rattle.queue_actor.proofs.Sending.{future_sends, envelope_sends, inner_send, inner_sync}
-use Rattle.queue_actor.proofs.ActorSending.{directory_sends, directory_syncs}
+use Rattle.queue_actor.proofs.Sending.{envelope_sends, inner_send, inner_sync}
+use Rattle.queue_actor.proofs.ActorSending.{duties_send, duties_sync, mark_send, mark_sync, directory_sends, directory_syncs}
 use Rattle.queue_actor.specs.contracts.actor.Actor as actor
 use Rattle.queue_actor.specs.contracts.directory.Directory as directory
-use Rattle.queue_actor.specs.contracts.duties.Duties as duties
-use Rattle.queue_actor.specs.contracts.future.AskFuture as future
 use Rattle.queue_actor.specs.contracts.envelope.Envelope as envelope
-use Rattle.bytes.proofs.shared.Bytes.TheSendSync as bytes
-use Rattle.http.specs.contracts.response.Response as response
-use Rattle.http_body_util.proofs.full.Full.TheSendSync as full
-use Rattle.hyper.specs.contracts.error.Error as error
-use Rattle.std.specs.contracts.result.Result as result
 use Rattle.std.specs.declared.sync.Wait as wait
-use Rattle.tokio.specs.contracts.net.stream.TcpStream as stream
-use Rattle.sqs_server.proofs.arriving.Arriving.TheSendSync as arriving
 use Rattle.sqs_server.proofs.attendance.Attendance.TheSendSync as attendance
 use Rattle.sqs_server.proofs.bodies.Bodies.TheSendSync as bodies
 use Rattle.sqs_server.proofs.notices.Notices.TheSendSync as notices
@@ -46,21 +34,13 @@ use Rattle.sqs_server.specs.contracts.queues.Maker as maker
 use Rattle.sqs_server.specs.contracts.queues.Serving as serving
 use Rattle.sqs_server.specs.contracts.serving.StatisticsWorker as statistics_worker
 use Rattle.sqs_server.specs.contracts.serving.RequestWorker as request_worker
-use Rattle.sqs_server.specs.contracts.stage.Stage as stage
-
--- what an actor has to do
-duties_send : IsSend duties.the_row
-duties_send = search (once.the_send, once.the_sync, sendable, crosses) depth 40 fits 100000
-
-duties_sync : IsSync duties.the_row
-duties_sync = search (once.the_send, once.the_sync, sendable, crosses) depth 40 fits 100000
 
 -- what is ordered, and what becomes of it
 made_send : IsSend made.the_row
-made_send = search (sendable, crosses) depth 40 fits 100000
+made_send = search (mark_send, sendable, crosses) depth 40 fits 100000
 
 made_sync : IsSync made.the_row
-made_sync = search (sendable, crosses) depth 40 fits 100000
+made_sync = search (mark_sync, sendable, crosses) depth 40 fits 100000
 
 slot_send : IsSend slot.the_row
 slot_send = search (made_send, made_sync, inner_send, inner_sync, counted.the_send, counted.the_sync, sendable, crosses) depth 40 fits 100000
@@ -90,9 +70,6 @@ module _ (T : RattleType) (w : wait.Ghosts T.Denot) (s : IsSend T) where
 
   envelope_send : IsSend (envelope.the_row Prints told.the_row g)
   envelope_send = envelope_sends Prints told.the_row g prints_send
-
-  future_send : IsSend (future.the_row Prints told.the_row g)
-  future_send = future_sends Prints told.the_row g prints_send
 
   -- part by part, as a field of what goes with it
   actor_field_send : IsSend (actor.the_field Prints told.the_row g).row

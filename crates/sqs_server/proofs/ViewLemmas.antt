@@ -1,5 +1,5 @@
 -- What is told at the port of the statistics.
-use Rattle.std.proofs.Common.{Option, Result, Ok, Err, IfErr, Bor, ◌≡◌, ◌≢◌, ◌⊎◌, ℕ, subst, ◌==◌, Bool, true, false, List, [], ◌∷◌, inl, inr, refl, ap, sym, ◌∙◌, arith}
+use Rattle.std.proofs.Common.{Option, Result, Ok, Err, IfErr, Bor, ◌≡◌, ◌≢◌, ◌⊎◌, ℕ, ◌==◌, Bool, true, false, List, inl, inr, refl, ap, sym, ◌∙◌, arith}
 use Rattle.std.specs.Bool.{Decides}
 use Rattle.std.specs.Cmp.{unsigned_Decides}
 use Rattle.board.specs.Sheet.{Sheet}

@@ -3,6 +3,7 @@ pub mod Head
 pub mod Sent
 pub mod Times
 pub mod Turns
+pub mod Configured
 pub mod Orders
 pub mod Stages
 pub mod Responses

@@ -24,9 +24,9 @@ IsUnmade fault = (fault ≡ QueueNameExists) ⊎ ((fault ≡ OverLimit) ⊎ ((fa
 abbrev pub IsOpenedFor : OrderedQueue → QueueHistory → Type 0
 IsOpenedFor ordered queue = (uid : ℕ) × (limits : QueueLimits) × (queue ≡ opened_queue uid ordered.name ordered.settings limits [] ordered.at)
 
--- what may become of an order
+-- what may become of an order; that the queue was added to a directory its mark shows
 abbrev pub IsMadeFor : OrderedQueue → Made → Type 0
-IsMadeFor ordered made = IfErr made.outcome IsUnmade × IfOk made.outcome (λ opened. IsOpenedFor ordered opened.value)
+IsMadeFor ordered made = IfErr made.outcome IsUnmade × IfOk made.outcome (λ opened. IsOpenedFor ordered opened)
 
 -- what contracts see of where it is told: the order, and the source of the place where it is awaited
 pub record AwaitedQueue : Type 0 where

@@ -10,11 +10,10 @@ use futures::channel::oneshot;
 use futures::channel::oneshot::{Receiver, Sender};
 use journal::Moment;
 use message::{Fault, QueueName};
+use queue_actor::ServedMark;
 use queue_config::Settings;
-use queue_core::QueueState;
 use std::alloc::{AllocError, Global};
 use std::marker::Model;
-use std::snapshot::Snapshot;
 use std::sync::Arc;
 
 /// A queue that is to be there: its name, its settings, and the moment of the request.
@@ -25,10 +24,10 @@ pub struct OrderedQueue {
     pub at: Moment,
 }
 
-/// What became of an order: the queue as it was opened, which takes no bytes, or why there is none.
+/// What became of an order: the mark of its queue, which was added to those that are served, or why there is none.
 #[derive(Drop)]
 pub struct Made {
-    pub outcome: Result<Snapshot<QueueState>, Fault>,
+    pub outcome: Result<ServedMark, Fault>,
 }
 
 /// It fits a place that was made for its order.

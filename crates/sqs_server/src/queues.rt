@@ -9,6 +9,7 @@ ghost use Rattle.desk.specs.Views.{first_pass};
 ghost use Rattle.message.specs.declared.fault.Fault.TheVariants.{OutOfMemory};
 ghost use Rattle.queue_config.specs.Config.{rules_of};
 ghost use Rattle.queue_core.specs.Kept.{opened_queue};
+ghost use Rattle.sqs_server.specs.Configured.{AreOpenedInOrder};
 ghost use Rattle.sqs_server.specs.Orders.{IsMadeFor, IsUnmade};
 
 use crate::clock::Day;
@@ -19,7 +20,8 @@ use desk::{Desk, NoGate, Pass};
 use journal::Moment;
 use message::{Fault, QueueName};
 use queue_actor::{
-    Actor, Beat, Directory, Duties, Envelope, Served, Shown, TICK_MILLISECONDS, deadline_loop,
+    Actor, Beat, Directory, Duties, Envelope, Served, ServedMark, Shown, TICK_MILLISECONDS,
+    deadline_loop,
 };
 use queue_config::{
     AlarmRule, Config, ConfiguredAlarm, ConfiguredQueue, Limits, Settings, rules_of,
@@ -125,12 +127,14 @@ struct NewQueue {
     rules: Vec<AlarmRule>,
 }
 
-/// The queues that are served, where more of them are ordered, and the time of day that they are told.
+/// The queues that are served, where more of them are ordered, the time of day that they are told, and the marks of the
+/// configured ones, in the order of the configuration.
 #[derive(Drop)]
 pub struct Opened<R: Wait + Drop> {
     pub queues: Arc<Queues<R>>,
     pub orders: Sender<Order>,
     pub day: Arc<Day>,
+    pub marks: Vec<ServedMark>,
 }
 
 /// The uid of the dead-letter queue that settings name, 0 for none.
@@ -263,7 +267,37 @@ fn open_desk<R: Wait + Copy + Drop>(
     })
 }
 
-/// Opens a queue at a moment under a uid that was entered, and serves it. What it was when it was opened comes back.
+/// What an actor and those who ask it are given beside its desk: both ends of its mailbox, its duties twice, and the
+/// directory.
+#[derive(Drop)]
+struct ActorParts<R: Wait + Drop> {
+    mailbox: Mailbox<R>,
+    mails: Receiver<Envelope<Printer<R>>>,
+    duties: Arc<Duties>,
+    shared: Arc<Duties>,
+    queues: Arc<Queues<R>>,
+}
+
+/// An empty mailbox, duties that are none yet, and the directory once more. `OutOfMemory` is the only refusal.
+fn actor_parts<R: Wait + Drop>(
+    alloc: Global,
+    queues: &Arc<Queues<R>>,
+) -> Result<ActorParts<R>, Fault>
+    ensures errors { IfErr result (λ fault. fault ≡ OutOfMemory) }
+{
+    let (mailbox, mails) = unbounded::<Envelope<Printer<R>>, Global>(alloc)?;
+    let duties = Arc::new(alloc, Duties::new())?;
+    let shared = Arc::try_clone(&duties)?;
+    Ok(ActorParts {
+        mailbox,
+        mails,
+        duties,
+        shared,
+        queues: Arc::try_clone(queues)?,
+    })
+}
+
+/// Opens a queue at a moment under a uid that was entered, and serves it. Its mark comes back.
 #[tactic(auto, using(crate::proofs::OrderLemmas::memory_unmade))]
 fn start_queue<R: Wait + Threads + Clock + Copy + Send + Drop + 'static>(
     rt: &R,
@@ -273,13 +307,20 @@ fn start_queue<R: Wait + Threads + Clock + Copy + Send + Drop + 'static>(
     uid: u64,
     new: NewQueue,
     at: Moment,
-) -> Result<Snapshot<QueueState>, Fault>
-    ensures opened { IfOk result (λ opened. opened.value ≡ opened_queue uid new.name new.settings (arc_value queues.now) new.rules.items at) }
+) -> Result<ServedMark, Fault>
+    ensures opened { IfOk result (λ opened. opened ≡ opened_queue uid new.name new.settings (arc_value queues.now) new.rules.items at) }
     ensures errors { IfErr result IsUnmade }
 {
     let name = new.name;
     let target = target_of(&new.settings);
     let limits = queues.limits();
+    let ActorParts {
+        mailbox,
+        mails,
+        duties,
+        shared,
+        queues: others,
+    } = actor_parts(alloc, queues)?;
     let OpenDesk {
         desk,
         mut pass,
@@ -289,22 +330,17 @@ fn start_queue<R: Wait + Threads + Clock + Copy + Send + Drop + 'static>(
     } = open_desk(rt, host, alloc, uid, new, limits, at)?;
     let own = desk.pass(&mut pass);
     let desk = Arc::new(alloc, desk)?;
-    let (mailbox, mails) = unbounded::<Envelope<Printer<R>>, Global>(alloc)?;
-    let duties = Arc::new(alloc, Duties::new())?;
-    let shared = Arc::try_clone(&duties)?;
     let asked = Arc::try_clone(&desk)?;
-    let others = Arc::try_clone(queues)?;
     let actor = Actor::new(asked, own, uid, limits, shared);
     start_actor(rt, alloc, actor, mails, others)?;
     queues.show(rt, Shown::new(uid, name, reader, shown))?;
     let queue = Served::new(uid, name, desk, pass, mailbox, duties);
-    queues.serve(rt, alloc, queue, target)?;
-    Ok(opened)
+    Ok(queues.serve(rt, alloc, queue, target, opened)?)
 }
 
 /// Makes a queue at a moment. `QueueNameExists` where its name is there, `OverLimit` where there are as
 /// many queues as there may be, `QueueDoesNotExist` where its name was taken out meanwhile, and `OutOfMemory` also where
-/// its thread cannot be started. A refused queue leaves no name. What the queue was when it was opened comes back.
+/// its thread cannot be started. A refused queue leaves no name. The mark of one that is served comes back.
 fn make_queue<R: Wait + Threads + Clock + Copy + Send + Drop + 'static>(
     rt: &R,
     host: &HostRuntime,
@@ -312,8 +348,8 @@ fn make_queue<R: Wait + Threads + Clock + Copy + Send + Drop + 'static>(
     queues: &Arc<Queues<R>>,
     new: NewQueue,
     at: Moment,
-) -> Result<Snapshot<QueueState>, Fault>
-    ensures opened { IfOk result (λ opened. (uid : _) × (opened.value ≡ opened_queue uid new.name new.settings (arc_value queues.now) new.rules.items at)) }
+) -> Result<ServedMark, Fault>
+    ensures opened { IfOk result (λ opened. (uid : _) × (opened ≡ opened_queue uid new.name new.settings (arc_value queues.now) new.rules.items at)) }
     ensures errors { IfErr result IsUnmade }
 {
     let uid = queues.enter(rt, alloc, new.name)?;
@@ -324,24 +360,24 @@ fn make_queue<R: Wait + Threads + Clock + Copy + Send + Drop + 'static>(
     started
 }
 
-/// A configured queue, as it is to be made under its uid. `OutOfMemory` is the only refusal.
+/// A configured queue, as it is to be made at its place, counted from 1. `OutOfMemory` is the only refusal.
 fn configured(
     alloc: Global,
     queue: ConfiguredQueue,
     alarms: &[ConfiguredAlarm],
-    uid: u64,
+    place: u64,
 ) -> Result<NewQueue, Fault>
-    ensures ok { IfOk result (λ new. (new.name ≡ queue.name) × (new.settings ≡ queue.settings) × (new.rules.items ≡ rules_of alarms.now uid)) }
+    ensures ok { IfOk result (λ new. (new.name ≡ queue.name) × (new.settings ≡ queue.settings) × (new.rules.items ≡ rules_of alarms.now place)) }
     ensures errors { IfErr result (λ fault. fault ≡ OutOfMemory) }
 {
     Ok(NewQueue {
         name: queue.name,
         settings: queue.settings,
-        rules: rules_of(alloc, alarms, uid)?,
+        rules: rules_of(alloc, alarms, place)?,
     })
 }
 
-/// Makes the configured queues at a moment, in their order.
+/// Makes the configured queues at a moment, in their order. Their marks come back.
 fn make_configured<R: Wait + Threads + Clock + Copy + Send + Drop + 'static>(
     rt: &R,
     host: &HostRuntime,
@@ -349,14 +385,17 @@ fn make_configured<R: Wait + Threads + Clock + Copy + Send + Drop + 'static>(
     queues: &Arc<Queues<R>>,
     config: &Config,
     at: Moment,
-) -> Result<(), Fault> {
-    let mut uid = 0u64;
+) -> Result<Vec<ServedMark>, Fault>
+    ensures served { IfOk result (λ marks. AreOpenedInOrder config.now (arc_value queues.now) at marks.items) }
+{
+    let mut marks = Vec::new(alloc);
+    let mut place = 0u64;
     for queue in config.queues.as_slice() {
-        uid = uid.saturating_add(1);
-        let new = configured(alloc, *queue, config.alarms.as_slice(), uid)?;
-        make_queue(rt, host, alloc, queues, new, at)?;
+        place += 1;
+        let new = configured(alloc, *queue, config.alarms.as_slice(), place)?;
+        marks.push(make_queue(rt, host, alloc, queues, new, at)?)?;
     }
-    Ok(())
+    Ok(marks)
 }
 
 /// Starts the thread that tells the queues the time.
@@ -439,10 +478,12 @@ pub(crate) fn open_all<R: Wait + Threads + Clock + Copy + Send + Drop + 'static>
     host: &HostRuntime,
     alloc: Global,
     config: &Config,
-) -> Result<Opened<R>, Fault> {
+) -> Result<Opened<R>, Fault>
+    ensures served { IfOk result (λ opened. (at : _) × AreOpenedInOrder config.now config.now.limits at opened.marks.items) }
+{
     let day = Arc::new(alloc, Day::new())?;
     let queues = Arc::new(alloc, Directory::new(alloc, config.limits)?)?;
-    make_configured(rt, host, alloc, &queues, config, day.moment(rt))?;
+    let marks = make_configured(rt, host, alloc, &queues, config, day.moment(rt))?;
     start_clock(rt, alloc, Arc::try_clone(&queues)?, Arc::try_clone(&day)?)?;
     let (orders, ordered) = unbounded::<Order, Global>(alloc)?;
     start_maker(rt, host, alloc, Arc::try_clone(&queues)?, ordered)?;
@@ -450,5 +491,6 @@ pub(crate) fn open_all<R: Wait + Threads + Clock + Copy + Send + Drop + 'static>
         queues,
         orders,
         day,
+        marks,
     })
 }

@@ -3,6 +3,7 @@
 ghost use Rattle.std.specs.Prelude.{◌≡◌, ◌⊎◌, None, IfErr, IfOk, IfSome, min, option_map};
 ghost use Rattle.std.specs.IoError.{error_kind};
 ghost use Rattle.tokio.specs.Locks.{CanAcquire, owned_permits_wanted};
+ghost use Rattle.sqs_server.specs.Configured.{AreOpenedInOrder};
 ghost use Rattle.sqs_server.specs.Program.{refusal_of_system};
 ghost use Rattle.startup.specs.declared.ending.StartFault.TheVariants.{OutOfMemory};
 ghost use Rattle.sqs_server.specs.declared.arguments.Refusal.TheVariants.{Listen, Start};
@@ -387,10 +388,11 @@ pub struct Ports {
     pub workers: usize,
 }
 
-/// Lets connections in that are answered over HTTP/1.1, at both ports.
+/// Lets connections in that are answered over HTTP/1.1, at both ports, to the queues of a configuration.
 fn serve_ports<R>(
     rt: &R,
     ports: Ports,
+    _config: &Config,
     opened: Opened<R>,
     register: Register,
     connections: Option<u64>,
@@ -407,6 +409,7 @@ where
         + Sync
         + Drop
         + 'static,
+    requires marks { (at : _) × AreOpenedInOrder _config.now _config.now.limits at opened.marks.items }
     ensures goes_on { connections ≡ None → IfOk result (λ _. ⊥) }
 {
     let alloc = rt.alloc();
@@ -472,7 +475,7 @@ where
     let Ok(opened) = open_all(rt, host, rt.alloc(), config) else {
         return Err(Refusal::Start(StartFault::OutOfMemory));
     };
-    match serve_ports(rt, ports, opened, register, connections) {
+    match serve_ports(rt, ports, config, opened, register, connections) {
         Ok(()) => Ok(()),
         Err(error) => Err(refusal_of_system(&error)),
     }

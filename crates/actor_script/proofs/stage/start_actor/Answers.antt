@@ -1,26 +1,18 @@
 use denote.RattleType.{RattleType}
-use denote.Param.Send.{IsSend, IsSync, sendable, struct_send, recorded_send}
+use denote.Param.Send.{IsSend, sendable, struct_send, recorded_send}
 use denote.Struct.Declared as parts
 use denote.Struct.Field.{unit-field}
 use Rattle.std.proofs.Crossing.{crosses}
 use Rattle.std.proofs.alloc.Global.TheSendSync as global
-use Rattle.std.proofs.sync.OnceLock.TheSendSync as once
 use Rattle.crossbeam_channel.proofs.channel.Receiver.TheSendSync as channel
 use Rattle.desk.proofs.Sending.{pass_send, desk_send, desk_sync}
 use Rattle.desk.specs.contracts.printing.NoPress as nopress
 use Rattle.desk.specs.contracts.printing.NoPressPress.TheImpl as impl
 use Rattle.queue_actor.proofs.Sending.{envelope_send}
-use Rattle.queue_actor.proofs.ActorSending.{directory_send, directory_sync}
+use Rattle.queue_actor.proofs.ActorSending.{duties_send, duties_sync, directory_send, directory_sync}
 use Rattle.queue_actor.specs.contracts.actor.Actor as actor
-use Rattle.queue_actor.specs.contracts.duties.Duties as duties
 use Rattle.actor_script.specs.contracts.stage.Service as service
 use Rattle.actor_script.proofs.stage.start_actor.Goals as goal
-
-duties_send : IsSend duties.the_row
-duties_send = search (once.the_send, once.the_sync, sendable, crosses) depth 40 fits 100000
-
-duties_sync : IsSync duties.the_row
-duties_sync = search (once.the_send, once.the_sync, sendable, crosses) depth 40 fits 100000
 
 actor_field_send : IsSend (actor.the_field nopress.the_row (unit-field).row impl.ghosts).row
 actor_field_send = search (desk_send, desk_sync, pass_send, duties_send, duties_sync, sendable, crosses) depth 40 fits 100000

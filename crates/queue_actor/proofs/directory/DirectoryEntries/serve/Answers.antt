@@ -46,3 +46,7 @@ invariant_of-self-2-clause-names g c =
     let xs = c.args.self.now.served.items in
     c.push.ensures.names ∙ ap (λ (ns : List (List ℕ)). ns ++ c.args.queue.name ∷ []) (c.reserve-2.ensures.names ∙ c.args.self.now.names)
     ∙ sym (map-append (λ q. q.name) xs (c.args.queue ∷ [])) ∙ ap (map (λ q. q.name)) (sym (c.push_reserved.ensures.items ∙ ap (λ ys. ys ++ c.args.queue ∷ []) c.reserve.ensures.items))
+
+pub of-requires : goal.of-requires
+of-requires g c =
+    (c.args.self.now.served.items, c.args.queue, c.push_reserved.ensures.items ∙ ap (λ ys. ys ++ c.args.queue ∷ []) c.reserve.ensures.items, sym c.requires.opened)

@@ -1,6 +1,5 @@
 -- Which of the two became of the command.
-use Rattle.std.proofs.Common.{rules, Ok, Err, subst, sym}
-use Rattle.sqs_server.specs.Stages.{Changed}
+use Rattle.std.proofs.Common.{rules}
 use Rattle.sqs_server.proofs.front.Front.changed.Goals as goal
 use Rattle.sqs_server.proofs.front.Front.changed.Goals.{in-Ok, in-Err}
 

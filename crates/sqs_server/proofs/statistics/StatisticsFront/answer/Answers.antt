@@ -2,8 +2,7 @@ use Rattle.std.proofs.Common.{◌≡◌, ap, subst, ◌∙◌}
 use Rattle.std.specs.Prelude.{option_map, unwrap_or}
 use Rattle.http_uri.specs.Uri.{uri_path}
 use Rattle.hyper.specs.Incoming.{size_left}
-use Rattle.statistics_api.specs.Response.{told_by}
-use Rattle.sqs_server.specs.Viewed.{IsJudged, Sends, host_in}
+use Rattle.sqs_server.specs.Viewed.{IsJudged, host_in}
 use Rattle.sqs_server.proofs.ViewLemmas.{sent_is_told}
 use Rattle.sqs_server.proofs.statistics.StatisticsFront.answer.Goals as goal
 
