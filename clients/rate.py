@@ -236,7 +236,8 @@ def notes(found):
     """Returns what is to be known of the runs beside the table."""
     lines, served = [], {}
     if any(it["busy"] > BUSY for pairs in found.values() for pair in pairs for it in pair):
-        lines.append(f"- Where wrk was busy for more than {100 * BUSY:.0f} % of a run's time (the last two columns), what is told may be wrk's own rate.")
+        where = f"- Where wrk was busy for more than {100 * BUSY:.0f} % of a run's time (the last two columns), what is told may be wrk's own rate."
+        lines.append(f"{where} Where that is nginx's, the part of it is an upper bound.")
     for (name, connections), pairs in found.items():
         if any(name == it.name and it.beside == "served" for line in KINDS for it in line):
             parts = sorted(ours["received"] for ours, _ in pairs)
