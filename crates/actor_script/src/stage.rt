@@ -12,7 +12,8 @@ use futures::task::Poll;
 use futures::test::MockTask;
 use message::{Fault, QueueName};
 use queue_actor::{
-    Actor, Answer, Ask, AskFault, AskFuture, Envelope, Mail, Outbox, Served, ask_now, deadline_loop,
+    Actor, Answer, Ask, AskFault, AskFuture, Envelope, Mail, Outbox, Served, ask_now,
+    dead_letter_target, deadline_loop,
 };
 use queue_config::{Limits, Settings};
 use std::alloc::{AllocGlobal, Global};
@@ -77,15 +78,14 @@ fn work<R: Wait, G: Gate>(rt: &R, alloc: Global, place: Place, queues: &Shared, 
     1
 }
 
-/// The settings that words say, and the uid of the dead-letter queue, 0 where there is none: the default ones,
-/// but for a policy.
-fn settings(alloc: Global, words: &str) -> Result<(Settings, u64), Fault> {
+/// The settings that words say: the default ones, but for a policy.
+fn settings(alloc: Global, words: &str) -> Result<Settings, Fault> {
     match words.strip_prefix("policy ") {
         Some(target) => {
             let (wish, target) = policy(alloc, target)?;
-            Ok((Settings::default().with(&wish, target), target))
+            Ok(Settings::default().with(&wish, target))
         }
-        None => Ok((Settings::default(), 0)),
+        None => Ok(Settings::default()),
     }
 }
 
@@ -233,7 +233,8 @@ impl Stage {
         let name = QueueName::read(name)?;
         let limits = limits(words)?;
         let uid = self.entered(rt, name)?;
-        let (settings, target) = settings(alloc, words)?;
+        let settings = settings(alloc, words)?;
+        let target = dead_letter_target(&settings);
         let (client, start, place) = served(&self.host, alloc, uid, name, settings, limits)?;
         self.places.push(place)?;
         self.directory.serve(rt, alloc, client, target, start)?;
@@ -352,7 +353,8 @@ impl Stage {
         let (settings, limits) = (Settings::default(), Limits::default());
         let (client, start, _place) = served(&self.host, alloc, uid, name, settings, limits)?;
         self.directory.remove(rt, uid);
-        self.directory.serve(rt, alloc, client, 0, start)?;
+        self.directory
+            .serve(rt, alloc, client, dead_letter_target(&settings), start)?;
         Ok(1)
     }
 

@@ -3,12 +3,14 @@
 ghost use Rattle.std.specs.Prelude.{◌≡◌, ◌≢◌, ◌⊎◌, ◌==◌, nat_eq, not, ◌||◌, [], ◌∷◌, ◌++◌, map, filter, false, true, Result, Ok, Err, Some, None, IfSome, IfOk, IfErr, OnOk, OnErr, is_some};
 ghost use Rattle.std.specs.Arc.{arc_value};
 ghost use Rattle.std.specs.List.{All, IsDistinct, find, position};
+ghost use Rattle.std.specs.Option.{option_map_or};
 ghost use Rattle.std.proofs.Props.{props};
 ghost use Rattle.std.specs.Str.{bytes_eq};
 ghost use Rattle.message.specs.Fault.{Meets};
 ghost use Rattle.message.specs.declared.fault.Fault.TheVariants.{OutOfMemory, QueueDoesNotExist, QueueNameExists, OverLimit};
 ghost use Rattle.redrive.specs.Catalog.{IsDirectory, add_answer, empty_directory, has_uid, names_listed, source_names, uid_of_name, with_registered, with_target, without_uid};
 ghost use Rattle.message.specs.declared.fault.Fault.{Fault};
+ghost use Rattle.queue_core.specs.Queue.{policy_target};
 ghost use Rattle.queue_core.specs.declared.command.Command.TheVariants as commands;
 ghost use Rattle.queue_core.specs.declared.reply.Reply.{Reply};
 ghost use Rattle.desk.specs.Views.{HasCalled, IsKnown, IsNewPass, SeesMore};
@@ -27,13 +29,23 @@ use crossbeam_channel::Sender;
 use desk::{Desk, Gate, NoGate, Pass, Press};
 use journal::Moment;
 use message::{Fault, QueueName};
-use queue_config::Limits;
+use queue_config::{Limits, Settings};
 use queue_core::{Command, QueueState};
 use redrive::{Catalog, Keys, in_order};
 use std::alloc::Global;
 use std::marker::Model;
 use std::snapshot::Snapshot;
 use std::sync::{Arc, Mutex, Wait};
+
+/// The uid of the dead-letter queue that settings name, 0 for none.
+pub fn dead_letter_target(settings: &Settings) -> u64
+    ensures { result ≡ option_map_or (λ p. p.target) settings.now.redrive_policy 0 }
+{
+    match settings.redrive_policy {
+        Some(policy) => policy.target,
+        None => 0,
+    }
+}
 
 /// A queue that is served: its uid and its name, its desk, a pass of that desk, and the mailbox and the duties of
 /// its actor.
@@ -389,8 +401,8 @@ impl<P: Press> Directory<P> {
         self.entries.lock(rt).enter(alloc, name)
     }
 
-    /// Adds the queue of a uid that was entered, under the name that was entered with it, and gives it its target, 0 for
-    /// none. The snapshot is of the queue as it was opened. It is `QueueDoesNotExist` where the uid was taken out
+    /// Adds the queue of a uid that was entered, under the name that was entered with it, and gives it its target: the one
+    /// of its policy, 0 for none. The snapshot is of the queue as it was opened. It is `QueueDoesNotExist` where the uid was taken out
     /// meanwhile or its name is another, and `QueueNameExists` where a queue of that uid or name is served already. A
     /// refused queue is dropped, and its name stays.
     pub fn serve<R: Wait>(
@@ -402,6 +414,7 @@ impl<P: Press> Directory<P> {
         opened: Snapshot<QueueState>,
     ) -> Result<ServedMark, Fault>
         requires opened { opened.value ≡ queue.pass.start }
+        requires target { target ≡ policy_target opened.value }
         ensures mark { IfOk result (λ mark. mark ≡ queue.pass.start) }
         ensures errors { IfErr result (λ fault. (fault ≡ QueueDoesNotExist) ⊎ (fault ≡ QueueNameExists) ⊎ (fault ≡ OutOfMemory)) }
     {

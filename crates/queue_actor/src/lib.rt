@@ -13,7 +13,7 @@
 //! - [`Inbox`]: where its mail comes from, and where its answers go.
 //! - [`Targets`]: the queues that dead letters are for, and [`Delivery`], what became of one there.
 //! - [`Directory`]: which queues there are, and where each is served; [`Served`] is one of them, [`ServedMark`] shows that
-//!   one was added, and [`Shown`] is the reader of one's statistics.
+//!   one was added, and [`Shown`] is the reader of one's statistics. [`dead_letter_target`] is where its dead letters go.
 //! - [`deadline_loop`]: tells the queues the time.
 //!
 //! `Answered` in `specs/` has the words for answers. An answer's pass is of its desk, and its last call has
@@ -47,7 +47,7 @@ mod tests;
 pub use actor::Actor;
 pub use answer::Answer;
 pub use deadline::{Beat, Bells, TICK_MILLISECONDS, deadline_loop};
-pub use directory::{Directory, Served};
+pub use directory::{Directory, Served, dead_letter_target};
 pub use duties::Duties;
 pub use envelope::Envelope;
 pub use fault::AskFault;

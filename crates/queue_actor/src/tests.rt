@@ -3,6 +3,7 @@
 
 ghost use Rattle.std.specs.Prelude.{◌≡◌, IfOk};
 ghost use Rattle.std.specs.Arc.{arc_value};
+ghost use Rattle.queue_core.specs.Queue.{policy_target};
 
 use super::*;
 use crossbeam_channel::{Receiver, unbounded};
@@ -41,6 +42,7 @@ fn opened(
     ensures desk { IfOk result (λ r. r.1.desk ≡ arc_value r.0) }
     ensures start { IfOk result (λ r. r.2.value ≡ r.1.start) }
     ensures queue { IfOk result (λ r. (r.1.start.uid ≡ uid) × (r.1.start.name ≡ name) × (r.1.start.limits ≡ limits)) }
+    ensures target { IfOk result (λ r. policy_target r.2.value ≡ 0) }
 {
     let (settings, rules) = (Settings::default(), Vec::new(alloc));
     let state = QueueState::open(alloc, uid, name, settings, limits, rules, Moment::zero())?;
@@ -57,7 +59,8 @@ fn served(
     name: QueueName,
     limits: Limits,
 ) -> Result<(Client, Snapshot<QueueState>, Place), Fault>
-    ensures { IfOk result (λ r. r.1.value ≡ r.0.pass.start) }
+    ensures start { IfOk result (λ r. r.1.value ≡ r.0.pass.start) }
+    ensures target { IfOk result (λ r. policy_target r.1.value ≡ 0) }
 {
     let (mailbox, mails) = unbounded::<Envelope<NoPress>, Global>(alloc)?;
     let (desk, mut pass, start) = opened(rt, alloc, uid, name, limits)?;

@@ -21,7 +21,7 @@ use journal::Moment;
 use message::{Fault, QueueName};
 use queue_actor::{
     Actor, Beat, Directory, Duties, Envelope, Served, ServedMark, Shown, TICK_MILLISECONDS,
-    deadline_loop,
+    dead_letter_target, deadline_loop,
 };
 use queue_config::{
     AlarmRule, Config, ConfiguredAlarm, ConfiguredQueue, Limits, Settings, rules_of,
@@ -135,14 +135,6 @@ pub struct Opened<R: Wait + Drop> {
     pub orders: Sender<Order>,
     pub day: Arc<Day>,
     pub marks: Vec<ServedMark>,
-}
-
-/// The uid of the dead-letter queue that settings name, 0 for none.
-fn target_of(settings: &Settings) -> u64 {
-    match settings.redrive_policy {
-        Some(policy) => policy.target,
-        None => 0,
-    }
 }
 
 /// How often an actor that has ended looks whether it has its queue alone.
@@ -312,7 +304,7 @@ fn start_queue<R: Wait + Threads + Clock + Copy + Send + Drop + 'static>(
     ensures errors { IfErr result IsUnmade }
 {
     let name = new.name;
-    let target = target_of(&new.settings);
+    let target = dead_letter_target(&new.settings);
     let limits = queues.limits();
     let ActorParts {
         mailbox,
