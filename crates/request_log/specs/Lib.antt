@@ -1,3 +1,4 @@
 pub mod Actions
 pub mod Level
 pub mod Line
+pub mod Refusals

@@ -9,6 +9,11 @@ use aws_json::{ACTION_COUNT, action_at, action_place};
 /// How many places there are: one for each action that is served, and a last one for all else.
 pub const PLACES: usize = ACTION_COUNT + 1;
 
+/// Each action that is served has a place, and there is one more.
+pub fn places_are_all()
+    ensures { PLACES ≡ places }
+{}
+
 /// The place of an action; the last one where it is not served.
 pub fn place_of(action: &str) -> usize
     ensures place { result ≡ place_of action.now }

@@ -3,7 +3,8 @@
 //! - [`Level`]: which requests get a line.
 //! - [`Reply`]: what a request was answered. [`line_for`]: the line for a request, which says of one that was refused what was
 //!   wrong with it.
-//! - [`place_of`], [`name_at`]: the actions that are counted, each at its place.
+//! - [`place_of`], [`name_at`]: the actions that are counted, each at its place; [`PLACES`] is how many there are
+//!   ([`places_are_all`]).
 //! - [`Burst`]: the same line over and over is told once a second, with a count.
 //!
 //! The definitions stand in `specs/`.
@@ -20,7 +21,7 @@ mod reply;
 mod tests;
 mod time;
 
-pub use actions::{PLACES, name_at, place_of};
+pub use actions::{PLACES, name_at, place_of, places_are_all};
 pub use burst::Burst;
 pub use level::Level;
 pub use line::line_for;

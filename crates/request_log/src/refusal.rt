@@ -3,6 +3,7 @@
 ghost use Rattle.std.specs.Prelude.{◌≡◌, IfErr, IfSome};
 ghost use Rattle.aws_json.specs.FaultText.{fault_body};
 ghost use Rattle.message.specs.declared.fault.Fault.TheVariants.{OutOfMemory};
+ghost use Rattle.request_log.specs.Refusals.{has_failed};
 
 use crate::object::object_in;
 use crate::reply::Reply;
@@ -81,7 +82,9 @@ pub(crate) fn refusal_of(reply: &Reply<'_>) -> Option<Refusal> {
 }
 
 /// Whether a reply tells of an entry of a batch that was refused: then it begins with such entries.
-pub(crate) fn has_failed(reply: &Reply<'_>) -> bool {
+pub(crate) fn has_failed(reply: &Reply<'_>) -> bool
+    ensures { result ≡ has_failed reply.now.body.now }
+{
     reply.body.starts_with(br#"{"Failed":[{"#)
 }
 

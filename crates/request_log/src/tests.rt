@@ -161,6 +161,8 @@ const BURSTS: &str = "100 a => a
 7300 12:00:01.200 GetQueueUrl none 400 => 12:00:01.100 GetQueueUrl nope 400 (1 time more)|12:00:01.200 GetQueueUrl none 400
 7400 sqs_server: accept: none => sqs_server: accept: none
 7500 sqs_server: accept: none, again => sqs_server: accept: none, again
+7600 12:00:01.500 jobs 400 missing => 12:00:01.500 jobs 400 missing
+7700 12:00:01.600 jobs 400 empty => 12:00:01.600 jobs 400 empty
 ";
 
 /// What is told of a line.

@@ -1,6 +1,6 @@
 -- Numbers that are told one after another.
 use Rattle.std.proofs.Common.{◌≡◌, ℕ, ◌+◌, List, [], ◌∷◌, ◌++◌, length, length-append, ap, sym, ◌∙◌, arith, rules, append_assoc}
-use Rattle.sqs_server.specs.private.Counts.{told_at, told_from}
+use Rattle.sqs_server.specs.Counts.{told_at, told_from}
 
 -- one number more at the end
 pub told-more : (place : ℕ) (counts : List ℕ) (count : ℕ) →

@@ -2,6 +2,7 @@ pub mod Program
 pub mod Head
 pub mod Sent
 pub mod Times
+pub mod Counts
 pub mod Turns
 pub mod Configured
 pub mod Orders

@@ -1,10 +1,12 @@
 //! Connections are accepted, served side by side, and counted when they have closed.
 
 ghost use Rattle.std.specs.Prelude.{◌≡◌, None, IfOk, IfSome, IsTrue};
+ghost use Rattle.std.specs.IoError.{error_kind, raw_os_error};
 ghost use Rattle.futures.specs.Poll.{OnPending};
 ghost use Rattle.futures.specs.declared.task.Poll.TheVariants.{Pending};
 ghost use Rattle.futures.specs.Task.{IsArmed, Keeps};
 ghost use Rattle.tokio.specs.Locks.{CanAcquire};
+ghost use Rattle.sqs_server.specs.private.Ports.{is_shortage};
 
 use crate::attendance::{Attendance, Presence};
 use crate::front::Front;
@@ -172,15 +174,14 @@ impl<R: Wait + Clock + Copy + Send + Drop + 'static> MakeTask for StatisticsTask
     }
 }
 
-/// What Linux answers where there is no memory, no descriptor left in the system or in this program, and no memory for
-/// a socket: ENOMEM, ENFILE, EMFILE and ENOBUFS.
-const SHORTAGES: [i32; 4] = [12, 23, 24, 105];
-
-/// Whether a fault is a shortage, which passes, and none of a port.
-pub(crate) fn is_shortage(error: &io::Error) -> bool {
+/// Whether a fault is a shortage, which passes, and none of a port: Linux has no memory, no descriptor left in the
+/// system or in this program, or no memory for a socket (ENOMEM, ENFILE, EMFILE and ENOBUFS).
+pub(crate) fn is_shortage(error: &io::Error) -> bool
+    ensures { result ≡ is_shortage (raw_os_error error.now) (error_kind error.now) }
+{
     match error.raw_os_error() {
-        Some(code) => SHORTAGES.contains(&code),
-        None => error.kind() == io::ErrorKind::OutOfMemory,
+        Some(code) => matches!(code, 12 | 23 | 24 | 105),
+        None => matches!(error.kind(), io::ErrorKind::OutOfMemory),
     }
 }
 

@@ -3,10 +3,11 @@
 ghost use Rattle.std.specs.Prelude.{◌≡◌, ◌+◌, ◌*◌, ◌<◌, ◌++◌, ℕ, List, length, map, IfErr, IfOk, OnOk};
 ghost use Rattle.message.specs.declared.fault.Fault.TheVariants.{OutOfMemory};
 ghost use Rattle.request_log.specs.Actions.{places};
-ghost use Rattle.sqs_server.specs.private.Counts.{status_at, status_place, told, told_at, told_from};
+ghost use Rattle.sqs_server.specs.Counts.{status_at, told, told_at, told_from};
+ghost use Rattle.sqs_server.specs.private.Counts.{status_place};
 
 use message::Fault;
-use request_log::{PLACES, name_at};
+use request_log::{PLACES, name_at, places_are_all};
 use statistics_api::Requested;
 use std::alloc::Global;
 use std::sync::atomic::{AtomicU64, Ordering};
@@ -33,7 +34,8 @@ fn status_place(status: u16) -> usize
 /// The place of an action's place and a status among all numbers.
 fn number_place(place: usize, status: u16) -> usize
     requires { place < places }
-    ensures { result ≡ place * 7 + status_place status }
+    ensures place { result ≡ place * 7 + status_place status }
+    ensures within { result < places * 7 }
 {
     place * STATUSES + status_place(status)
 }
@@ -73,6 +75,7 @@ fn tell_count(requests: &mut Vec<Requested>, place: usize, count: u64) -> Result
 #[derive(Drop)]
 pub struct RequestCounts {
     numbers: Vec<AtomicU64>,
+    ghost all: { length numbers.items ≡ places * 7 },
 }
 
 impl RequestCounts {
@@ -81,7 +84,8 @@ impl RequestCounts {
         ensures { IfErr result (λ fault. fault ≡ OutOfMemory) }
     {
         let mut numbers = Vec::new(alloc);
-        for _ in 0..PLACES * STATUSES {
+        places_are_all();
+        for _place in 0..PLACES * STATUSES {
             numbers.push(AtomicU64::new(0))?;
         }
         Ok(RequestCounts { numbers })
@@ -91,14 +95,12 @@ impl RequestCounts {
     pub fn add(&self, place: usize, status: u16)
         requires { place < places }
     {
-        if let Some(number) = self.numbers.as_slice().get(number_place(place, status)) {
-            number.fetch_add(1, Ordering::SeqCst);
-        }
+        self.numbers[number_place(place, status)].fetch_add(1, Ordering::SeqCst);
     }
 
     /// Those that are not 0, by the actions. `OutOfMemory` is the only refusal.
     pub fn requested(&self, alloc: Global) -> Result<Vec<Requested>, Fault>
-        ensures told { IfOk result (λ requests. (counts : List ℕ) × (length counts ≡ length self.now.numbers.items) × (map told requests.items ≡ told_from 0 counts)) }
+        ensures told { IfOk result (λ requests. (counts : List ℕ) × (length counts ≡ places * 7) × (map told requests.items ≡ told_from 0 counts)) }
         ensures errors { IfErr result (λ fault. fault ≡ OutOfMemory) }
     {
         let mut requests = Vec::new(alloc);

@@ -1,5 +1,5 @@
 use Rattle.std.proofs.Common.{map}
-use Rattle.sqs_server.specs.private.Counts.{told}
+use Rattle.sqs_server.specs.Counts.{told}
 use Rattle.sqs_server.proofs.CountLemmas.{told-next}
 use Rattle.sqs_server.proofs.counts.RequestCounts.requested.Goals as goal
 

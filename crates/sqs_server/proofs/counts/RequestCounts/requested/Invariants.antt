@@ -1,5 +1,5 @@
 use Rattle.std.proofs.Common.{◌≡◌, ℕ, List, length, map}
-use Rattle.sqs_server.specs.private.Counts.{told, told_from}
+use Rattle.sqs_server.specs.Counts.{told, told_from}
 use Rattle.sqs_server.proofs.counts.RequestCounts.requested.Given as goal
 
 abbrev pub invariant-loop-place : goal.invariant-loop-place
