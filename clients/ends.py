@@ -8,6 +8,7 @@ Status, standard output and standard error are compared to the byte with what do
 import contextlib
 import errno
 import os
+import re
 import resource
 import signal
 import subprocess
@@ -126,6 +127,10 @@ def arguments(it, name, program, usage):
     it.ends(f"{name}: a second one that is no text", [program, "good.toml", NO_TEXT], 2, wrong)
     it.ends(f"{name}: an option that there is not", [program, "--verbose"], 2, wrong)
     it.ends(f"{name}: too many arguments", [program, "good.toml", "1", "1"], 2, wrong)
+    for option, wanted in (("--version", rf"{name} \d+\.\d+\.\d+\n"), ("--help", rf"(?s).*^usage: {re.escape(usage)}\n.*")):
+        ran = subprocess.run([program, option], capture_output=True, text=True, env={}, timeout=LIMIT)
+        told = re.fullmatch(wanted, ran.stdout, re.MULTILINE) is not None
+        it.equal(f"{name}: {option}, and standard output is as wanted", (ran.returncode, told, ran.stderr), (0, True, ""))
     # what was to be told goes nowhere
     it.ends(f"{name}: one that is not there, and standard error is closed", [program, "missing.toml"], 1, "", closed=(2,))
     it.ends(f"{name}: one with a fault, and standard error is closed", [program, "example.toml"], 1, "", closed=(2,))
