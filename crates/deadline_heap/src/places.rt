@@ -1,6 +1,6 @@
 //! The place of each number.
 
-ghost use Rattle.std.specs.Prelude.{◌≡◌, ◌+◌, ◌<◌, ◌≤◌, false, if◌then◌else◌, is_some, IfOk, IfErr, OnOk, OnErr};
+ghost use Rattle.std.specs.Prelude.{◌≡◌, ◌+◌, ◌<◌, ◌≤◌, false, if◌then◌else◌, is_some, IfOk, IfErr, IfSome, OnOk, OnErr};
 ghost use Rattle.std.specs.FinMap as finite;
 ghost use Rattle.deadline_heap.specs.private.Rows.{IsRising, IsRowOf, IsGapFor};
 
@@ -94,7 +94,21 @@ impl Places {
     }
 }
 
-/// Where the row of a number is, or where it would go. A new number is mostly the greatest.
+/// The row of a number, if no number is missing between the least one and this: as far behind the first one as it is
+/// greater.
+fn row_by_distance(rows: &VecDeque<(u64, usize)>, number: u64) -> Option<usize>
+    ensures { IfSome result (IsRowOf rows.now.items number) }
+{
+    let &(least, _) = rows.front()?;
+    let at = number.checked_sub(least)? as usize;
+    match rows.get(at) {
+        Some(&(key, _)) if key == number => Some(at),
+        _ => None,
+    }
+}
+
+/// Where the row of a number is, or where it would go. A new number is mostly the greatest, and few are missing among the
+/// others, as messages mostly go in the order in which they came.
 fn search(rows: &VecDeque<(u64, usize)>, number: u64) -> Result<usize, usize>
     requires { IsRising rows.now.items }
     ensures found { IfOk result (IsRowOf rows.now.items number) }
@@ -102,6 +116,9 @@ fn search(rows: &VecDeque<(u64, usize)>, number: u64) -> Result<usize, usize>
 {
     match rows.back() {
         Some(&(last, _)) if last < number => Err(rows.len()),
-        _ => rows.binary_search_by_key(&number, |&(key, _)| key),
+        _ => match row_by_distance(rows, number) {
+            Some(at) => Ok(at),
+            None => rows.binary_search_by_key(&number, |&(key, _)| key),
+        },
     }
 }

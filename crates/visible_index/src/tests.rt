@@ -46,30 +46,30 @@ fn told(alloc: Global, talk: &mut (VisibleIndex, Ticks), call: &str) -> Result<S
 }
 
 /// What is told of each call, with `|` between calls that are told the same; nothing of a reserve or a
-/// put. Ticks are counted on: those of a search by halving, and one more where `remove` finds a pair that
-/// is not less.
+/// put. Ticks are counted on: one for the last pair, one for the first where the last is not less, those of a search by
+/// halving where the first is less, and one more where `remove` finds a pair that is not less.
 const CALLS: &str = "\
 list => None, 0 ticks
 first => None
 remove 0 0 => false
 // Pairs stand by moment, and by number where the moments are equal.
 reserve 3 | put 5 1 | put 5 0 | put 4 9
-list => 4 9, 5 0, 5 1, None, 3 ticks
+list => 4 9, 5 0, 5 1, None, 4 ticks
 // A pair is taken out once.
 remove 5 0 => true
 remove 5 0 | remove 9 9 => false
-list => 4 9, 5 1, None, 10 ticks
+list => 4 9, 5 1, None, 15 ticks
 // A pair may be there twice, and then goes once at a time.
 put 5 1
-list => 4 9, 5 1, 5 1, None, 12 ticks
+list => 4 9, 5 1, 5 1, None, 19 ticks
 // The least one is taken first, at no cost.
 first => Some((4, 9))
 first | first => Some((5, 1))
 first => None
-list => None, 12 ticks
+list => None, 19 ticks
 // The greatest moments and numbers.
 put 18446744073709551615 18446744073709551615 | put 0 18446744073709551615 | put 18446744073709551615 0
-list => 0 18446744073709551615, 18446744073709551615 0, 18446744073709551615 18446744073709551615, None, 15 ticks
+list => 0 18446744073709551615, 18446744073709551615 0, 18446744073709551615 18446744073709551615, None, 25 ticks
 ";
 
 /// Each call is told as its line says. One that finds no memory changes nothing, and is made again: so this
@@ -95,8 +95,8 @@ fn refused_memory(rt: HostRuntime) -> Result<(), Fail> {
     Ok(())
 }
 
-/// Whoever searches by halves for the places of a thousand pairs compares 7,987 times at least, and 8,977 times by falling
-/// moment: an index that makes some of its comparisons by other means than the counter's would count less.
+/// A pair is compared with the last one and then with the first: a thousand by falling moment compare 1,998 times. An index
+/// that makes some of its comparisons by other means than the counter's would count less.
 #[test]
 fn falling_moments(rt: HostRuntime) -> Result<(), Fail> {
     let alloc = rt.alloc();
@@ -105,24 +105,25 @@ fn falling_moments(rt: HostRuntime) -> Result<(), Fail> {
         index.reserve(alloc, 1)?;
         index.put(moment, 7, &mut ticks);
     }
-    assert!(rt; ticks.count() >= 7_900);
+    assert!(rt; ticks.count() >= 1_998);
     for (place, wanted) in [(0, Some((0, 7))), (999, Some((999, 7))), (1000, None)] {
         assert_eq!(rt; index.get(place), wanted, "{place}");
     }
     Ok(())
 }
 
-/// The same by rising moment, and in mixed order: each moment once, as 617 and 1000 have no common factor.
+/// The same by rising moment, where the last one is enough, and in mixed order: each moment once, as 617 and 1000 have no
+/// common factor. Whoever searches by halves for the places of a thousand pairs compares 7,987 times at least.
 #[test]
 fn rising_and_mixed_moments(rt: HostRuntime) -> Result<(), Fail> {
     let alloc = rt.alloc();
-    for factor in [1, 617] {
+    for (factor, least) in [(1, 999), (617, 7_900)] {
         let (mut index, mut ticks) = (VisibleIndex::new(alloc), Ticks::new(&rt));
         for number in 0..1000_u64 {
             index.reserve(alloc, 1)?;
             index.put(number.wrapping_mul(factor) % 1000, 7, &mut ticks);
         }
-        assert!(rt; ticks.count() >= 7_900);
+        assert!(rt; ticks.count() >= least);
         for (place, wanted) in [(0, Some((0, 7))), (999, Some((999, 7))), (1000, None)] {
             assert_eq!(rt; index.get(place), wanted, "{place}");
         }

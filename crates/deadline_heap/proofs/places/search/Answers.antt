@@ -14,15 +14,15 @@ returns-in-Some-clause-absent c =
     gap_behind c.args.rows.now.items c.args.number c.len.result c.in-Some.field-0.now c.requires long some is less
 
 -- the closure gives a row's number
-pub returns-in_default-clause-found : goal.returns-in_default-clause-found
-returns-in_default-clause-found c =
+pub returns-in-None-clause-found : goal.returns-in-None-clause-found
+returns-in-None-clause-found c =
     let facts = c.binary_search_by_key.ensures in
     let by_key = facts.position (λ row. row.0) (answers_always _ _ _ (λ f a r g called. search rules)) in
     let bound = subst (λ (n : ℕ). IsSearchInRange c.binary_search_by_key.result n) c.args.rows.now.ok.0 facts.bound in
     searched_found c.args.rows.now.items c.args.number c.binary_search_by_key.result bound by_key
 
-pub returns-in_default-clause-absent : goal.returns-in_default-clause-absent
-returns-in_default-clause-absent c =
+pub returns-in-None-clause-absent : goal.returns-in-None-clause-absent
+returns-in-None-clause-absent c =
     let facts = c.binary_search_by_key.ensures in
     let by_key = facts.position (λ row. row.0) (answers_always _ _ _ (λ f a r g called. search rules)) in
     let bound = subst (λ (n : ℕ). IsSearchInRange c.binary_search_by_key.result n) c.args.rows.now.ok.0 facts.bound in
