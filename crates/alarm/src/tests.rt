@@ -3,7 +3,7 @@
 
 use super::*;
 use metric_window::{Flows, Gauges, Row};
-use queue_config::{ALL_METRICS, AlarmRule, ConfigFault, config_from_text};
+use queue_config::{AlarmRule, ConfigFault, METRICS, config_from_text};
 use std::alloc::Global;
 use std::test::Fail;
 
@@ -96,7 +96,7 @@ operator = "LessThanThreshold", threshold = 1, minutes = 180, breaches = 1
 /// Each metric has its value, and each text is told as its line says.
 #[test]
 fn lines(rt: HostRuntime) -> Result<(), Fail> {
-    for (metric, value) in ALL_METRICS.iter().zip([1, 2, 3, 4, 5, 6, 7, 8, 9, 10, 11]) {
+    for ((_name, metric), value) in METRICS.iter().zip([1, 2, 3, 4, 5, 6, 7, 8, 9, 10, 11]) {
         assert_eq!(rt; metric_value(*metric, &row(10)), value);
     }
     let mut judged_by = None;

@@ -1,7 +1,7 @@
 -- Rows of actions by their names and places.
-use Rattle.std.proofs.Common.{◌≡◌, ℕ, ◌<◌, ◌≤◌, Bool, true, false, cond, List, [], ◌∷◌, map, length, get_or, Option, Some, None, option_map, Bor, refl, sym, ap, ◌∙◌}
+use Rattle.std.proofs.Common.{◌≡◌, ℕ, ◌<◌, ◌≤◌, List, map, length, get_or, Option, Some, None, option_map, Bor, refl, sym, ap, ◌∙◌}
 use Rattle.std.specs.Prelude.{IfSome}
-use Rattle.std.specs.List.{find, position, slice_get}
+use Rattle.std.specs.List.{position, slice_get}
 use Rattle.std.specs.Str.{bytes_eq}
 use Rattle.std.proofs.lemmas.List.Quantifiers.{position-Some}
 use Rattle.std.proofs.lemmas.Option.{slice_get-get_or, slice_get-map, slice_get_past, slice_get_read}
@@ -11,18 +11,6 @@ use Rattle.aws_json.specs.declared.actions.Action.{Action}
 -- a row as the table of the definitions has it
 abbrev pub seen : Bor (List ℕ) × Action → List ℕ × Action
 seen row = (row.0.now, row.1)
-
-named_by : (b : Bool) (row : Bor (List ℕ) × Action) (found : Option (Bor (List ℕ) × Action)) (other : Option (List ℕ × Action))
-    → option_map (λ r. r.1) found ≡ option_map (λ r. r.1) other → option_map (λ r. r.1) (cond b (Some row) found) ≡ option_map (λ r. r.1) (cond b (Some (seen row)) other)
-named_by true row found other same = refl
-named_by false row found other same = same
-
--- the action of a name
-pub named : (name : List ℕ) (rows : List (Bor (List ℕ) × Action))
-    → option_map (λ row. row.1) (find (λ row. bytes_eq name row.0.now) rows) ≡ option_map (λ row. row.1) (find (λ row. bytes_eq name row.0) (map seen rows))
-named name [] = refl
-named name (row ∷ rows) =
-    named_by (bytes_eq name row.0.now) row (find (λ r. bytes_eq name r.0.now) rows) (find (λ r. bytes_eq name r.0) (map seen rows)) (named name rows)
 
 -- the name at a place
 pub told_at : (rows : List (Bor (List ℕ) × Action)) (place : ℕ) (row : Bor (List ℕ) × Action) → place < length rows → row ≡ get_or rows place row

@@ -1,10 +1,11 @@
 -- The request that an action and a body are, or the first fault (Amazon SQS API Reference; the faults and their order are this project's own choice).
 use Rattle.std.specs.Prelude.{ℕ, ◌==◌, Bool, ◌&&◌, unwrap_or, if◌then◌else◌, List, [], ◌∷◌, codes, Option, Some, None, option_map, Result, Ok, Err, ok_or}
-use Rattle.std.specs.List.{after_last, find, position, slice_get}
+use Rattle.std.specs.List.{after_last, position, slice_get}
 use Rattle.std.specs.Str.{bytes_eq}
 use Rattle.message.specs.Name.{queue_name_of}
 use Rattle.message.specs.declared.fault.Fault.{Fault}
 use Rattle.message.specs.declared.fault.Fault.TheVariants.{QueueDoesNotExist, UnsupportedOperation, SerializationException}
+use Rattle.queue_config.specs.Named.{named_in}
 use Rattle.queue_config.specs.Settings.{RequestedAttributes, no_requested_attributes, request_attribute}
 use Rattle.queue_core.specs.Ranges.{longest_timeout, most_offers}
 use Rattle.serde_json.specs.Data.{Data, Members, no_members, member}
@@ -188,16 +189,13 @@ served_actions =
     ∷ (codes "SetQueueAttributes", actions.SetQueueAttributes)
     ∷ (codes "PurgeQueue", actions.PurgeQueue) ∷ []
 
--- the action of a name in a table, and the name at a place of it
-abbrev pub action_in : List (List ℕ × Action) → List ℕ → Option Action
-action_in table name = option_map (λ served. served.1) (find (λ served. bytes_eq name served.0) table)
-
+-- the name at a place of a table
 abbrev pub name_in : List (List ℕ × Action) → ℕ → Option (List ℕ)
 name_in table place = option_map (λ served. served.0) (slice_get table place)
 
 -- the action of a name, where it is served
 abbrev pub action_named : List ℕ → Option Action
-action_named name = action_in served_actions name
+action_named name = named_in served_actions name
 
 -- the place of a name, where it is served
 abbrev pub action_place : List ℕ → Option ℕ

@@ -3,12 +3,12 @@
 //! another. Which fault is which, and the order in which they are judged, is this project's own choice.
 
 ghost use Rattle.std.specs.Prelude.{◌≡◌, ◌<◌, Err, Some, None, IfSome, is_some, option_map, map, length, codes};
-ghost use Rattle.std.specs.List.{find, position};
+ghost use Rattle.std.specs.List.{position};
 ghost use Rattle.std.specs.Str.{bytes_eq};
 ghost use Rattle.message.specs.Fault.{Meets};
 ghost use Rattle.serde_json.specs.View.{view};
 ghost use Rattle.aws_json.specs.Members.{column, text_in};
-ghost use Rattle.aws_json.specs.Request.{row, served_actions, action_in, name_in, action_named, action_place, action_at, has_kinds, maximum_given, named_queue, create_queue, set_queue_attributes, get_queue_url, list_queues, send_message, receive_message, delete_message, change_message_visibility, get_queue_attributes, batch, action_row, request_of, queue_of_body};
+ghost use Rattle.aws_json.specs.Request.{row, served_actions, name_in, action_named, action_place, action_at, has_kinds, maximum_given, named_queue, create_queue, set_queue_attributes, get_queue_url, list_queues, send_message, receive_message, delete_message, change_message_visibility, get_queue_attributes, batch, action_row, request_of, queue_of_body};
 
 use crate::attribute_names::{asked_attribute_names, asked_names, asked_patterns};
 use crate::batch::{EntryKind, GivenMessage};
@@ -23,6 +23,7 @@ use crate::request::Request;
 use crate::requested::{request_members, requested_attributes};
 use crate::text::Text;
 use message::{Fault, QueueName};
+use queue_config::named_in;
 use queue_core::{MOST_OFFERS, Maximum};
 use serde_json::Value;
 use std::alloc::Global;
@@ -211,23 +212,6 @@ fn has_name(row: &(&str, Action), name: &str) -> bool
     name == row.0
 }
 
-/// The action of the first row that has the name.
-fn first_named(rows: &[(&str, Action)], name: &str) -> Option<Action>
-    ensures { result ≡ option_map (λ row. row.1) (find (λ row. bytes_eq name.now row.0.now) rows.now) }
-{
-    match rows.iter().find(|row| has_name(row, name)) {
-        Some(row) => Some(row.1),
-        None => None,
-    }
-}
-
-/// The same, where the rows are seen as the definitions have them.
-fn action_in(rows: &[(&str, Action)], name: &str) -> Option<Action>
-    ensures { result ≡ action_in (map (λ row. (row.0.now, row.1)) rows.now) name.now }
-{
-    first_named(rows, name)
-}
-
 /// The place of the first row that has the name.
 fn first_place(rows: &[(&str, Action)], name: &str) -> Option<usize>
     ensures { result ≡ position (λ row. bytes_eq name.now row.0.now) rows.now }
@@ -239,7 +223,7 @@ fn first_place(rows: &[(&str, Action)], name: &str) -> Option<usize>
 pub(crate) fn action_named(name: &str) -> Option<Action>
     ensures { result ≡ action_named name.now }
 {
-    action_in(ACTIONS, name)
+    named_in(ACTIONS, name)
 }
 
 /// The place of an action in the table of those that are served, by its name; `None` where it is not served.

@@ -4,7 +4,7 @@
 
 use crate::kind::ValueKind;
 use crate::spot::Spot;
-use queue_config::{ALL_METRICS, ALL_OPERATORS, ALL_SETTINGS, setting_named, setting_row};
+use queue_config::{ALL_SETTINGS, METRICS, OPERATORS, setting_named, setting_row};
 use std::alloc::{AllocError, Global};
 
 pub(crate) const LIMITS: &str = "limits";
@@ -156,13 +156,13 @@ pub(crate) fn known_words(alloc: Global, kind: ValueKind) -> Result<Vec<&'static
     let mut words = Vec::new(alloc);
     match kind {
         ValueKind::Metric => {
-            for metric in ALL_METRICS {
-                words.push(metric.name())?;
+            for (name, _metric) in METRICS {
+                words.push(*name)?;
             }
         }
         ValueKind::Operator => {
-            for operator in ALL_OPERATORS {
-                words.push(operator.name())?;
+            for (name, _operator) in OPERATORS {
+                words.push(*name)?;
             }
         }
         _ => {}

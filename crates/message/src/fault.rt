@@ -79,60 +79,74 @@ impl Fault {
         self.status() == 400
     }
 
+    /// The refusal's name, as a client reads it, and what it says in words.
+    fn row(self) -> (&'static str, &'static str)
+        ensures name { result.0.now ≡ fault_name self }
+        ensures text { result.1.now ≡ fault_message self }
+    {
+        match self {
+            Fault::QueueDoesNotExist => (
+                "QueueDoesNotExist",
+                "The specified queue does not exist.",
+            ),
+            Fault::QueueNameExists => (
+                "QueueNameExists",
+                "A queue of this name exists with other attributes.",
+            ),
+            Fault::InvalidAttributeName => ("InvalidAttributeName", "Unknown attribute name."),
+            Fault::InvalidAttributeValue => (
+                "InvalidAttributeValue",
+                "Attribute value not allowed.",
+            ),
+            Fault::InvalidParameterValue => (
+                "InvalidParameterValue",
+                "Parameter value not allowed.",
+            ),
+            Fault::InvalidMessageContents => (
+                "InvalidMessageContents",
+                "Characters not allowed in the message.",
+            ),
+            Fault::ReceiptHandleIsInvalid => (
+                "ReceiptHandleIsInvalid",
+                "The receipt handle is not valid.",
+            ),
+            Fault::MessageNotInflight => ("MessageNotInflight", "The message is not in flight."),
+            Fault::OverLimit => ("OverLimit", "A limit is reached."),
+            Fault::EmptyBatchRequest => ("EmptyBatchRequest", "The batch has no entries."),
+            Fault::TooManyEntriesInBatchRequest => (
+                "TooManyEntriesInBatchRequest",
+                "The batch has more than 10 entries.",
+            ),
+            Fault::BatchEntryIdsNotDistinct => (
+                "BatchEntryIdsNotDistinct",
+                "Two entries have the same id.",
+            ),
+            Fault::InvalidBatchEntryId => ("InvalidBatchEntryId", "An entry id is not allowed."),
+            Fault::BatchRequestTooLong => ("BatchRequestTooLong", "The batch is too long."),
+            Fault::UnsupportedOperation => ("UnsupportedOperation", "The action is not supported."),
+            Fault::SerializationException => (
+                "SerializationException",
+                "The request cannot be read.",
+            ),
+            Fault::JournalFull => ("JournalFull", "The journal of the queue is full."),
+            Fault::OutOfMemory => ("OutOfMemory", "Out of memory."),
+            Fault::Spent => ("Spent", "The desk is spent."),
+            Fault::ActorGone => ("ActorGone", "The queue has stopped."),
+        }
+    }
+
     /// The refusal's name, as a client reads it.
     pub fn name(self) -> &'static str
         ensures { result.now ≡ fault_name self }
     {
-        match self {
-            Fault::QueueDoesNotExist => "QueueDoesNotExist",
-            Fault::QueueNameExists => "QueueNameExists",
-            Fault::InvalidAttributeName => "InvalidAttributeName",
-            Fault::InvalidAttributeValue => "InvalidAttributeValue",
-            Fault::InvalidParameterValue => "InvalidParameterValue",
-            Fault::InvalidMessageContents => "InvalidMessageContents",
-            Fault::ReceiptHandleIsInvalid => "ReceiptHandleIsInvalid",
-            Fault::MessageNotInflight => "MessageNotInflight",
-            Fault::OverLimit => "OverLimit",
-            Fault::EmptyBatchRequest => "EmptyBatchRequest",
-            Fault::TooManyEntriesInBatchRequest => "TooManyEntriesInBatchRequest",
-            Fault::BatchEntryIdsNotDistinct => "BatchEntryIdsNotDistinct",
-            Fault::InvalidBatchEntryId => "InvalidBatchEntryId",
-            Fault::BatchRequestTooLong => "BatchRequestTooLong",
-            Fault::UnsupportedOperation => "UnsupportedOperation",
-            Fault::SerializationException => "SerializationException",
-            Fault::JournalFull => "JournalFull",
-            Fault::OutOfMemory => "OutOfMemory",
-            Fault::Spent => "Spent",
-            Fault::ActorGone => "ActorGone",
-        }
+        self.row().0
     }
 
     /// What the refusal says in words.
     pub fn text(self) -> &'static str
         ensures { result.now ≡ fault_message self }
     {
-        match self {
-            Fault::QueueDoesNotExist => "The specified queue does not exist.",
-            Fault::QueueNameExists => "A queue of this name exists with other attributes.",
-            Fault::InvalidAttributeName => "Unknown attribute name.",
-            Fault::InvalidAttributeValue => "Attribute value not allowed.",
-            Fault::InvalidParameterValue => "Parameter value not allowed.",
-            Fault::InvalidMessageContents => "Characters not allowed in the message.",
-            Fault::ReceiptHandleIsInvalid => "The receipt handle is not valid.",
-            Fault::MessageNotInflight => "The message is not in flight.",
-            Fault::OverLimit => "A limit is reached.",
-            Fault::EmptyBatchRequest => "The batch has no entries.",
-            Fault::TooManyEntriesInBatchRequest => "The batch has more than 10 entries.",
-            Fault::BatchEntryIdsNotDistinct => "Two entries have the same id.",
-            Fault::InvalidBatchEntryId => "An entry id is not allowed.",
-            Fault::BatchRequestTooLong => "The batch is too long.",
-            Fault::UnsupportedOperation => "The action is not supported.",
-            Fault::SerializationException => "The request cannot be read.",
-            Fault::JournalFull => "The journal of the queue is full.",
-            Fault::OutOfMemory => "Out of memory.",
-            Fault::Spent => "The desk is spent.",
-            Fault::ActorGone => "The queue has stopped.",
-        }
+        self.row().1
     }
 }
 

@@ -3,6 +3,7 @@ pub mod Limits
 pub mod SettingRows
 pub mod Policy
 pub mod Settings
+pub mod Named
 pub mod AlarmRules
 pub mod ConfigFault
 pub mod Config

@@ -1,9 +1,9 @@
 //! The metrics that an alarm may look at.
 
 ghost use Rattle.std.specs.Prelude.{◌≡◌};
-ghost use Rattle.std.specs.List.{find};
-ghost use Rattle.std.specs.Str.{bytes_eq};
-ghost use Rattle.queue_config.specs.AlarmRules.{metric_name, metric_named};
+ghost use Rattle.queue_config.specs.AlarmRules.{metric_named};
+
+use crate::named::named_in;
 
 /// A metric of one minute of a queue. The names are those of the Amazon SQS metrics for CloudWatch,
 /// and the last two are this project's own.
@@ -33,64 +33,36 @@ pub enum Metric {
     DeadLettersArrived,
 }
 
-/// Every metric, in the order in which they are documented.
-pub const ALL_METRICS: [Metric; 11] = [
-    Metric::NumberOfMessagesSent,
-    Metric::SentMessageSize,
-    Metric::NumberOfMessagesReceived,
-    Metric::NumberOfEmptyReceives,
-    Metric::NumberOfMessagesDeleted,
-    Metric::ApproximateNumberOfMessagesVisible,
-    Metric::ApproximateNumberOfMessagesDelayed,
-    Metric::ApproximateNumberOfMessagesNotVisible,
-    Metric::ApproximateAgeOfOldestMessage,
-    Metric::RefusedCalls,
-    Metric::DeadLettersArrived,
+/// Every metric by its name, which is the variant's, in the order in which they are documented.
+pub const METRICS: &[(&str, Metric)] = &[
+    ("NumberOfMessagesSent", Metric::NumberOfMessagesSent),
+    ("SentMessageSize", Metric::SentMessageSize),
+    ("NumberOfMessagesReceived", Metric::NumberOfMessagesReceived),
+    ("NumberOfEmptyReceives", Metric::NumberOfEmptyReceives),
+    ("NumberOfMessagesDeleted", Metric::NumberOfMessagesDeleted),
+    (
+        "ApproximateNumberOfMessagesVisible",
+        Metric::ApproximateNumberOfMessagesVisible,
+    ),
+    (
+        "ApproximateNumberOfMessagesDelayed",
+        Metric::ApproximateNumberOfMessagesDelayed,
+    ),
+    (
+        "ApproximateNumberOfMessagesNotVisible",
+        Metric::ApproximateNumberOfMessagesNotVisible,
+    ),
+    (
+        "ApproximateAgeOfOldestMessage",
+        Metric::ApproximateAgeOfOldestMessage,
+    ),
+    ("RefusedCalls", Metric::RefusedCalls),
+    ("DeadLettersArrived", Metric::DeadLettersArrived),
 ];
-
-impl Metric {
-    /// The word that stands for the metric in a configuration, which is the variant's name.
-    pub fn name(self) -> &'static str
-        ensures { result.now ≡ metric_name self }
-    {
-        match self {
-            Metric::NumberOfMessagesSent => "NumberOfMessagesSent",
-            Metric::SentMessageSize => "SentMessageSize",
-            Metric::NumberOfMessagesReceived => "NumberOfMessagesReceived",
-            Metric::NumberOfEmptyReceives => "NumberOfEmptyReceives",
-            Metric::NumberOfMessagesDeleted => "NumberOfMessagesDeleted",
-            Metric::ApproximateNumberOfMessagesVisible => "ApproximateNumberOfMessagesVisible",
-            Metric::ApproximateNumberOfMessagesDelayed => "ApproximateNumberOfMessagesDelayed",
-            Metric::ApproximateNumberOfMessagesNotVisible => {
-                "ApproximateNumberOfMessagesNotVisible"
-            }
-            Metric::ApproximateAgeOfOldestMessage => "ApproximateAgeOfOldestMessage",
-            Metric::RefusedCalls => "RefusedCalls",
-            Metric::DeadLettersArrived => "DeadLettersArrived",
-        }
-    }
-}
-
-/// Whether the metric has the name.
-fn has_name(metric: Metric, name: &str) -> bool
-    ensures { result ≡ bytes_eq name.now (metric_name metric) }
-{
-    name == metric.name()
-}
-
-/// The first of the metrics that has the name.
-fn first_named(metrics: &[Metric], name: &str) -> Option<Metric>
-    ensures { result ≡ find (λ metric. bytes_eq name.now (metric_name metric)) metrics.now }
-{
-    metrics
-        .iter()
-        .copied()
-        .find(|metric| has_name(*metric, name))
-}
 
 /// The metric of a name; case counts.
 pub fn metric_named(name: &str) -> Option<Metric>
     ensures { result ≡ metric_named name.now }
 {
-    first_named(&ALL_METRICS, name)
+    named_in(METRICS, name)
 }

@@ -104,10 +104,10 @@ fn tell(text: &mut String, read: Result<Config, ConfigFault>) -> Result<(), Fail
     }
     for alarm in &config.alarms {
         let (queue, rule) = (alarm.queue, alarm.rule);
-        let (name, metric) = (rule.name.as_text(), rule.metric.name());
-        let (operator, threshold) = (rule.operator.name(), rule.threshold);
-        write!(text, "; {name} of {queue}: {metric}")?;
-        write!(text, " {operator} {threshold}, ")?;
+        let (name, metric) = (rule.name.as_text(), rule.metric);
+        let (operator, threshold) = (rule.operator, rule.threshold);
+        write!(text, "; {name} of {queue}: {metric:?}")?;
+        write!(text, " {operator:?} {threshold}, ")?;
         write!(text, "{} of {}", rule.breaches, rule.minutes)?;
     }
     Ok(())
@@ -297,15 +297,13 @@ fn words(rt: HostRuntime) -> Result<(), Fail> {
         assert_eq!(rt; setting_named(name), Some(setting));
         write!(words, "{name} ")?;
     }
-    for metric in ALL_METRICS {
-        let name = metric.name();
-        assert_eq!(rt; metric_named(name), Some(metric));
-        write!(words, "{name} ")?;
+    for (name, metric) in METRICS {
+        assert_eq!(rt; metric_named(name), Some(*metric));
+        write!(words, "{metric:?} ")?;
     }
-    for operator in ALL_OPERATORS {
-        let name = operator.name();
-        assert_eq!(rt; operator_named(name), Some(operator));
-        write!(words, "{name} ")?;
+    for (name, operator) in OPERATORS {
+        assert_eq!(rt; operator_named(name), Some(*operator));
+        write!(words, "{operator:?} ")?;
     }
     assert_eq!(rt; words.as_str().trim_end(), WORDS);
     for line in NUMBERS.lines() {
