@@ -1,6 +1,8 @@
 //! The line for a configuration that was refused.
 
-ghost use Rattle.std.specs.Prelude.{◌≡◌, None, Ok};
+ghost use Rattle.std.specs.Prelude.{◌≡◌, None, Ok, IfOk, IfSome, string_bytes};
+ghost use Rattle.std.specs.Char.{is_control};
+ghost use Rattle.std.specs.Str.{NoCharPasses};
 
 use crate::judging::first_finding;
 use crate::line::Line;
@@ -10,8 +12,9 @@ use queue_config::ConfigFault;
 use std::alloc::{AllocError, Global};
 
 /// The line for the bytes of a configuration that `config_from_bytes` refused: the path and the number of
-/// the line, the table, and what is wrong there. It ends without a line feed. None where there is nothing
-/// to tell of the bytes, as of lack of memory, and of a fault that they do not have.
+/// the line, the table, and what is wrong there. It ends without a line feed. Control characters of the
+/// path and of the bytes are shown by their escapes, as `\u{1b}`. None where there is nothing to tell of
+/// the bytes, as of lack of memory, and of a fault that they do not have.
 pub fn report(
     alloc: Global,
     path: &str,
@@ -19,12 +22,32 @@ pub fn report(
     fault: ConfigFault,
 ) -> Result<Option<String>, AllocError>
     ensures memory { fault ≡ ConfigFault.OutOfMemory → result ≡ Ok None }
+    ensures plain { IfOk result (λ told. IfSome told (λ line. NoCharPasses is_control (string_bytes line))) }
 {
-    match fault {
-        ConfigFault::OutOfMemory => Ok(None),
-        ConfigFault::Syntax => syntax_line(alloc, path, bytes),
-        _ => finding_line(alloc, path, bytes, fault),
+    let line = match fault {
+        ConfigFault::OutOfMemory => return Ok(None),
+        ConfigFault::Syntax => syntax_line(alloc, path, bytes)?,
+        _ => finding_line(alloc, path, bytes, fault)?,
+    };
+    match line {
+        Some(line) => Ok(Some(without_controls(alloc, line.as_str())?)),
+        None => Ok(None),
     }
+}
+
+/// The text without control characters. Of a report's line nothing is left out, as tests show: [`Line`] has escaped them
+/// all before.
+pub fn without_controls(alloc: Global, line: &str) -> Result<String, AllocError>
+    ensures plain { IfOk result (λ text. NoCharPasses is_control (string_bytes text)) }
+{
+    let mut text = String::new(alloc);
+    for character in line.chars() {
+        if character.is_control() {
+            continue;
+        }
+        text.push(character)?;
+    }
+    Ok(text)
 }
 
 /// The line for bytes that are no TOML.

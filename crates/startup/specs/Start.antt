@@ -1,5 +1,5 @@
 -- Why a program does not start, and what it tells of that: this project's own choice.
-use Rattle.std.specs.Prelude.{◌≡◌, ℕ, ⊤, Bool, false, List, ◌++◌, codes, Result, Ok, Err, MatchBool}
+use Rattle.std.specs.Prelude.{◌≡◌, ℕ, ⊤, Bool, true, false, List, ◌++◌, codes, Result, Ok, Err, MatchBool}
 use Rattle.std.specs.Result.{result_map_both}
 use Rattle.std.specs.declared.io.ErrorKind.{ErrorKind}
 use Rattle.std.specs.declared.io.ErrorKind.TheVariants as kinds
@@ -25,6 +25,12 @@ refusal_of_file kind = Read
 abbrev pub config_outcome : Result Configuration ConfigFault → Result Configuration StartFault
 config_outcome (Ok config) = Ok config
 config_outcome (Err fault) = Err (Config fault)
+
+-- whether a program does not start for want of memory, of which one line is told
+abbrev pub is_short_of_memory : StartFault → Bool
+is_short_of_memory OutOfMemory = true
+is_short_of_memory (Config config_faults.OutOfMemory) = true
+is_short_of_memory fault = false
 
 -- whether there was no memory for a configuration
 abbrev pub is_starved : Result Configuration StartFault → Bool

@@ -118,6 +118,10 @@ apple.pie = 2
 => UnknownKey example.toml:2: unknown key apple
 "a \"b\"\u0007" = 1
 => UnknownKey example.toml:1: unknown key "a \"b\"\u{7}"
+[[queue]]
+name = "jobs"
+"\u001B[2J\u009B\u007F\ncolour" = "red"
+=> UnknownKey example.toml:3: [[queue]] "jobs": unknown key "\u{1b}[2J\u{9b}\u{7f}\ncolour"
 ä = 1
 => Syntax example.toml:1: column 1: invalid key, expected letters, numbers, `-`, `_` or a quoted key
 [[queue]]
