@@ -1,5 +1,5 @@
 -- What a request asks of one queue: commands, one after another, and what a client is told of their answers (Amazon SQS API Reference).
-use Rattle.std.specs.Prelude.{◌≡◌, ◌⊎◌, ℕ, List, [], ◌∷◌, ◌++◌, Option, Some, None, Result, Ok, Err, if◌then◌else◌}
+use Rattle.std.specs.Prelude.{◌≡◌, ◌⊎◌, ℕ, Bool, false, List, [], ◌∷◌, ◌++◌, Option, Some, None, Result, Ok, Err, is_err, if◌then◌else◌}
 use Rattle.message.specs.declared.fault.Fault.{Fault}
 use Rattle.message.specs.declared.fault.Fault.TheVariants.{QueueDoesNotExist, OutOfMemory}
 use Rattle.queue_core.specs.declared.command.Command.{Command}
@@ -51,6 +51,11 @@ next_entry [] answers = Answer (Ok (shapes.Batch answers))
 next_entry (e ∷ es) answers =
     by_case (λ command. Ask command 0 (thens.Entry e.id es answers))
     (λ fault. next_entry es (answers ++ record { id = e.id; answer = Err fault } ∷ [])) e.command
+
+-- whether the first of these entries has a fault of its own: it is answered before anything is asked, which takes memory
+abbrev pub begins_with_fault : List BatchEntry → Bool
+begins_with_fault [] = false
+begins_with_fault (e ∷ es) = is_err e.command
 
 -- the entries of a batch, one after another
 abbrev pub batch : List BatchEntry → Step

@@ -7,7 +7,7 @@ use Rattle.aws_json.specs.declared.request.Request.TheVariants as requests
 use Rattle.request_plan.specs.declared.plan.Step.TheVariants as steps
 use Rattle.request_plan.specs.declared.task.Task.{Task}
 use Rattle.request_plan.specs.declared.task.Task.TheVariants.{Create, Delete, Set, Url, Urls, Sources, Ask}
-use Rattle.request_plan.specs.Plan.{done, attributes, receive, batch}
+use Rattle.request_plan.specs.Plan.{done, attributes, receive, begins_with_fault, batch}
 
 abbrev pub task_of : Request → Task
 task_of (requests.CreateQueue name wish) = Create name wish
@@ -35,15 +35,16 @@ queue_of_task (Urls prefix) = None
 queue_of_task (Sources queue) = Some queue
 queue_of_task (Ask queue step) = Some queue
 
-abbrev pub is_batch : Request → Bool
-is_batch (requests.Batch queue entries) = true
-is_batch request = false
+-- whether the first step takes memory: of a batch whose first entry has a fault of its own
+abbrev pub begins_with_memory : Request → Bool
+begins_with_memory (requests.Batch queue entries) = begins_with_fault entries
+begins_with_memory request = false
 
 -- a task whose first step found no memory: the same queue, and that answer
 abbrev pub task_without_memory : Task → Task
 task_without_memory (Ask queue step) = Ask queue (steps.Answer (Err OutOfMemory))
 task_without_memory task = task
 
--- a request begins with its task; of a batch the first step may find no memory
+-- a request begins with its task; where the first step takes memory, it may find none
 abbrev pub Begins : Request → Task → Type 0
-Begins request task = (task ≡ task_of request) ⊎ ((is_batch request ≡ true) × (task ≡ task_without_memory (task_of request)))
+Begins request task = (task ≡ task_of request) ⊎ ((begins_with_memory request ≡ true) × (task ≡ task_without_memory (task_of request)))

@@ -1,8 +1,8 @@
 //! What a request asks of one queue: commands, one after another, and what their answers are to a client.
 
-ghost use Rattle.std.specs.Prelude.{◌≡◌, [], ◌∷◌, IfSome, IfNone};
+ghost use Rattle.std.specs.Prelude.{◌≡◌, false, [], ◌∷◌, IfSome, IfNone};
 ghost use Rattle.request_plan.specs.Plan as plan;
-ghost use Rattle.request_plan.specs.Plan.{Comes, Follows, attributes_answer, attributes_shape, done_answer, done_reply, done_shape, entry_answer, messages_answer, messages_shape};
+ghost use Rattle.request_plan.specs.Plan.{Comes, Follows, attributes_answer, begins_with_fault, attributes_shape, done_answer, done_reply, done_shape, entry_answer, messages_answer, messages_shape};
 
 use aws_json::{
     AttributeNames, BatchAnswer, BatchAnswers, BatchEntry, Entries, EntryReply, Patterns,
@@ -159,7 +159,8 @@ pub(crate) fn receive(
 
 /// Asks what the entries of a batch ask, one after another.
 pub(crate) fn batch(alloc: Global, entries: Entries) -> Step
-    ensures { Comes result (plan.batch entries) }
+    ensures comes { Comes result (plan.batch entries) }
+    ensures exact { begins_with_fault entries ≡ false → result ≡ plan.batch entries }
 {
     let left = Remaining {
         entries: entries.into_vec().into_iter(),
@@ -169,7 +170,8 @@ pub(crate) fn batch(alloc: Global, entries: Entries) -> Step
 
 /// Asks what the next entry asks that has no fault of its own, behind these answers.
 fn next_entry(alloc: Global, mut left: Remaining, mut answers: BatchAnswers) -> Step
-    ensures { Comes result (plan.next_entry left answers) }
+    ensures comes { Comes result (plan.next_entry left answers) }
+    ensures exact { begins_with_fault left ≡ false → result ≡ plan.next_entry left answers }
 {
     while let Some(BatchEntry { id, command }) = left.next() {
         match command {
