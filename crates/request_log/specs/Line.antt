@@ -1,6 +1,13 @@
 -- The line for a request: this project's own.
-use Rattle.std.specs.Prelude.{ℕ, ◌/◌, ◌%◌, List, [], ◌∷◌, ◌++◌, codes, decimal, Option, Some, None}
+use Rattle.std.specs.Prelude.{ℕ, ◌/◌, ◌%◌, List, [], ◌∷◌, ◌++◌, codes, decimal, Option, Some, None, option_and_then}
 use Rattle.std.specs.List.{concat}
+use Rattle.std.specs.Option.{option_map_or}
+use Rattle.std.specs.Result.{result_ok}
+use Rattle.message.specs.Name.{queue_name_of}
+use Rattle.serde_json.specs.Data.{Data}
+use Rattle.serde_json.specs.Find.{get, as_str}
+use Rattle.aws_json.specs.Members.{object_of, text_in}
+use Rattle.aws_json.specs.Request.{name_part}
 
 -- ---- the time of day
 
@@ -15,6 +22,26 @@ abbrev pub time_of_day : ℕ → List ℕ
 time_of_day at =
     concat (two_digits (at / 3_600_000 % 24) ∷ codes ":" ∷ two_digits (at / 60_000 % 60) ∷ codes ":" ∷ two_digits (at / 1000 % 60)
     ∷ codes "." ∷ three_digits (at % 1000) ∷ [])
+
+-- ---- the queue that a request names
+
+-- the JSON object that a body is, where it is one
+abbrev pub object_in : List ℕ → Option Data
+object_in body = result_ok (object_of body)
+
+-- the text that names it in such an object: that of the QueueUrl, and of the QueueName only where there is no QueueUrl at all
+abbrev pub told_name : Data → Option (List ℕ)
+told_name d = option_map_or as_str (get (codes "QueueUrl") d) (text_in (codes "QueueName") d)
+
+-- the part of a text after its last slash, where that is a queue's name
+abbrev pub queue_of_text : List ℕ → Option (List ℕ)
+queue_of_text text = result_ok (queue_name_of (name_part text))
+
+abbrev pub queue_of : Data → Option (List ℕ)
+queue_of d = option_and_then queue_of_text (told_name d)
+
+abbrev pub told_queue : List ℕ → Option (List ℕ)
+told_queue body = option_and_then queue_of (object_in body)
 
 -- ---- the line
 

@@ -3,9 +3,11 @@
 ghost use Rattle.std.specs.Prelude.{◌≡◌, IfErr, IfOk, Ok, Some, None, option_map, string_bytes};
 ghost use Rattle.message.specs.Fault.{Meets};
 ghost use Rattle.message.specs.declared.fault.Fault.TheVariants.{OutOfMemory};
+ghost use Rattle.serde_json.specs.View.{view};
+ghost use Rattle.aws_json.specs.Request.{name_part};
 ghost use Rattle.aws_json.specs.Steps.{result_map};
 ghost use Rattle.request_log.specs.Actions.{name_at, place_of};
-ghost use Rattle.request_log.specs.Line.{queue_text, refusal_text, line_text};
+ghost use Rattle.request_log.specs.Line.{told_name, queue_of, told_queue, queue_text, refusal_text, line_text};
 
 use crate::actions::{name_at, place_of};
 use crate::object::object_in;
@@ -67,7 +69,9 @@ fn line_of(
 }
 
 /// What stands behind the last slash of a URL, which may have none.
-fn behind_slash(url: &str) -> &str {
+fn behind_slash(url: &str) -> &str
+    ensures { result.now ≡ name_part url.now }
+{
     match url.rsplit_once('/') {
         Some((_, name)) => name,
         None => url,
@@ -75,7 +79,9 @@ fn behind_slash(url: &str) -> &str {
 }
 
 /// The name of a queue in a body, by its URL or by itself.
-fn name_in(body: &Value) -> Option<&str> {
+fn told_name(body: &Value) -> Option<&str>
+    ensures { option_map (λ s. s.now) result ≡ told_name (view body.now) }
+{
     match body.get("QueueUrl") {
         Some(url) => url.as_str(),
         None => body.get("QueueName")?.as_str(),
@@ -83,12 +89,15 @@ fn name_in(body: &Value) -> Option<&str> {
 }
 
 /// The queue that a JSON object names, where it does.
-fn queue_of(body: &Value) -> Option<QueueName> {
-    QueueName::read(behind_slash(name_in(body)?)).ok()
+fn queue_of(body: &Value) -> Option<QueueName>
+    ensures { result ≡ queue_of (view body.now) }
+{
+    QueueName::read(behind_slash(told_name(body)?)).ok()
 }
 
 /// The queue that a body names, where it does. `OutOfMemory` is the only refusal.
-fn queue_in(alloc: Global, body: &[u8]) -> Result<Option<QueueName>, Fault>
+fn told_queue(alloc: Global, body: &[u8]) -> Result<Option<QueueName>, Fault>
+    ensures queue { IfOk result (λ queue. queue ≡ told_queue body.now) }
     ensures short { IfErr result (λ fault. fault ≡ OutOfMemory) }
 {
     match object_in(alloc, body)? {
@@ -161,10 +170,10 @@ pub fn line_for(
     body: &[u8],
     reply: &Reply<'_>,
 ) -> Result<String, Fault>
-    ensures line { IfOk result (λ line. (queue : _) × (refusal : _) × (string_bytes line ≡ line_text at (name_at (place_of action.now)) queue reply.now.status refusal)) }
+    ensures line { IfOk result (λ line. (refusal : _) × (string_bytes line ≡ line_text at (name_at (place_of action.now)) (told_queue body.now) reply.now.status refusal)) }
     ensures short { IfErr result (λ fault. fault ≡ OutOfMemory) }
 {
-    let queue = queue_in(alloc, body)?;
+    let queue = told_queue(alloc, body)?;
     let reason = reason_of(alloc, action, body, reply)?;
     let action = name_at(place_of(action));
     line_of(
