@@ -2,14 +2,14 @@
 use Rattle.std.proofs.lemmas.Slice.Eq.{bytes_eq-Decides}
 use Rattle.std.specs.Bool.{Decides}
 use Rattle.metric_window.specs.Flows.{no_flows}
-use Rattle.std.proofs.Common.{◌≡◌, ◌≢◌, ℕ, Bool, true, false, cond, ◌||◌, List, [], ◌∷◌, Option, Some, None, codes, bytes_eq, find, option_to_list, refl, sym, ap, ◌∙◌}
+use Rattle.std.proofs.Common.{◌≡◌, ◌≢◌, ℕ, Bool, true, false, cond, ◌||◌, List, [], ◌∷◌, Option, Some, None, option_map, option_and_then, codes, bytes_eq, find, option_to_list, refl, sym, ap, ◌∙◌}
 use Rattle.board.specs.Sheet.{Sheet}
 use Rattle.statistics_api.specs.declared.routes.Route.{Route}
 use Rattle.statistics_api.specs.declared.routes.Route.TheVariants.{Queues, Queue, Rows, Alarms}
 use Rattle.statistics_api.specs.Answer.{StatusText, sheet_named, of_queue, told, if_allowed, answer_of, not_found, method_not_allowed}
 use Rattle.statistics_api.specs.Response.{TypedText, as_json, page, health, metrics, if_get, if_read, is_constant, response_of}
-use Rattle.statistics_api.specs.Asked.{TellsOfQueues}
-use Rattle.statistics_api.specs.Routes.{target_of}
+use Rattle.statistics_api.specs.Asked.{is_of_all, TellsOfQueues}
+use Rattle.statistics_api.specs.Routes.{after, until_slash, from_slash, queue_route, queue_target, target_of}
 
 -- the first that is found is found again
 again-if : {X : Type 0} (p : X → Bool) (x : X) (xs : List X) (b : Bool) → p x ≡ b → find p (option_to_list (find p xs)) ≡ find p xs
@@ -152,3 +152,39 @@ of_named method path name route get other is =
           (if_get method (metrics sheets [])) (answer_of method path sheets) other_path other answered,
       other_path,
     )
+
+-- ---- which paths ask for all queues
+
+no_route-if : (b c d : Bool) → cond b (Some Queue) (cond c (Some Rows) (cond d (Some Alarms) None)) ≡ Some Queues → ⊥
+no_route-if true c d e = absurd cc
+no_route-if false true d e = absurd cc
+no_route-if false false true e = absurd cc
+no_route-if false false false e = absurd cc
+
+routed : (o : Option Route) (n name : List ℕ) → (o ≡ Some Queues → ⊥) → ◌≡◌ {A = Option (Route × List ℕ)} (Some (Queues, name)) (option_map (λ route. (route, n)) o) → ⊥
+routed None n name never e = absurd cc
+routed (Some route) n name never e = never (ap (λ (o : Option (Route × List ℕ)). option_map (λ (t : Route × List ℕ). t.0) o) (sym e))
+
+no_target : (n rest name : List ℕ) → ◌≡◌ {A = Option (Route × List ℕ)} (Some (Queues, name)) (queue_target n rest) → ⊥
+no_target [] rest name e = absurd cc
+no_target (b ∷ n) rest name e =
+    routed (queue_route rest) (b ∷ n) name (no_route-if (bytes_eq [] rest) (bytes_eq (codes "/rows") rest) (bytes_eq (codes "/alarms") rest)) e
+
+of_all-if : (b : Bool) (o : Option (List ℕ)) (name : List ℕ)
+    → ◌≡◌ {A = Option (Route × List ℕ)} (Some (Queues, name)) (cond b (Some (Queues, [])) (option_and_then (λ rest. queue_target (until_slash rest) (from_slash rest)) o)) → b ≡ true
+of_all-if true o name e = refl
+of_all-if false None name e = absurd cc
+of_all-if false (Some rest) name e = absurd (no_target (until_slash rest) (from_slash rest) name e)
+
+all-or : (b c : Bool) → c ≡ true → (b || c) ≡ true
+all-or true c is = refl
+all-or false c is = is
+
+-- the path of all queues
+pub of_all : (path name : List ℕ) (route : Route) → Some (route, name) ≡ target_of path → route ≡ Queues → is_of_all path ≡ true
+of_all path name Queues e all =
+    all-or (bytes_eq path (codes "/metrics")) (bytes_eq (codes "/statistics/queues") path)
+    (of_all-if (bytes_eq (codes "/statistics/queues") path) (after (codes "/statistics/queues/") path) name e)
+of_all path name Queue e all = absurd cc
+of_all path name Rows e all = absurd cc
+of_all path name Alarms e all = absurd cc

@@ -1,10 +1,10 @@
 //! Which queues' statistics the answer to a request takes.
 
-ghost use Rattle.std.specs.Prelude.{◌≡◌, ◌≢◌, ℕ, List};
+ghost use Rattle.std.specs.Prelude.{◌≡◌, ◌≢◌, ℕ, true, List};
 ghost use Rattle.board.specs.Sheet.{Sheet};
 ghost use Rattle.statistics_api.specs.Response.{response_of};
-ghost use Rattle.statistics_api.specs.Asked.{taken, TellsOfQueues};
-ghost use Rattle.statistics_api.specs.declared.asked.AskedSheets.TheVariants.{Nothing};
+ghost use Rattle.statistics_api.specs.Asked.{taken, is_of_all, TellsOfQueues};
+ghost use Rattle.statistics_api.specs.declared.asked.AskedSheets.TheVariants.{Nothing, Queues};
 
 use crate::routes::{Route, target_without_memory};
 
@@ -25,6 +25,7 @@ pub enum AskedSheets<'p> {
 pub fn asked_for<'p>(method: &str, path: &'p str) -> AskedSheets<'p>
     ensures enough { (sheets : List Sheet) (own : List ℕ) → response_of method.now path.now sheets own ≡ response_of method.now path.now (taken result sheets) own }
     ensures needed { result ≢ Nothing → TellsOfQueues method.now path.now }
+    ensures all { result ≡ Queues → is_of_all path.now ≡ true }
 {
     if method != "GET" {
         return AskedSheets::Nothing;
