@@ -3,3 +3,4 @@ pub mod EntryLemmas
 pub mod UrlLemmas
 pub mod ReplyLemmas
 pub mod ActionLemmas
+pub mod SentLemmas

@@ -5,4 +5,5 @@ pub mod Entries
 pub mod AttributeNames
 pub mod Request
 pub mod Reply
+pub mod private
 pub mod FaultText

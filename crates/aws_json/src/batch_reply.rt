@@ -1,20 +1,27 @@
 //! The answers to a send and to the entries of a batch, as JSON (Amazon SQS API Reference,
 //! `SendMessage`, `BatchResultErrorEntry` and the result entries of the three batches).
 
-ghost use Rattle.std.specs.Prelude.{◌≡◌, Ok, OnOk, IfErr};
+ghost use Rattle.std.specs.Prelude.{◌≡◌, ◌++◌, Ok, OnOk, IfOk, IfErr, option_map, string_bytes};
 ghost use Rattle.message.specs.Fault.{Meets};
 ghost use Rattle.message.specs.declared.fault.Fault.TheVariants.{OutOfMemory};
+ghost use Rattle.serde_json.specs.Data.{object};
 ghost use Rattle.serde_json.specs.View.{view, items_view, members_view};
+ghost use Rattle.serde_json.specs.Written.{compact_text};
 ghost use Rattle.aws_json.specs.Steps.{result_map};
 ghost use Rattle.aws_json.specs.Reply.{put_sent, sent_data, done_data, failed_data, done_items, failed_items, batch_data};
+ghost use Rattle.aws_json.specs.private.Sent.{sent_members, sent_tokens};
 
 use crate::batch::{BatchAnswer, EntryReply};
 use crate::put::{put_given, put_text};
 use crate::refusal::{fault_message, fault_name};
 use attribute_md5::{attributes_md5, body_md5};
+use json::Writer;
 use message::{Content, Fault, MessageId, QueueName};
 use serde_json::{Map, Value, json};
-use std::alloc::Global;
+use std::alloc::{AllocError, Global};
+
+/// How many bytes the text of a send has at most, by far.
+const SENT_ROOM: usize = 256;
 
 /// Puts what a client is told of a send among the members.
 fn put_sent(
@@ -41,13 +48,54 @@ fn put_sent(
     Ok(())
 }
 
-/// What a client is told of a send.
-pub(crate) fn sent_reply(alloc: Global, content: &Content, id: MessageId) -> Result<Value, Fault>
-    ensures { Meets (result_map view result) (Ok (sent_data content.now id)) }
+/// Writes the members that tell of a send, and the end of their object.
+fn write_sent(
+    out: &mut Writer,
+    attributes: Option<&str>,
+    body: &str,
+    id: &str,
+) -> Result<(), AllocError>
+    ensures tokens { OnOk result (out.new.tokens
+        ≡ out.old.tokens ++ sent_tokens (option_map (λ s. s.now) attributes.entry) body.now id.now) }
+    ensures before { out.new.before ≡ out.old.before }
 {
-    let mut members = Map::new(alloc);
-    put_sent(alloc, &mut members, content, id)?;
-    Ok(Value::Object(members))
+    if let Some(digest) = attributes {
+        out.key("MD5OfMessageAttributes")?;
+        out.string(digest)?;
+    }
+    out.key("MD5OfMessageBody")?;
+    out.string(body)?;
+    out.key("MessageId")?;
+    out.string(id)?;
+    out.end_object()?;
+    Ok(())
+}
+
+/// The text of an object that tells of a send by these texts.
+fn text_of_sent(
+    alloc: Global,
+    attributes: Option<&str>,
+    body: &str,
+    id: &str,
+) -> Result<String, AllocError>
+    ensures { IfOk result (λ s. string_bytes s
+        ≡ compact_text (object (sent_members (option_map (λ s. s.now) attributes.entry) body.now id.now))) }
+{
+    let mut out = Writer::new(Vec::with_capacity(alloc, SENT_ROOM)?);
+    out.begin_object()?;
+    write_sent(&mut out, attributes, body, id)?;
+    Ok(String::from_utf8(out.into_inner()).unwrap())
+}
+
+/// The JSON text of what a client is told of a send. Most requests are sends, so no tree is made for it.
+pub(crate) fn sent_text(alloc: Global, content: &Content, id: MessageId) -> Result<String, Fault>
+    ensures { Meets (result_map (λ s. string_bytes s) result) (Ok (compact_text (sent_data content.now id))) }
+{
+    let attributes = attributes_md5(alloc, content)?;
+    let body = body_md5(alloc, content.body())?;
+    let id = id.text(alloc)?;
+    let text = text_of_sent(alloc, attributes.as_deref(), body.as_str(), id.as_str())?;
+    Ok(text)
 }
 
 /// What a client is told of an entry that was done.

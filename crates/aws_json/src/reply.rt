@@ -9,7 +9,7 @@ ghost use Rattle.aws_json.specs.Steps.{result_map};
 ghost use Rattle.aws_json.specs.Reply.{queue_url, url_data, url_items, urls_data, reply_data};
 
 use crate::batch::BatchAnswers;
-use crate::batch_reply::{batch_reply, sent_reply};
+use crate::batch_reply::{batch_reply, sent_text};
 use crate::listed::Listed;
 use crate::message_reply::messages_reply;
 use crate::queue_reply::{attributes_reply, decimal};
@@ -17,7 +17,7 @@ use crate::request::{AttributeNames, ReceiveNames};
 use crate::selection::Patterns;
 use message::{Content, Fault, MessageId, QueueName};
 use queue_core::{Look, Offers};
-use serde_json::{Value, json};
+use serde_json::{Map, Value, json};
 use std::alloc::Global;
 
 /// Names of queues in an order. Contracts see the list of names.
@@ -108,41 +108,34 @@ fn url_reply(alloc: Global, port: u16, name: &QueueName) -> Result<Value, Fault>
     Ok(json!(in alloc; {"QueueUrl": url})?)
 }
 
-/// What a client is answered, as JSON.
-fn reply_value(alloc: Global, port: u16, shape: &ReplyShape) -> Result<Value, Fault>
-    ensures { Meets (result_map view result) (Ok (reply_data port shape.now)) }
-{
-    match shape {
-        ReplyShape::QueueUrl(name) => url_reply(alloc, port, name),
-        ReplyShape::Sent { content, id } => sent_reply(alloc, content, *id),
-        ReplyShape::QueueUrls(names) => urls_reply(alloc, port, "QueueUrls", names.as_slice()),
-        ReplyShape::SourceQueueUrls(names) => urls_reply(
-            alloc,
-            port,
-            "queueUrls",
-            names.as_slice(),
-        ),
-        ReplyShape::Attributes { names, queue, look } => {
-            attributes_reply(alloc, names, queue, look)
-        }
-        ReplyShape::Messages {
-            uid,
-            names,
-            attributes,
-            offers,
-        } => messages_reply(alloc, *uid, names, attributes, offers.as_slice()),
-        ReplyShape::Batch(answers) => batch_reply(alloc, answers.as_slice()),
-        ReplyShape::Nothing => Ok(json!(in alloc; {})?),
-    }
-}
-
 /// The JSON text of a reply, without blanks. The port is the one at which requests are answered: the URLs of queues have
 /// it. `OutOfMemory` is the only refusal.
 pub fn reply_text(alloc: Global, port: u16, shape: &ReplyShape) -> Result<String, Fault>
     ensures { Meets (result_map (λ s. string_bytes s) result)
         (Ok (compact_text (reply_data port shape.now))) }
 {
-    let value = reply_value(alloc, port, shape)?;
+    let value = match shape {
+        ReplyShape::Sent { content, id } => return sent_text(alloc, content, *id),
+        ReplyShape::QueueUrl(name) => url_reply(alloc, port, name)?,
+        ReplyShape::QueueUrls(names) => urls_reply(alloc, port, "QueueUrls", names.as_slice())?,
+        ReplyShape::SourceQueueUrls(names) => urls_reply(
+            alloc,
+            port,
+            "queueUrls",
+            names.as_slice(),
+        )?,
+        ReplyShape::Attributes { names, queue, look } => {
+            attributes_reply(alloc, names, queue, look)?
+        }
+        ReplyShape::Messages {
+            uid,
+            names,
+            attributes,
+            offers,
+        } => messages_reply(alloc, *uid, names, attributes, offers.as_slice())?,
+        ReplyShape::Batch(answers) => batch_reply(alloc, answers.as_slice())?,
+        ReplyShape::Nothing => Value::Object(Map::new(alloc)),
+    };
     let text = value.to_string(alloc)?;
     Ok(text)
 }
