@@ -37,8 +37,8 @@ How it keeps from flattering:
     refused, each reply has to have status 403 and that refusal's text, and the queue must have got no message. Polls that are
     parked have to be silent until the run is over, and then each to be answered by a message. Else there is no table.
   - Polls stay parked while others send to their queue only where no message is visible in time: those sends have a delay of 15 minutes, and so
-    have those beside which no poll is parked. Where each message is taken by one of as many polls, these come again and delete what they got:
-    three requests a message, of which one is counted.
+    have those beside which no poll is parked. Where each message is taken by a poll, there are 900 at most, since a queue turns requests away
+    where 1,000 mails wait: they come again and delete what they got, three requests a message, of which one is counted.
 """
 import argparse
 import contextlib
@@ -64,6 +64,8 @@ from rate_table import picture, short, table
 
 # From what part of its threads' time on wrk may be what is slow.
 BUSY = 0.9
+# How many polls come again at most, since a queue has 1,000 mails at most: all of these at once, and those of the sends beside them.
+AGAIN = 900
 # A server with 1,000 quiet queues takes less of a processor, and fewer millions of bytes.
 REST_PART, REST_MEMORY = 0.05, 64
 
@@ -195,8 +197,8 @@ class Bench:
         return wrk
 
     def served_run(self, server, url, kind, connections):
-        """Times sends to a queue while as many connections as there are polls receive from it, waiting, and delete."""
-        with Load(server.port, words_of(POLL, url), self.options.polls, self.seconds + 2) as polls:
+        """Times sends to a queue while connections, as many as there are polls but for AGAIN at most, receive from it, waiting, and delete."""
+        with Load(server.port, words_of(POLL, url), min(self.options.polls, AGAIN), self.seconds + 2) as polls:
             time.sleep(1)
             wrk = self.one_run(server, url, kind, connections)
             polls.result()
@@ -320,7 +322,7 @@ def timed(program, room, options, is_proved):
     named = "The proved server" if is_proved else "A server that was named, and not the proved one,"
     head = f"{named} beside nginx {version(['nginx', '-v'])}, asked by wrk {version(['wrk', '-v'])}, on {os.cpu_count()} processors, whose load was {load:.1f} before:\n"
     head += f"the middle of {options.runs} runs of {options.seconds} s each, with the slowest and the fastest. Rates are requests a second;"
-    head += f" of polls there are {options.polls:,}."
+    head += f" of polls there are {options.polls:,}, of those that come again {min(options.polls, AGAIN)}."
     text = "\n".join([head, "", table(found), *lines]).rstrip("\n") + "\n\n![Requests a second, as a part of nginx's, against the number of connections](rate.svg)\n"
     os.makedirs(options.to, exist_ok=True)
     for name, it in (("rate.md", text), ("rate.svg", picture(found))):
