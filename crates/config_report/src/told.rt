@@ -157,9 +157,21 @@ impl<'t> Configuration<'t> {
         self.write_value(line, place, value)?;
         line.text.push_str(" is ")?;
         wanted.write_missed(line)?;
-        let words = known_words(self.alloc, wanted)?;
         let given = value.as_str().unwrap_or("");
-        write_meant(line, nearest(self.alloc, given, words.as_slice())?)
+        if wanted == ValueKind::Name && given.ends_with(".fifo") {
+            line.text.push_str("; there are no FIFO queues")?;
+        }
+        let words = known_words(self.alloc, wanted)?;
+        let meant = nearest(self.alloc, given, words.as_slice())?;
+        if meant.is_none() {
+            let mut before = "; known are ";
+            for word in words.as_slice() {
+                line.text.push_str(before)?;
+                line.text.push_str(word)?;
+                before = ", ";
+            }
+        }
+        write_meant(line, meant)
     }
 
     /// Writes a value, with its key where it has one.

@@ -58,7 +58,7 @@ name = ""
 name = "jobs"
 dead_letter_queue = "dead.fifo"
 max_receive_count = 3
-=> OutOfRange example.toml:3: [[queue]] "jobs": dead_letter_queue = "dead.fifo" is no name of 1 to 80 letters, digits, - and _
+=> OutOfRange example.toml:3: [[queue]] "jobs": dead_letter_queue = "dead.fifo" is no name of 1 to 80 letters, digits, - and _; there are no FIFO queues
 queue = [
 1001 times {name = "q#"},
 ]
@@ -248,7 +248,10 @@ metric = "RefusedCalls"
 operator = ">"
 threshold = 100
 minutes = 3
-=> OutOfRange example.toml:14: [[alarm]] "deeper": operator = ">" is no operator
+=> OutOfRange example.toml:14: [[alarm]] "deeper": operator = ">" is no operator; known are GreaterThanThreshold, GreaterThanOrEqualToThreshold, LessThanThreshold, LessThanOrEqualToThreshold
+[[alarm]]
+metric = "Foo"
+=> OutOfRange example.toml:2: [[alarm]] number 1: metric = "Foo" is no metric; known are NumberOfMessagesSent, SentMessageSize, NumberOfMessagesReceived, NumberOfEmptyReceives, NumberOfMessagesDeleted, ApproximateNumberOfMessagesVisible, ApproximateNumberOfMessagesDelayed, ApproximateNumberOfMessagesNotVisible, ApproximateAgeOfOldestMessage, RefusedCalls, DeadLettersArrived
 [[alarm]]
 queue = "all jobs"
 name = "deep"
