@@ -18,6 +18,7 @@ use queue_core::{Command, Reply};
 use std::alloc::Global;
 use std::hint::spin_loop;
 use std::sync::{Arc, Wait};
+use std::thread::yield_now;
 
 /// What was not asked: the desk, the pass and the command come back.
 #[derive(Drop)]
@@ -53,9 +54,22 @@ pub fn is_for_actor(command: &Command) -> bool
     )
 }
 
-/// How often a desk is asked whose turn is not free. By what processors take for it that is 10 to 60 microseconds: longer
-/// than the turns of a few others, and about as long as a thread takes to sleep and to wake. This project's own choice.
-const TRIES: u32 = 1000;
+/// How often a desk whose turn is not free is asked again at once: for 1 to 4 microseconds, as long as a turn or two take.
+/// This project's own choice.
+const SPINS: u32 = 60;
+
+/// How often it is asked in all. The thread that has the turn may have been stopped in it, so other threads run between
+/// the later tries. This project's own choice.
+const TRIES: u32 = 200;
+
+/// Waits a little before a desk is asked again.
+fn pause(tries: u32) {
+    if tries < SPINS {
+        spin_loop();
+    } else {
+        yield_now();
+    }
+}
 
 /// Asks a desk where its turn is free, or comes to be free soon.
 fn try_now<P: Press, R: Wait, G: Gate>(
@@ -75,11 +89,11 @@ where
     ensures known { IfSome result (λ reply. IsKnown pass.new) }
     ensures desk { pass.new.desk ≡ desk.now }
 {
-    for _ in 0..TRIES {
+    for tries in 0..TRIES {
         if let Some(asked) = desk.ask_now(rt, alloc, pass, at, command, gate) {
             return Some(asked.reply);
         }
-        spin_loop();
+        pause(tries);
     }
     None
 }
