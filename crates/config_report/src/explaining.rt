@@ -3,6 +3,7 @@
 ghost use Rattle.std.specs.Prelude.{◌≡◌, None, Ok, IfOk, IfSome, string_bytes};
 ghost use Rattle.std.specs.Char.{is_control};
 ghost use Rattle.std.specs.Str.{NoCharPasses};
+ghost use Rattle.config_report.specs.Plain.{without_controls};
 
 use crate::judging::first_finding;
 use crate::line::Line;
@@ -38,6 +39,7 @@ pub fn report(
 /// The text without control characters. Of a report's line nothing is left out, as tests show: [`Line`] has escaped them
 /// all before.
 pub fn without_controls(alloc: Global, line: &str) -> Result<String, AllocError>
+    ensures text { IfOk result (λ text. string_bytes text ≡ without_controls line.now) }
     ensures plain { IfOk result (λ text. NoCharPasses is_control (string_bytes text)) }
 {
     let mut text = String::new(alloc);

@@ -79,6 +79,13 @@ fn lines(rt: HostRuntime) -> Result<(), Fail> {
     Ok(())
 }
 
+#[test]
+fn controls_are_left_out(rt: HostRuntime) -> Result<(), Fail> {
+    let text = without_controls(rt.alloc(), "a\u{1b}[0m é\n\u{85} b\u{7f}")?;
+    assert_eq!(rt; text.as_str(), "a[0m é b");
+    Ok(())
+}
+
 /// Of each key whose bounds stand in the table of this crate a configuration, with `#` where the key and
 /// its value stand and `|` for the end of a line.
 const RANGES: &str = r#"in_flight limits = {#}
