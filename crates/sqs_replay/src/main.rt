@@ -47,7 +47,7 @@ use program::{Wanted, arguments_among, default_configuration, finish};
 use queue_config::Config;
 pub use run::run_lines;
 pub use shown::LineAnswer;
-use startup::{Ending, StartFault, VERSION, configuration_in};
+use startup::{Ending, StartFault, VERSION, configuration_in, first_argument, misused};
 use std::process::ExitCode;
 use std::{env, fs, io};
 pub use whole::replay;
@@ -71,9 +71,20 @@ fn main(rt: HostRuntime) -> ExitCode {
     finish(&rt, start(&rt))
 }
 
+/// What the arguments ask for.
+fn wanted(rt: &HostRuntime) -> Result<Wanted, Ending<Refusal>> {
+    match arguments_among(env::args(rt)) {
+        Ok(wanted) => Ok(wanted),
+        Err(fault) => {
+            let first = first_argument(env::args(rt));
+            Err(misused(rt.alloc(), first.as_deref(), fault).of_program(Refusal::Start))
+        }
+    }
+}
+
 /// Does as the arguments say.
 fn start(rt: &HostRuntime) -> Result<(), Ending<Refusal>> {
-    match arguments_among(env::args(rt)).map_err(Refusal::Start)? {
+    match wanted(rt)? {
         Wanted::Run(path) => replay_input(rt, path),
         Wanted::Help => {
             let _ = rt.print(HELP);

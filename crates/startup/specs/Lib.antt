@@ -1,2 +1,3 @@
 pub mod Option
 pub mod Start
+pub mod Misuse

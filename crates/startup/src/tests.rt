@@ -32,6 +32,28 @@ fn options(rt: HostRuntime) {
     }
 }
 
+/// An option that there is not is named, without its control characters; nothing else is. Where memory was refused, what
+/// more there is to say is asked for again.
+#[test]
+fn misuse(rt: HostRuntime) -> Result<(), Fail> {
+    let (usage, read) = (StartFault::Usage, StartFault::Read);
+    let told = "there is no option --foo[0m; --help explains";
+    for (fault, first, more) in [
+        (usage, Some("--foo\u{1b}[0m"), Some(told)),
+        (usage, Some("--help"), None),
+        (usage, Some("config.toml"), None),
+        (usage, None, None),
+        (read, Some("--foo"), None),
+    ] {
+        let mut ending = misused(rt.alloc(), first, fault);
+        if ending.more.is_none() {
+            ending = misused(rt.alloc(), first, fault);
+        }
+        assert!(rt; ending.refusal == fault && ending.more.as_deref() == more);
+    }
+    Ok(())
+}
+
 /// What a program ends with whose file was read so: the fault, and what more there is to say; or how many lines its
 /// configuration lets a journal have.
 fn told(alloc: Global, bytes: io::Result<Vec<u8>>) -> Result<String, AllocError> {
