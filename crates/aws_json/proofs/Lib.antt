@@ -4,3 +4,4 @@ pub mod UrlLemmas
 pub mod ReplyLemmas
 pub mod ActionLemmas
 pub mod SentLemmas
+pub mod OfferedLemmas

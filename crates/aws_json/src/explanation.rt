@@ -82,7 +82,7 @@ fn refused(alloc: Global, action: &str, body: &[u8]) -> Looked {
 
 /// What is said where no action is named.
 const NO_ACTION: &str =
-    "X-Amz-Target names no action of AmazonSQS; SDKs from before November 2023 do not send it";
+    "X-Amz-Target is missing, or names no action of AmazonSQS; SDKs from before November 2023 do not send it";
 
 /// Says that an action is not served.
 fn unserved(alloc: Global, action: &str) -> Looked {

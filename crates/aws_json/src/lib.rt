@@ -12,7 +12,8 @@
 //! - [`Prefix`] and [`QueueNames`]: which queues a client lists, and which there are.
 //! - [`Listed`]: a list, which contracts see as such.
 //! - [`action_place`], [`action_at`], [`ACTION_COUNT`]: the actions that are served, each at its place in a table.
-//! - [`read_object`]: the JSON object that a body is. [`read_queue`]: the queue that it names.
+//! - [`read_object`]: the JSON object that a body is. [`read_queue`]: the queue that it names. [`name_part`]: what a URL says
+//!   behind its last slash.
 //!
 //! Each contract but that of [`explain`] is exact: it names the value, or the one refusal, that a
 //! definition in `specs/` computes from the bytes. Lack of memory is the one thing that may come in
@@ -28,6 +29,7 @@ mod explanation;
 mod listed;
 mod members;
 mod message_reply;
+mod message_text;
 mod named_queue;
 mod put;
 mod queue_reply;
@@ -46,6 +48,7 @@ pub use batch::{BatchAnswer, BatchAnswers, BatchEntry, Entries, EntryReply};
 pub use explanation::explain;
 pub use listed::Listed;
 pub use members::read_object;
+pub use named_queue::name_part;
 pub use refusal::{fault_text, status};
 pub use reply::{QueueNames, ReplyShape, reply_text};
 pub use request::{AttributeNames, ReceiveNames, Request};

@@ -145,7 +145,7 @@ fn put_attributes(
 }
 
 /// The handle that an offer is changed and deleted by.
-fn handle_of_offer(uid: u64, offer: &Offer) -> Handle
+pub(crate) fn handle_of_offer(uid: u64, offer: &Offer) -> Handle
     ensures { result ≡ handle_of_offer uid offer.now }
 {
     Handle {

@@ -6,7 +6,7 @@ ghost use Rattle.aws_json.specs.Request.{name_part, named_queue, queue_given, kn
 use message::{Fault, QueueName};
 
 /// The text after the last slash, or all of it where there is none.
-pub(crate) fn name_part(url: &str) -> &str
+pub fn name_part(url: &str) -> &str
     ensures { result.now ≡ name_part url.now }
 {
     match url.rsplit_once('/') {

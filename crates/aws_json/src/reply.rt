@@ -11,7 +11,7 @@ ghost use Rattle.aws_json.specs.Reply.{queue_url, url_data, url_items, urls_data
 use crate::batch::BatchAnswers;
 use crate::batch_reply::{batch_reply, sent_text};
 use crate::listed::Listed;
-use crate::message_reply::messages_reply;
+use crate::message_text::messages_text;
 use crate::queue_reply::{attributes_reply, decimal};
 use crate::request::{AttributeNames, ReceiveNames};
 use crate::selection::Patterns;
@@ -116,6 +116,12 @@ pub fn reply_text(alloc: Global, port: u16, shape: &ReplyShape) -> Result<String
 {
     let value = match shape {
         ReplyShape::Sent { content, id } => return sent_text(alloc, content, *id),
+        ReplyShape::Messages {
+            uid,
+            names,
+            attributes,
+            offers,
+        } => return messages_text(alloc, *uid, names, attributes, offers.as_slice()),
         ReplyShape::QueueUrl(name) => url_reply(alloc, port, name)?,
         ReplyShape::QueueUrls(names) => urls_reply(alloc, port, "QueueUrls", names.as_slice())?,
         ReplyShape::SourceQueueUrls(names) => urls_reply(
@@ -127,12 +133,6 @@ pub fn reply_text(alloc: Global, port: u16, shape: &ReplyShape) -> Result<String
         ReplyShape::Attributes { names, queue, look } => {
             attributes_reply(alloc, names, queue, look)?
         }
-        ReplyShape::Messages {
-            uid,
-            names,
-            attributes,
-            offers,
-        } => messages_reply(alloc, *uid, names, attributes, offers.as_slice())?,
         ReplyShape::Batch(answers) => batch_reply(alloc, answers.as_slice())?,
         ReplyShape::Nothing => Value::Object(Map::new(alloc)),
     };

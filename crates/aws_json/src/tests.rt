@@ -34,6 +34,7 @@ GetQueueAttributes {"QueueUrl":"beta","AttributeNames":["All"]} => {"Attributes"
 SendMessage {"QueueUrl":"jobs","MessageBody":"hello","DelaySeconds":7} => {"MD5OfMessageBody":"5d41402abc4b2a76b9719d911017c592","MessageId":"01234567-89ab-cdef-fedc-ba9876543210"}
 SendMessage {"QueueUrl":"jobs","MessageBody":"hello","MessageAttributes":{"b":{"DataType":"String","StringValue":"x"},"a":{"DataType":"Binary","BinaryValue":"AA=="}}} => {"MD5OfMessageAttributes":"2cc23ebbcef47291d79349d5c0a33a94","MD5OfMessageBody":"5d41402abc4b2a76b9719d911017c592","MessageId":"01234567-89ab-cdef-fedc-ba9876543210"}
 ReceiveMessage {"QueueUrl":"dead","AttributeNames":["All"],"MessageAttributeNames":["b.*","foo"]} => {"Messages":[{"Attributes":{"ApproximateFirstReceiveTimestamp":"6000","ApproximateReceiveCount":"1","SenderId":"000000000000","SentTimestamp":"1000"},"Body":"hi","MD5OfBody":"49f68a5c8493ec2c0bf489821c21fc3b","MD5OfMessageAttributes":"e65da9a78f5eedcdf32f7219d9236dc3","MessageAttributes":{"b.c":{"BinaryValue":"AA==","DataType":"Binary"},"foo":{"DataType":"String","StringValue":"1"}},"MessageId":"00000000-0000-0001-0000-000000000000","ReceiptHandle":"000000000000000100000000000000000000000000000001"},{"Attributes":{"ApproximateFirstReceiveTimestamp":"6000","ApproximateReceiveCount":"1","DeadLetterQueueSourceArn":"arn:aws:sqs:elasticmq:000000000000:jobs","SenderId":"000000000000","SentTimestamp":"1000"},"Body":"a","MD5OfBody":"0cc175b9c0f1b6a831c399e269772661","MessageId":"00000000-0000-0002-0000-000000000000","ReceiptHandle":"000000000000000100000000000000010000000000000001"}]}
+ReceiveMessage {"QueueUrl":"dead"} => {"Messages":[{"Body":"hi","MD5OfBody":"49f68a5c8493ec2c0bf489821c21fc3b","MessageId":"00000000-0000-0001-0000-000000000000","ReceiptHandle":"000000000000000100000000000000000000000000000001"},{"Body":"a","MD5OfBody":"0cc175b9c0f1b6a831c399e269772661","MessageId":"00000000-0000-0002-0000-000000000000","ReceiptHandle":"000000000000000100000000000000010000000000000001"}]}
 DeleteMessage {"QueueUrl":"jobs","ReceiptHandle":"000000000000000100000000000000020000000000000003"} => {}
 ChangeMessageVisibility {"QueueUrl":"jobs","ReceiptHandle":"000000000000000100000000000000020000000000000003","VisibilityTimeout":4} => {}
 SendMessageBatch {"QueueUrl":"jobs","Entries":[{"Id":"e","MessageBody":"a"},{"Id":"d"},{"Id":"c","MessageBody":"b","MessageAttributes":{"b":{"DataType":"String","StringValue":"x"},"a":{"DataType":"Binary","BinaryValue":"AA=="}}},{"Id":"b","MessageBody":"\u0001"},{"Id":"z","MessageBody":"a","DelaySeconds":1},{"Id":"a-_9","MessageBody":"a"}]} => {"Failed":[{"Code":"InvalidParameterValue","Id":"d","Message":"Parameter value not allowed.","SenderFault":true},{"Code":"InvalidMessageContents","Id":"b","Message":"Characters not allowed in the message.","SenderFault":true},{"Code":"JournalFull","Id":"a-_9","Message":"The journal of the queue is full.","SenderFault":false}],"Successful":[{"Id":"e","MD5OfMessageBody":"0cc175b9c0f1b6a831c399e269772661","MessageId":"00000000-0000-0001-0000-000000000000"},{"Id":"c","MD5OfMessageAttributes":"2cc23ebbcef47291d79349d5c0a33a94","MD5OfMessageBody":"92eb5ffee6ae2fec3ad71c777531578f","MessageId":"00000000-0000-0001-0000-000000000000"},{"Id":"z"}]}
@@ -372,4 +373,11 @@ fn places_of_actions(rt: HostRuntime) {
     }
     assert!(rt; action_at(ACTION_COUNT).is_none());
     assert!(rt; action_place("sendMessage").is_none());
+}
+
+#[test]
+fn behind_the_last_slash(rt: HostRuntime) {
+    for url in ["http://localhost:9324/000000000000/jobs", "/jobs", "jobs"] {
+        assert_eq!(rt; name_part(url), "jobs", "{url}");
+    }
 }

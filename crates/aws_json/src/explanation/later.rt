@@ -2,7 +2,7 @@
 //! refusal alone.
 
 use crate::actions::Action;
-use crate::batch::{BatchEntry, EntryKind};
+use crate::batch::{BatchEntry, Entries, EntryKind};
 use crate::explanation::batches::look_at_entry;
 use crate::explanation::kinds::object_of;
 use crate::explanation::words::{Looked, found, grouped};
@@ -11,7 +11,7 @@ use crate::request::Request;
 use message::{Content, Fault, QueueName};
 use queue_config::{QUEUE_LIMIT, Wish};
 use queue_core::{LONGEST_TIMEOUT, Timeout};
-use std::alloc::Global;
+use std::alloc::{AllocError, Global};
 
 /// Looks for what a request that was read was refused for.
 pub(super) fn refused_later(
@@ -29,7 +29,7 @@ pub(super) fn refused_later(
         Fault::JournalFull => of_queue(
             alloc,
             request,
-            "and its journal is full (max_lines) until messages expire or it is deleted",
+            "and its journal is full (max_lines): nothing can be sent, received, deleted or purged until messages expire; raise max_lines, or delete the queue",
         ),
         Fault::Spent => of_queue(
             alloc,
@@ -140,10 +140,12 @@ fn too_much(alloc: Global, action: Action, request: &Request) -> Looked {
             alloc,
             "MessageBody and MessageAttributes of an entry of Entries have more bytes together than MaximumMessageSize",
         )),
-        (Action::Batch(EntryKind::Change), _) => found(String::from_str(
-            alloc,
-            "VisibilityTimeout of an entry of Entries would end more than twelve hours after the message was last received",
-        )),
+        (Action::Batch(EntryKind::Change), Request::Batch { entries, .. }) => {
+            let place = member_of_entry(alloc, entries, "VisibilityTimeout")?;
+            found(format!(in alloc;
+                "{place} would end more than twelve hours after the message was last received"
+            ))
+        }
         _ => Ok(()),
     }
 }
@@ -170,13 +172,36 @@ fn too_late(alloc: Global, timeout: &Timeout) -> Looked {
     ))
 }
 
+/// The place of the only entry that was not refused in reading; `None` where there are more.
+fn only_read(entries: &Entries) -> Option<usize> {
+    let mut only = None;
+    for (place, entry) in entries.as_slice().iter().enumerate() {
+        if entry.command.is_ok() {
+            if only.is_some() {
+                return None;
+            }
+            only = Some(place);
+        }
+    }
+    only
+}
+
+/// A member of the entry that a queue refused, with its place where no other entry can be meant.
+fn member_of_entry(alloc: Global, entries: &Entries, name: &str) -> Result<String, AllocError> {
+    match only_read(entries) {
+        Some(place) => format!(in alloc; "Entries[{place}].{name}"),
+        None => format!(in alloc; "{name} of an entry of Entries"),
+    }
+}
+
 /// Says what a queue has against a handle.
 fn of_handle(alloc: Global, request: &Request, fault: Fault) -> Looked {
+    let name = "ReceiptHandle";
     let (queue, place) = match request {
         Request::DeleteMessage { queue, .. } | Request::ChangeMessageVisibility { queue, .. } => {
-            (queue, "ReceiptHandle")
+            (queue, String::from_str(alloc, name)?)
         }
-        Request::Batch { queue, .. } => (queue, "ReceiptHandle of an entry of Entries"),
+        Request::Batch { queue, entries } => (queue, member_of_entry(alloc, entries, name)?),
         _ => return Ok(()),
     };
     if fault == Fault::MessageNotInflight {

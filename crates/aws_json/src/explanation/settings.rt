@@ -58,12 +58,22 @@ fn look_at_setting(alloc: Global, name: &str, text: &str) -> Looked {
     }
 }
 
-/// Says what is wrong with the text of a number.
+/// Whether a text has the form of a number: 1 to 9 digits.
+fn is_number(text: &str) -> bool {
+    !text.is_empty() && text.len() <= 9 && text.bytes().all(|byte| byte.is_ascii_digit())
+}
+
+/// Says what is wrong with the text of a number: its form, or else its range alone.
 fn number(alloc: Global, setting: Setting, text: &str) -> Looked {
     let row = setting_row(setting);
     let place = inside(alloc, "Attributes", row.name)?;
     let range = range(alloc, u64::from(row.least), u64::from(row.most))?;
-    let wanted = format!(in alloc; "{range}, in 1 to 9 digits, is")?;
+    let form = if is_number(text) {
+        ""
+    } else {
+        ", in 1 to 9 digits,"
+    };
+    let wanted = format!(in alloc; "{range}{form} is")?;
     let value = Value::String(String::from_str(alloc, text)?);
     unwanted(alloc, place.as_str(), &value, wanted.as_str())
 }

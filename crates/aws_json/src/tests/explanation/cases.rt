@@ -22,9 +22,10 @@ InvalidAttributeName SetQueueAttributes {"QueueUrl":"jobs","Attributes":{"a \"qu
 InvalidAttributeName GetQueueAttributes {"QueueUrl":"jobs","AttributeNames":["All","FifoQueue"]} => AttributeNames has the unknown name FifoQueue (there are no FIFO queues)
 InvalidAttributeName ReceiveMessage {"QueueUrl":"jobs","AttributeNames":["All","all"]} => AttributeNames has the unknown name all
 InvalidAttributeName ReceiveMessage {"QueueUrl":"jobs","AttributeNames":["All"],"MessageSystemAttributeNames":["SenderId","QueueArn"]} => MessageSystemAttributeNames has the unknown name QueueArn
-InvalidAttributeValue CreateQueue {"QueueName":"jobs","Attributes":{"DelaySeconds":"901"}} => Attributes.DelaySeconds is 901, and 0 to 900, in 1 to 9 digits, is wanted
-InvalidAttributeValue SetQueueAttributes {"QueueUrl":"jobs","Attributes":{"MessageRetentionPeriod":"59"}} => Attributes.MessageRetentionPeriod is 59, and 60 to 1,209,600, in 1 to 9 digits, is wanted
-InvalidAttributeValue SetQueueAttributes {"QueueUrl":"jobs","Attributes":{"MaximumMessageSize":"1048577"}} => Attributes.MaximumMessageSize is 1048577, and 1,024 to 1,048,576, in 1 to 9 digits, is wanted
+InvalidAttributeValue CreateQueue {"QueueName":"jobs","Attributes":{"DelaySeconds":"901"}} => Attributes.DelaySeconds is 901, and 0 to 900 is wanted
+InvalidAttributeValue SetQueueAttributes {"QueueUrl":"jobs","Attributes":{"MessageRetentionPeriod":"59"}} => Attributes.MessageRetentionPeriod is 59, and 60 to 1,209,600 is wanted
+InvalidAttributeValue SetQueueAttributes {"QueueUrl":"jobs","Attributes":{"MaximumMessageSize":"1048577"}} => Attributes.MaximumMessageSize is 1048577, and 1,024 to 1,048,576 is wanted
+InvalidAttributeValue SetQueueAttributes {"QueueUrl":"jobs","Attributes":{"VisibilityTimeout":"999999999"}} => Attributes.VisibilityTimeout is 999999999, and 0 to 43,200 is wanted
 InvalidAttributeValue SetQueueAttributes {"QueueUrl":"jobs","Attributes":{"VisibilityTimeout":" 5"}} => Attributes.VisibilityTimeout is " 5", and 0 to 43,200, in 1 to 9 digits, is wanted
 InvalidAttributeValue SetQueueAttributes {"QueueUrl":"jobs","Attributes":{"ReceiveMessageWaitTimeSeconds":"0000000020"}} => Attributes.ReceiveMessageWaitTimeSeconds is 0000000020, and 0 to 20, in 1 to 9 digits, is wanted
 InvalidAttributeValue SetQueueAttributes {"QueueUrl":"jobs","Attributes":{"DelaySeconds":"","RedrivePolicy":"{}","Zzz":"1"}} => Attributes.DelaySeconds is "", and 0 to 900, in 1 to 9 digits, is wanted
@@ -76,7 +77,8 @@ InvalidParameterValue ChangeMessageVisibility {"QueueUrl":"jobs","ReceiptHandle"
 InvalidParameterValue SendMessageBatch {"QueueUrl":"jobs","Entries":[{"Id":"a","MessageBody":"a"},{"Id":"b","MessageBody":"b","DelaySeconds":901},{"Id":"c"}]} => Entries[1].DelaySeconds is 901, and 0 to 900 is wanted
 InvalidParameterValue SendMessageBatch {"QueueUrl":"jobs","Entries":[{"Id":"a","MessageBody":"a"}]} => MessageBody and MessageAttributes of an entry of Entries have more bytes together than MaximumMessageSize
 InvalidParameterValue ChangeMessageVisibilityBatch {"QueueUrl":"jobs","Entries":[{"Id":"a","ReceiptHandle":"000000000000000100000000000000000000000000000001"}]} => Entries[0].VisibilityTimeout is missing
-InvalidParameterValue ChangeMessageVisibilityBatch {"QueueUrl":"jobs","Entries":[{"Id":"a","ReceiptHandle":"000000000000000100000000000000000000000000000001","VisibilityTimeout":5}]} => VisibilityTimeout of an entry of Entries would end more than twelve hours after the message was last received
+InvalidParameterValue ChangeMessageVisibilityBatch {"QueueUrl":"jobs","Entries":[{"Id":"a","ReceiptHandle":"000000000000000100000000000000000000000000000001","VisibilityTimeout":5}]} => Entries[0].VisibilityTimeout would end more than twelve hours after the message was last received
+InvalidParameterValue ChangeMessageVisibilityBatch {"QueueUrl":"jobs","Entries":[{"Id":"a","ReceiptHandle":"000000000000000100000000000000000000000000000001","VisibilityTimeout":5},{"Id":"b","ReceiptHandle":"000000000000000100000000000000000000000000000001","VisibilityTimeout":6}]} => VisibilityTimeout of an entry of Entries would end more than twelve hours after the message was last received
 InvalidMessageContents SendMessage {"QueueUrl":"jobs","MessageBody":"\u0001"} => MessageBody has U+0001 as character 1, which messages may not have
 InvalidMessageContents SendMessage {"QueueUrl":"jobs","MessageBody":"aé\u0009\n\r \uFFFE\u0001","DelaySeconds":901} => MessageBody has U+FFFE as character 7, which messages may not have
 InvalidMessageContents SendMessage {"QueueUrl":"jobs","MessageBody":"a","MessageAttributes":{"b":{"DataType":"String","StringValue":""},"a":{"DataType":"String","StringValue":"x\u0000"}}} => MessageAttributes.a.StringValue has U+0000 as character 2, which messages may not have
@@ -85,9 +87,11 @@ ReceiptHandleIsInvalid DeleteMessage {"QueueUrl":"jobs","ReceiptHandle":"0000000
 ReceiptHandleIsInvalid ChangeMessageVisibility {"QueueUrl":"jobs","ReceiptHandle":"","VisibilityTimeout":-1} => ReceiptHandle is not one of this server, where each has 48 characters, 0 to 9 and a to f
 ReceiptHandleIsInvalid DeleteMessageBatch {"QueueUrl":"jobs","Entries":[{"Id":"a"},{"Id":"b","ReceiptHandle":"z"}]} => Entries[1].ReceiptHandle is not one of this server, where each has 48 characters, 0 to 9 and a to f
 ReceiptHandleIsInvalid DeleteMessage {"QueueUrl":"jobs","ReceiptHandle":"000000000000000000000000000000000000000000000000"} => ReceiptHandle is none that the queue jobs gave
-ReceiptHandleIsInvalid DeleteMessageBatch {"QueueUrl":"jobs","Entries":[{"Id":"a","ReceiptHandle":"000000000000000000000000000000000000000000000000"}]} => ReceiptHandle of an entry of Entries is none that the queue jobs gave
+ReceiptHandleIsInvalid DeleteMessageBatch {"QueueUrl":"jobs","Entries":[{"Id":"a","ReceiptHandle":"000000000000000000000000000000000000000000000000"}]} => Entries[0].ReceiptHandle is none that the queue jobs gave
+ReceiptHandleIsInvalid DeleteMessageBatch {"QueueUrl":"jobs","Entries":[{"Id":"a"},{"Id":"b"},{"Id":"c","ReceiptHandle":"000000000000000000000000000000000000000000000000"}]} => Entries[2].ReceiptHandle is none that the queue jobs gave
+ReceiptHandleIsInvalid DeleteMessageBatch {"QueueUrl":"jobs","Entries":[{"Id":"a","ReceiptHandle":"000000000000000000000000000000000000000000000000"},{"Id":"b","ReceiptHandle":"000000000000000000000000000000000000000000000000"}]} => ReceiptHandle of an entry of Entries is none that the queue jobs gave
 MessageNotInflight ChangeMessageVisibility {"QueueUrl":"jobs","ReceiptHandle":"000000000000000100000000000000000000000000000001","VisibilityTimeout":60} => ReceiptHandle is of a message that is not in flight, or not the latest of its message
-MessageNotInflight ChangeMessageVisibilityBatch {"QueueUrl":"jobs","Entries":[{"Id":"a","ReceiptHandle":"000000000000000100000000000000000000000000000001","VisibilityTimeout":5}]} => ReceiptHandle of an entry of Entries is of a message that is not in flight, or not the latest of its message
+MessageNotInflight ChangeMessageVisibilityBatch {"QueueUrl":"jobs","Entries":[{"Id":"a","ReceiptHandle":"000000000000000100000000000000000000000000000001","VisibilityTimeout":5}]} => Entries[0].ReceiptHandle is of a message that is not in flight, or not the latest of its message
 OverLimit ReceiveMessage {"QueueUrl":"jobs"} => QueueUrl names the queue jobs, and it has as many messages in flight as it may have (in_flight)
 OverLimit CreateQueue {"QueueName":"jobs"} => QueueName is jobs, and 1,000 queues are open, or all numbers of queues are used
 EmptyBatchRequest SendMessageBatch {"QueueUrl":"nosuch","Entries":[]} => Entries has no entries, and 1 to 10 are wanted
@@ -97,7 +101,7 @@ InvalidBatchEntryId SendMessageBatch {"QueueUrl":"jobs","Entries":[{"Id":"a","Me
 InvalidBatchEntryId ChangeMessageVisibilityBatch {"QueueUrl":"jobs","Entries":[{"ReceiptHandle":"z"}]} => Entries[0].Id is missing
 UnsupportedOperation TagQueue {"QueueUrl": => The action TagQueue is not served
 UnsupportedOperation send/message {} => The action "send/message" is not served
-UnsupportedOperation - {} => X-Amz-Target names no action of AmazonSQS; SDKs from before November 2023 do not send it
+UnsupportedOperation - {} => X-Amz-Target is missing, or names no action of AmazonSQS; SDKs from before November 2023 do not send it
 SerializationException SendMessage  => The body is empty, and a JSON object is wanted
 SerializationException SendMessage {"QueueUrl":"jobs","MessageBody":"a" => The body is no JSON: it ends too early, at or after line 1, column 36
 SerializationException SendMessage {"QueueUrl":"jobs => The body is no JSON: it ends too early, at or after line 1, column 13
@@ -125,8 +129,8 @@ SerializationException SendMessageBatch {"QueueUrl":5,"Entries":[{"Id":"a b"},nu
 SerializationException SendMessageBatch {"QueueUrl":5,"Entries":[{"Id":"a b"},{"Id":"a","MessageAttributes":{"a":{"StringValue":5}}}]} => Entries[1].MessageAttributes.a.StringValue is a number, and a string is wanted
 SerializationException DeleteMessageBatch {"QueueUrl":5,"Entries":null} => QueueUrl is a number, and a string is wanted
 SerializationException ChangeMessageVisibilityBatch {"QueueUrl":"jobs","Entries":[{"Id":"x","VisibilityTimeout":"5"}]} => Entries[0].VisibilityTimeout is a string, and a whole number is wanted
-JournalFull SendMessage {"QueueUrl":"jobs","MessageBody":"a"} => QueueUrl names the queue jobs, and its journal is full (max_lines) until messages expire or it is deleted
-JournalFull PurgeQueue {"QueueUrl":"x/y/jobs"} => QueueUrl names the queue jobs, and its journal is full (max_lines) until messages expire or it is deleted
+JournalFull SendMessage {"QueueUrl":"jobs","MessageBody":"a"} => QueueUrl names the queue jobs, and its journal is full (max_lines): nothing can be sent, received, deleted or purged until messages expire; raise max_lines, or delete the queue
+JournalFull PurgeQueue {"QueueUrl":"x/y/jobs"} => QueueUrl names the queue jobs, and its journal is full (max_lines): nothing can be sent, received, deleted or purged until messages expire; raise max_lines, or delete the queue
 OutOfMemory SendMessage {"QueueUrl":"jobs","MessageBody":"a"} => Memory was refused to the server while it worked at the request
 OutOfMemory CreateQueue {"QueueName":"jobs"} => Memory was refused to the server, or the thread of the new queue could not be started
 Spent GetQueueAttributes {"QueueUrl":"jobs"} => QueueUrl names the queue jobs, and it has answered as many calls as a queue can
