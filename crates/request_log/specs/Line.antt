@@ -1,4 +1,4 @@
--- The line for a request: this project's own.
+-- The lines for a request, and for a connection or a port: this project's own.
 use Rattle.std.specs.Prelude.{ℕ, ◌/◌, ◌%◌, List, [], ◌∷◌, ◌++◌, codes, decimal, Option, Some, None, option_and_then}
 use Rattle.std.specs.List.{concat}
 use Rattle.std.specs.Option.{option_map_or}
@@ -21,7 +21,7 @@ three_digits n = decimal (n / 100 % 10) ++ two_digits n
 abbrev pub time_of_day : ℕ → List ℕ
 time_of_day at =
     concat (two_digits (at / 3_600_000 % 24) ∷ codes ":" ∷ two_digits (at / 60_000 % 60) ∷ codes ":" ∷ two_digits (at / 1000 % 60)
-    ∷ codes "." ∷ three_digits (at % 1000) ∷ [])
+    ∷ codes "." ∷ three_digits (at % 1000) ∷ codes "Z" ∷ [])
 
 -- ---- the queue that a request names
 
@@ -59,3 +59,7 @@ refusal_text (Some refusal) = codes " " ++ (refusal.0 ++ (codes ": " ++ refusal.
 abbrev pub line_text : ℕ → List ℕ → Option (List ℕ) → ℕ → Option (List ℕ × List ℕ) → List ℕ
 line_text at action queue status refusal =
     concat (time_of_day at ∷ codes " " ∷ action ∷ codes " " ∷ queue_text queue ∷ codes " " ∷ decimal status ∷ refusal_text refusal ∷ [])
+
+-- what happened to a connection or a port, and when
+abbrev pub notice_text : ℕ → List ℕ → List ℕ → List ℕ
+notice_text at about words = concat (time_of_day at ∷ codes " " ∷ about ∷ codes ": " ∷ words ∷ [])

@@ -7,8 +7,8 @@ use std::mem;
 /// How long a line is held back after it was told, in milliseconds.
 const PAUSE: u64 = 1000;
 
-/// How many bytes a time of day has, as 12:03:04.123.
-const TIME: usize = 12;
+/// How many bytes a time of day has, as 12:03:04.123Z.
+const TIME: usize = 13;
 
 /// What a line says behind the time of day that it may begin with: its first word, if that is as long as a time.
 fn behind_time(line: &str) -> &str {

@@ -4,17 +4,16 @@ ghost use Rattle.std.specs.Prelude.{◌≡◌, IfErr, IfOk, Ok, Some, None, opti
 ghost use Rattle.message.specs.Fault.{Meets};
 ghost use Rattle.message.specs.declared.fault.Fault.TheVariants.{OutOfMemory};
 ghost use Rattle.serde_json.specs.View.{view};
-ghost use Rattle.aws_json.specs.Request.{name_part};
 ghost use Rattle.aws_json.specs.Steps.{result_map};
 ghost use Rattle.request_log.specs.Actions.{name_at, place_of};
-ghost use Rattle.request_log.specs.Line.{told_name, queue_of, told_queue, queue_text, refusal_text, line_text};
+ghost use Rattle.request_log.specs.Line.{told_name, queue_of, told_queue, queue_text, refusal_text, line_text, notice_text};
 
 use crate::actions::{name_at, place_of};
 use crate::object::object_in;
-use crate::refusal::{Refusal, failed, refusal_of};
+use crate::refusal::{Failures, Refusal, failed, refusal_of};
 use crate::reply::Reply;
 use crate::time::time_of_day;
-use aws_json::explain;
+use aws_json::{explain, name_part};
 use journal::Moment;
 use message::{Fault, QueueName};
 use serde_json::Value;
@@ -68,16 +67,6 @@ fn line_of(
     Ok(format!(in alloc; "{time} {action} {queue} {status}{refusal}")?)
 }
 
-/// What stands behind the last slash of a URL, which may have none.
-fn behind_slash(url: &str) -> &str
-    ensures { result.now ≡ name_part url.now }
-{
-    match url.rsplit_once('/') {
-        Some((_, name)) => name,
-        None => url,
-    }
-}
-
 /// The name of a queue in a body, by its URL or by itself.
 fn told_name(body: &Value) -> Option<&str>
     ensures { option_map (λ s. s.now) result ≡ told_name (view body.now) }
@@ -92,7 +81,7 @@ fn told_name(body: &Value) -> Option<&str>
 fn queue_of(body: &Value) -> Option<QueueName>
     ensures { result ≡ queue_of (view body.now) }
 {
-    QueueName::read(behind_slash(told_name(body)?)).ok()
+    QueueName::read(name_part(told_name(body)?)).ok()
 }
 
 /// The queue that a body names, where it does. `OutOfMemory` is the only refusal.
@@ -116,25 +105,25 @@ fn reason_of_fault(alloc: Global, action: &str, body: &[u8], fault: Fault) -> Re
     })
 }
 
-/// What was wrong with entries of a batch, by the refusal of the first one.
+/// What was wrong with entries of a batch, by the refusal of the first one, and which they are.
 fn reason_of_entries(
     alloc: Global,
     action: &str,
     body: &[u8],
-    count: usize,
-    fault: Fault,
+    failures: Failures,
 ) -> Result<Reason, Fault>
     ensures short { IfErr result (λ fault. fault ≡ OutOfMemory) }
 {
-    let words = explain(alloc, action, body, fault)?;
+    let Failures { first, count, ids } = failures;
+    let words = explain(alloc, action, body, first)?;
     let entries = if count == 1 {
         "entry was"
     } else {
         "entries were"
     };
     Ok(Reason {
-        name: fault.name(),
-        words: format!(in alloc; "{words}; {count} {entries} refused")?,
+        name: first.name(),
+        words: format!(in alloc; "{words}; {count} {entries} refused: {ids}")?,
     })
 }
 
@@ -147,8 +136,8 @@ fn reason_of(
 ) -> Result<Option<Reason>, Fault>
     ensures short { IfErr result (λ fault. fault ≡ OutOfMemory) }
 {
-    if let Some((count, fault)) = failed(alloc, reply)? {
-        return Ok(Some(reason_of_entries(alloc, action, body, count, fault)?));
+    if let Some(failures) = failed(alloc, reply)? {
+        return Ok(Some(reason_of_entries(alloc, action, body, failures)?));
     }
     match refusal_of(reply) {
         Some(Refusal::Fault(fault)) => Ok(Some(reason_of_fault(alloc, action, body, fault)?)),
@@ -161,7 +150,7 @@ fn reason_of(
 }
 
 /// The line for a request of an action and a body that was answered so at a moment (this project's own form), in UTC:
-/// `12:03:04.123 SendMessage jobs 400 InvalidParameterValue: MessageBody is empty`. An action that is not served and a
+/// `12:03:04.123Z SendMessage jobs 400 InvalidParameterValue: MessageBody is empty`. An action that is not served and a
 /// queue that is not named are hyphens. `OutOfMemory` is the only refusal.
 pub fn line_for(
     alloc: Global,
@@ -184,4 +173,13 @@ pub fn line_for(
         reply.status,
         reason.as_ref(),
     )
+}
+
+/// The line for what happened to a connection or a port at a moment, in UTC: `12:03:04.123Z connection: ..`.
+/// `OutOfMemory` is the only refusal.
+pub fn notice_line(alloc: Global, at: Moment, about: &str, words: &str) -> Result<String, Fault>
+    ensures { Meets (result_map (λ s. string_bytes s) result) (Ok (notice_text at about.now words.now)) }
+{
+    let time = time_of_day(alloc, at)?;
+    Ok(format!(in alloc; "{time} {about}: {words}")?)
 }

@@ -67,7 +67,10 @@ pub(crate) fn refusal_of(reply: &Reply<'_>) -> Option<Refusal> {
             "Forbidden",
             "the request has the header Origin, as requests of web pages do",
         )),
-        405 => Some(Refusal::Other("MethodNotAllowed", "its method is not POST")),
+        405 => Some(Refusal::Other(
+            "MethodNotAllowed",
+            "its method is not POST; the page, statistics and metrics are at the other port",
+        )),
         413 => Some(Refusal::Other("ContentTooLarge", "its body has more than 8,388,608 bytes")),
         500 => Some(Refusal::Other(
             "ServiceUnavailable",
@@ -98,23 +101,57 @@ fn fault_named(name: &str) -> Option<Fault> {
     None
 }
 
-/// How many entries of a batch such an object tells of that were refused, and the refusal of the first one.
-fn first_failed(body: &Value) -> Option<(usize, Fault)> {
-    let entries = body.get("Failed")?.as_array()?;
-    let code = entries.first()?.get("Code")?.as_str()?;
-    Some((entries.len(), fault_named(code)?))
+/// The entries of a batch that were refused.
+#[derive(Debug, Drop)]
+pub(crate) struct Failures {
+    /// The refusal of the first one.
+    pub first: Fault,
+    pub count: usize,
+    /// Their ids, in their order, each in quotes.
+    pub ids: String,
 }
 
-/// How many entries a reply tells of that were refused, and the refusal of the first one; `None` where there are none.
-/// `OutOfMemory` is the only refusal.
-pub(crate) fn failed(alloc: Global, reply: &Reply<'_>) -> Result<Option<(usize, Fault)>, Fault>
+/// The entries that such an object tells of, and the refusal of the first one.
+fn first_failed(body: &Value) -> Option<(&[Value], Fault)> {
+    let entries = body.get("Failed")?.as_array()?.as_slice();
+    let code = entries.first()?.get("Code")?.as_str()?;
+    Some((entries, fault_named(code)?))
+}
+
+/// The id of one: letters, digits, `-` and `_`.
+fn id_of(entry: &Value) -> Option<&str> {
+    entry.get("Id")?.as_str()
+}
+
+/// The ids of all, each in quotes.
+fn ids_of(alloc: Global, entries: &[Value]) -> Result<String, Fault>
+    ensures short { IfErr result (λ fault. fault ≡ OutOfMemory) }
+{
+    let mut ids = String::new(alloc);
+    for entry in entries {
+        let comma = if ids.is_empty() { "" } else { ", " };
+        let id = id_of(entry).unwrap_or("");
+        write!(ids, "{comma}\"{id}\"")?;
+    }
+    Ok(ids)
+}
+
+/// The entries that a reply tells of that were refused; `None` where there are none. `OutOfMemory` is the only refusal.
+pub(crate) fn failed(alloc: Global, reply: &Reply<'_>) -> Result<Option<Failures>, Fault>
     ensures short { IfErr result (λ fault. fault ≡ OutOfMemory) }
 {
     if !has_failed(reply) {
         return Ok(None);
     }
-    match object_in(alloc, reply.body)? {
-        Some(body) => Ok(first_failed(&body)),
-        None => Ok(None),
-    }
+    let Some(body) = object_in(alloc, reply.body)? else {
+        return Ok(None);
+    };
+    let Some((entries, first)) = first_failed(&body) else {
+        return Ok(None);
+    };
+    Ok(Some(Failures {
+        first,
+        count: entries.len(),
+        ids: ids_of(alloc, entries)?,
+    }))
 }

@@ -27,7 +27,7 @@ fn three_digits(alloc: Global, number: u64) -> Result<String, Fault>
     Ok(format!(in alloc; "{hundred}{others}")?)
 }
 
-/// The time of day at a moment since 1970, to the millisecond, as 12:03:04.123 (UTC).
+/// The time of day at a moment since 1970, to the millisecond, as 12:03:04.123Z (UTC).
 pub(crate) fn time_of_day(alloc: Global, at: Moment) -> Result<String, Fault>
     ensures { Meets (result_map (λ s. string_bytes s) result) (Ok (time_of_day at)) }
 {
@@ -36,5 +36,5 @@ pub(crate) fn time_of_day(alloc: Global, at: Moment) -> Result<String, Fault>
     let minutes = two_digits(alloc, at / 60_000 % 60)?;
     let seconds = two_digits(alloc, at / 1000 % 60)?;
     let milliseconds = three_digits(alloc, at % 1000)?;
-    Ok(format!(in alloc; "{hours}:{minutes}:{seconds}.{milliseconds}")?)
+    Ok(format!(in alloc; "{hours}:{minutes}:{seconds}.{milliseconds}Z")?)
 }
