@@ -136,7 +136,7 @@ button[aria-expanded=true]::before { transform: rotate(90deg); }
 <option value="inFlight">most in flight first</option>
 <option value="delayed">most delayed first</option>
 <option value="age">oldest message first</option>
-<option value="refused">most refused this minute first</option>
+<option value="refused">most calls refused by the queue this minute first</option>
 </select></label>
 <span id="shown" role="status"></span>
 <span class="keys"><kbd>/</kbd> find &#160; <kbd>Tab</kbd> to a queue, <kbd>&#8593;</kbd> <kbd>&#8595;</kbd> to the next &#160; <kbd>Esc</kbd> all queues</span>
@@ -148,7 +148,7 @@ button[aria-expanded=true]::before { transform: rotate(90deg); }
 <div id="table" role="table" aria-label="Queues, each with a button that opens its card" hidden>
 <div role="rowgroup" class="head">
 <div class="groups" aria-hidden="true"><span>now</span><span>this minute</span></div>
-<div role="row"><div role="columnheader">queue</div><div role="columnheader">visible</div><div role="columnheader" class="less">delayed</div><div role="columnheader">in flight</div><div role="columnheader" class="least">age</div><div role="columnheader" class="least" aria-label="sent this minute">sent</div><div role="columnheader" class="less" aria-label="received this minute">received</div><div role="columnheader" class="less" aria-label="deleted this minute">deleted</div><div role="columnheader" class="least" aria-label="refused this minute">refused</div><div role="columnheader" class="state">alarms</div></div>
+<div role="row"><div role="columnheader">queue</div><div role="columnheader">visible</div><div role="columnheader" class="less">delayed</div><div role="columnheader">in flight</div><div role="columnheader" class="least">age</div><div role="columnheader" class="least" aria-label="sent this minute">sent</div><div role="columnheader" class="less" aria-label="received this minute">received</div><div role="columnheader" class="less" aria-label="deleted this minute">deleted</div><div role="columnheader" class="least" aria-label="calls refused by the queue this minute">refused</div><div role="columnheader" class="state">alarms</div></div>
 </div>
 <div role="rowgroup" id="rows"></div>
 </div>
@@ -453,11 +453,11 @@ function drawNumbers(card) {
   const empty = now.emptyReceives ? ", " + many(now.emptyReceives, "empty receive") : "";
   const letters = now.deadLettersArrived ? ", " + many(now.deadLettersArrived, "dead letter") : "";
   put(parts.minute, "This minute: " + whole(now.sent) + " sent" + size + ", " + whole(now.received) + " received, " + whole(now.deleted) + " deleted" + empty + letters);
-  put(parts.journal, "The journal weighs " + whole(sheet.lines) + " at " + time(sheet.clock));
+  put(parts.journal, "The journal counts as " + many(sheet.lines, "line") + " at " + time(sheet.clock));
   const rows = card.rows || [], before = sum(rows, (row) => row.refused);
-  const earlier = rows.length ? ", " + whole(before) + " in the " + (rows.length === 1 ? "minute" : "minutes") + " before" : "";
+  const earlier = before ? ", " + whole(before) + " in the " + (rows.length === 1 ? "minute" : "minutes") + " before" : "";
   parts.refused.classList.toggle("some", now.refused + before > 0);
-  put(parts.refused, now.refused + before > 0 ? "Refused: " + whole(now.refused) + " this minute" + earlier : "Nothing refused");
+  put(parts.refused, (now.refused ? many(now.refused, "call") : "No call") + " refused by this queue in this minute" + earlier);
 }
 
 function drawAlarms(card) {
