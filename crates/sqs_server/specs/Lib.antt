@@ -8,5 +8,6 @@ pub mod Configured
 pub mod Orders
 pub mod Stages
 pub mod Responses
+pub mod Ports
 pub mod Viewed
 pub mod private

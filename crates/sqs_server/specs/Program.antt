@@ -1,5 +1,5 @@
 -- What the program makes of its arguments, and what it tells of how it ended: this project's own choice.
-use Rattle.std.specs.Prelude.{ℕ, ◌==◌, nat_le, if◌then◌else◌, is_some, List, ◌∷◌, [], ◌++◌, codes, Option, Some, None, Result, Ok, Err}
+use Rattle.std.specs.Prelude.{ℕ, ◌==◌, nat_le, if◌then◌else◌, is_some, List, ◌∷◌, [], ◌++◌, length, codes, Option, Some, None, Result, Ok, Err}
 use Rattle.std.specs.Option.{option_and_then, option_map_or}
 use Rattle.std.specs.declared.env.VarError.{VarError}
 use Rattle.std.specs.declared.env.VarError.TheVariants as variables
@@ -54,16 +54,17 @@ variable_name Requests = codes "JUTKARIQ_PORT"
 variable_name Statistics = codes "JUTKARIQ_STATISTICS_PORT"
 variable_name Log = codes "JUTKARIQ_LOG"
 
--- the port of a variable that may not be set
+-- the port of a variable that may not be set; the empty text counts as not set
 abbrev pub port_among : Variable → ℕ → Result (List ℕ) VarError → Result ℕ Refusal
-port_among variable usual (Ok text) = option_map_or (λ port. Ok port) (port_of text) (Err (refusals.Variable variable))
+port_among variable usual (Ok text) =
+    if length text == 0 then Ok usual else option_map_or (λ port. Ok port) (port_of text) (Err (refusals.Variable variable))
 port_among variable usual (Err variables.NotPresent) = Ok usual
 port_among variable usual (Err variables.NotUnicode) = Err (refusals.Variable variable)
 port_among variable usual (Err variables.OutOfMemory) = Err (Start OutOfMemory)
 
--- which requests are told: those that the variable names, or those that were refused where it is not set
+-- which requests are told: those that the variable names, or those that were refused where it is not set, as the empty text counts
 abbrev pub level_among : Result (List ℕ) VarError → Result Level Refusal
-level_among (Ok word) = option_map_or (λ level. Ok level) (level_named word) (Err (refusals.Variable Log))
+level_among (Ok word) = if length word == 0 then Ok levels.Refused else option_map_or (λ level. Ok level) (level_named word) (Err (refusals.Variable Log))
 level_among (Err variables.NotPresent) = Ok levels.Refused
 level_among (Err variables.NotUnicode) = Err (refusals.Variable Log)
 level_among (Err variables.OutOfMemory) = Err (Start OutOfMemory)

@@ -129,7 +129,7 @@ fn port_of(text: &str) -> Option<u16>
     u16::try_from(decimal_number(text, 5)?).ok()
 }
 
-/// The port that a variable of the environment names, or the usual one where it is not set.
+/// The port that a variable of the environment names, or the usual one where it is not set or empty.
 fn port_among(
     variable: Variable,
     usual: u16,
@@ -138,6 +138,7 @@ fn port_among(
     ensures { result ≡ port_among variable usual (result_map_both (λ s. string_bytes s) (λ error. error) value) }
 {
     match value {
+        Ok(text) if text.is_empty() => Ok(usual),
         Ok(text) => port_of(text.as_str()).ok_or(Refusal::Variable(variable)),
         Err(VarError::NotPresent) => Ok(usual),
         Err(VarError::NotUnicode) => Err(Refusal::Variable(variable)),
@@ -145,11 +146,12 @@ fn port_among(
     }
 }
 
-/// Which requests are told: those that the variable names, or those that were refused where it is not set.
+/// Which requests are told: those that the variable names, or those that were refused where it is not set or empty.
 fn level_among(value: Result<String, VarError>) -> Result<Level, Refusal>
     ensures { result ≡ level_among (result_map_both (λ s. string_bytes s) (λ error. error) value) }
 {
     match value {
+        Ok(text) if text.is_empty() => Ok(Level::Refused),
         Ok(text) => Level::named(text.as_str()).ok_or(Refusal::Variable(Variable::Log)),
         Err(VarError::NotPresent) => Ok(Level::Refused),
         Err(VarError::NotUnicode) => Err(Refusal::Variable(Variable::Log)),

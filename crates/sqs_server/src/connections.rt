@@ -6,7 +6,7 @@ ghost use Rattle.futures.specs.Poll.{OnPending};
 ghost use Rattle.futures.specs.declared.task.Poll.TheVariants.{Pending};
 ghost use Rattle.futures.specs.Task.{IsArmed, Keeps};
 ghost use Rattle.tokio.specs.Locks.{CanAcquire};
-ghost use Rattle.sqs_server.specs.private.Ports.{is_shortage};
+ghost use Rattle.sqs_server.specs.Ports.{is_shortage};
 
 use crate::attendance::{Attendance, Presence};
 use crate::front::Front;
@@ -47,13 +47,25 @@ pub struct ConnectionTask<C, R> {
     _presence: Presence,
 }
 
+/// What is said of the fault of a connection, before what hyper calls it.
+fn advice(error: &hyper::Error) -> &'static str {
+    if error.is_parse() && !error.is_parse_too_large() {
+        "what came is not HTTP/1.1 or 1.0; TLS is not served, use http://"
+    } else if error.is_incomplete_message() {
+        "the client left before it had sent all of a request, or before it was answered"
+    } else {
+        "the connection failed"
+    }
+}
+
 /// What serves a socket over which statistics are asked for.
 pub type StatisticsTask<R> = ConnectionTask<
     Connection<TcpStream, StatisticsFront<R>, Full<Bytes>, TokioTimer<R>>,
     R,
 >;
 
-impl<C: Future<Output = hyper::Result<()>>, R: Wait + Drop> Future for ConnectionTask<C, R> {
+impl<C: Future<Output = hyper::Result<()>>, R: Wait + Clock + Drop> Future
+    for ConnectionTask<C, R> {
     type Output = ();
 
     ghost can_poll = { λ t. C.can_poll t.connection.value };
@@ -69,8 +81,10 @@ impl<C: Future<Output = hyper::Result<()>>, R: Wait + Drop> Future for Connectio
             Poll::Ready(Ok(())) => {}
             Poll::Ready(Err(error)) if error.is_timeout() => {}
             Poll::Ready(Err(error)) => {
-                let line = format!(in self.alloc; "sqs_server: connection: {error}");
-                self.notices.tell(&self.rt, line);
+                let advice = advice(&error);
+                let words = format!(in self.alloc; "{advice} ({error})");
+                self.notices
+                    .tell_of(&self.rt, self.alloc, "connection", words);
             }
         }
         Poll::Ready(())
@@ -216,8 +230,9 @@ impl<R: Wait + Clock, M: MakeTask> Acceptor<'_, R, M> {
     /// The same. One that cannot be served is closed.
     fn serve(&self, socket: TcpStream) {
         if let Err(error) = self.spawn(socket) {
-            let line = format!(in self.alloc; "sqs_server: connection: {error}");
-            self.notices.tell(&self.rt, line);
+            let words = format!(in self.alloc; "{error}");
+            self.notices
+                .tell_of(&self.rt, self.alloc, "connection", words);
         }
     }
 
@@ -227,8 +242,8 @@ impl<R: Wait + Clock, M: MakeTask> Acceptor<'_, R, M> {
         ensures same { (self.new.enough ≡ self.old.enough) × (self.new.patience ≡ self.old.patience) }
         ensures patient { self.old.patience ≡ None → result ≡ None }
     {
-        let line = format!(in self.alloc; "sqs_server: accept: {error}");
-        self.notices.tell(&self.rt, line);
+        let words = format!(in self.alloc; "{error}");
+        self.notices.tell_of(&self.rt, self.alloc, "accept", words);
         if !is_shortage(&error) {
             self.failures = self.failures.saturating_add(1);
         }

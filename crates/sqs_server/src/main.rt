@@ -49,7 +49,7 @@ use notices::{Notices, start_telling};
 use register::Register;
 use request_log::Level;
 use serving::{Port, Ports, listen, refusal_of_system, serve};
-use startup::{Ending, StartFault, VERSION, configuration_in};
+use startup::{Ending, StartFault, VERSION, configuration_in, first_argument, misused};
 use std::net::{Ipv4Addr, Net, SocketAddr, TcpListener, TcpStream};
 use std::process::ExitCode;
 use std::random::RandomSource;
@@ -75,9 +75,9 @@ config.toml   the configuration: limits, queues and alarms
 connections   stop after this many connections have closed; without it, run until stopped
 
 Environment:
-JUTKARIQ_PORT              the port for requests, 9324 where it is not set
-JUTKARIQ_STATISTICS_PORT   the port for statistics, their page and /metrics, 9325 where it is not set
-JUTKARIQ_LOG               which requests get a line on standard error: refused, all or none; refused where it is not set
+JUTKARIQ_PORT              the port for requests, 9324 where it is not set or empty
+JUTKARIQ_STATISTICS_PORT   the port for statistics, their page and /metrics, 9325 where it is not set or empty
+JUTKARIQ_LOG               which requests get a line on standard error: refused, all or none; refused where it is not set or empty
 0 picks a free port. The first line on standard output names both ports.
 ";
 
@@ -85,6 +85,17 @@ JUTKARIQ_LOG               which requests get a line on standard error: refused,
 /// closed as the second one says.
 fn main(rt: HostRuntime) -> ExitCode {
     finish(&rt, run(&rt, &rt))
+}
+
+/// What the arguments ask for.
+fn wanted(host: &HostRuntime) -> Result<Wanted, Ending<Refusal>> {
+    match arguments_among(env::args(host)) {
+        Ok(wanted) => Ok(wanted),
+        Err(fault) => {
+            let first = first_argument(env::args(host));
+            Err(misused(host.alloc(), first.as_deref(), fault).of_program(Refusal::Start))
+        }
+    }
 }
 
 /// Does as the arguments say.
@@ -103,7 +114,7 @@ where
         + Drop
         + 'static,
 {
-    match arguments_among(env::args(host)).map_err(Refusal::Start)? {
+    match wanted(host)? {
         Wanted::Serve(arguments) => run_server(rt, host, &arguments),
         Wanted::Help => {
             let _ = host.print(HELP);
@@ -121,8 +132,8 @@ fn address_of(port: u16) -> SocketAddr {
     SocketAddr::from((Ipv4Addr::LOCALHOST, port))
 }
 
-/// How many threads look after the connections of the port for requests: one less than there are processors, since
-/// clients run beside the server, and two at the least. More than 16 would take descriptors and give nothing.
+/// How many threads look after the connections of the port for requests: as many as there are processors, and two at the
+/// least. More than 16 would take descriptors and give nothing.
 fn workers<R: Threads>(rt: &R) -> usize
     ensures least { 2 ≤ result }
     ensures most { result ≤ 16 }
@@ -131,10 +142,7 @@ fn workers<R: Threads>(rt: &R) -> usize
         Ok(count) => count.get(),
         Err(_unknown) => 0,
     };
-    processors
-        .saturating_sub(1)
-        .max(LEAST_WORKERS)
-        .min(MOST_WORKERS)
+    processors.max(LEAST_WORKERS).min(MOST_WORKERS)
 }
 
 /// What the environment says.

@@ -5,7 +5,7 @@
 use crate::clock::moment_of_day;
 use crossbeam_channel::{Receiver, RecvTimeoutError, Sender, bounded};
 use message::Fault;
-use request_log::Burst;
+use request_log::{Burst, notice_line};
 use std::alloc::{AllocError, Global};
 use std::sync::atomic::{AtomicBool, Ordering};
 use std::sync::{Arc, Wait};
@@ -88,6 +88,21 @@ impl Notices {
             }
             Err(AllocError) => self.shortage.note(),
         }
+    }
+
+    /// Has what happened just now to a connection or a port told, with its time.
+    pub fn tell_of<R: Wait + Clock>(
+        &self,
+        rt: &R,
+        alloc: Global,
+        about: &str,
+        words: Result<String, AllocError>,
+    ) {
+        let line = match words {
+            Ok(words) => notice_line(alloc, moment_of_day(rt), about, words.as_str()),
+            Err(AllocError) => Err(Fault::OutOfMemory),
+        };
+        self.tell(rt, line.map_err(|_| AllocError));
     }
 }
 

@@ -221,8 +221,10 @@ where
                 if !is_shortage(&error) {
                     port = None;
                 }
-                let line = format!(in self.rt.alloc(); "sqs_server: statistics: {error}");
-                self.notices.tell(&self.rt, line);
+                let alloc = self.rt.alloc();
+                let words = format!(in alloc; "{error}");
+                self.notices
+                    .tell_of(&self.rt, alloc, "statistics port", words);
             }
             thread::sleep(&self.rt, Duration::from_secs(REOPENING));
         }
@@ -352,8 +354,10 @@ where
             let Err(error) = self.serve() else {
                 return;
             };
-            let line = format!(in self.rt.alloc(); "sqs_server: requests: {error}");
-            self.notices.tell(&self.rt, line);
+            let alloc = self.rt.alloc();
+            let words = format!(in alloc; "{error}");
+            self.notices
+                .tell_of(&self.rt, alloc, "port for requests", words);
             thread::sleep(&self.rt, Duration::from_secs(REOPENING));
         }
     }

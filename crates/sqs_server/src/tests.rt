@@ -267,7 +267,7 @@ fn logged<R: Wait + Clock>(rt: &R, server: &Started, wanted: &str) -> Result<Opt
         .recv_timeout(rt, Duration::from_secs(PATIENCE))
         .map_err(|_| "a line")?;
     let (time, told) = line.split_once(' ').ok_or("a time of day")?;
-    if time.len() == "12:03:04.123".len() && told == wanted {
+    if time.len() == "12:03:04.123Z".len() && told == wanted {
         Ok(None)
     } else {
         Ok(Some(line))

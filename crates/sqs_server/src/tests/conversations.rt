@@ -280,7 +280,7 @@ A asks SendMessage {"QueueUrl":"jobs","MessageBody":"a"}
 A begins 200 {
 A asks SendMessageBatch {"QueueUrl":"jobs","Entries":[{"Id":"a","MessageBody":"b"},{"Id":"b","MessageBody":"c","DelaySeconds":901}]}
 A begins 200 {"Failed":[{"Code":"InvalidParameterValue","Id":"b"
-A logs SendMessageBatch jobs 200 InvalidParameterValue: Entries[1].DelaySeconds is 901, and 0 to 900 is wanted; 1 entry was refused
+A logs SendMessageBatch jobs 200 InvalidParameterValue: Entries[1].DelaySeconds is 901, and 0 to 900 is wanted; 1 entry was refused: "b"
 A asks ReceiveMessage {"QueueUrl":"http://localhost:9324/000000000000/nosuch"}
 A begins 400 {
 A logs ReceiveMessage nosuch 400 QueueDoesNotExist: QueueUrl names the queue nosuch, and no open queue has this name
@@ -289,7 +289,7 @@ A begins 400 {
 A logs - - 400 UnsupportedOperation: The action Foo is not served
 A sends GET / HTTP/1.1~Host: localhost~~
 A begins 405 {
-A logs - - 405 MethodNotAllowed: its method is not POST
+A logs - - 405 MethodNotAllowed: its method is not POST; the page, statistics and metrics are at the other port
 A sends POST / HTTP/1.1~Host: localhost~Origin: http://example.com~Content-Length: 2~~{}
 A begins 403 {
 A logs - - 403 Forbidden: the request has the header Origin, as requests of web pages do
