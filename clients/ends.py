@@ -125,7 +125,7 @@ def arguments(it, name, program, usage):
     it.ends(f"{name}: one with a fault", [program, "example.toml"], 1, f"{name}: {FAULT_TOLD}")
     it.ends(f"{name}: an argument that is no text", [program, NO_TEXT], 2, wrong)
     it.ends(f"{name}: a second one that is no text", [program, "good.toml", NO_TEXT], 2, wrong)
-    it.ends(f"{name}: an option that there is not", [program, "--verbose"], 2, wrong)
+    it.ends(f"{name}: an option that there is not", [program, "--verbose"], 2, f"{wrong}there is no option --verbose; --help explains\n")
     it.ends(f"{name}: too many arguments", [program, "good.toml", "1", "1"], 2, wrong)
     for option, wanted in (("--version", rf"{name} \d+\.\d+\.\d+\n"), ("--help", rf"(?s).*^usage: {re.escape(usage)}\n.*")):
         ran = subprocess.run([program, option], capture_output=True, text=True, env={}, timeout=LIMIT)
@@ -141,6 +141,8 @@ def variables(it, server):
     for name, wanted in (("PORT", "a port number, 0 to 65535"), ("STATISTICS_PORT", "a port number, 0 to 65535"), ("LOG", "refused, all or none")):
         variable = f"JUTKARIQ_{name}"
         it.ends(f"{variable} that is no text", [server, "good.toml"], 2, f"sqs_server: {variable} must be {wanted}\n", env={variable: NO_TEXT})
+        unread = f"sqs_server: read failed\nmissing.toml: {system(errno.ENOENT)}\n"
+        it.ends(f"{variable} that is empty, as if it were not set", [server, "missing.toml"], 1, unread, env={variable: ""})
 
 
 def main(words):

@@ -297,13 +297,17 @@ def descriptors(it, program, room):
         os.sched_setaffinity(0, places)
         resource.setrlimit(resource.RLIMIT_NOFILE, (DESCRIPTORS, DESCRIPTORS))
 
-    # a thread for statistics, and for requests one less than there are processors, but two at the least; each takes eight, and a connection one
-    free = DESCRIPTORS - 3 - 8 * (max(2, len(places) - 1) + 1)
+    # a thread for statistics, and for requests as many as there are processors, but two at the least; each takes eight, and a connection one
+    free = DESCRIPTORS - 3 - 8 * (max(2, len(places)) + 1)
     with Server(program, room, begin) as server, contextlib.ExitStack() as stack:
 
         def connected(port):
             return stack.enter_context(socket.create_connection(("127.0.0.1", port), LIMIT))
 
+        # a thread may take its own a moment after the server has named its ports
+        end = time.monotonic() + LIMIT
+        while len(os.listdir(f"/proc/{server.process.pid}/fd")) < DESCRIPTORS - free and time.monotonic() < end:
+            time.sleep(0.01)
         watcher, request = connected(server.statistics), head() + b"{}"
         it.equal("the health, before", answers([watcher], look()), 1)
         lines = [connected(server.port) for _ in range(CONNECTIONS)]
@@ -320,7 +324,7 @@ def descriptors(it, program, room):
         it.equal("the health afterwards, on the connection that was there", answers([watcher], look()), 1)
         it.equal("whether the server goes on", server.process.poll(), None)
         with open(server.log, encoding="utf-8") as log:
-            it.equal("what it tells", "sqs_server: accept: Too many open files (os error 24)\n" in log.readlines(), True)
+            it.equal("what it tells", any(line.endswith("Z accept: Too many open files (os error 24)\n") for line in log), True)
 
 
 def files(server):
@@ -375,10 +379,12 @@ def reopened(it, program, room):
         it.equal("whether the connection for statistics is cut", is_cut(watcher), True)
         it.equal("descriptors of the socket that failed", [*files(server).values()].count(failed), 0)
         with open(server.log, encoding="utf-8") as log:
-            lines = [line for line in log.read().splitlines() if line.startswith("sqs_server: ")]
-        refused = [re.fullmatch(rf"sqs_server: accept: {re.escape(cause)}(?: \((\d+) times? more\))?", line) for line in lines]
+            lines = [line.partition(" ")[2] for line in log.read().splitlines()]
+        # but for those of requests, which have an action, a queue and a status
+        lines = [line for line in lines if not re.match(r"\S+ \S+ \d{3}\b", line)]
+        refused = [re.fullmatch(rf"accept: {re.escape(cause)}(?: \((\d+) times? more\))?", line) for line in lines]
         it.equal("how often nothing could be accepted", sum(int(one[1] or 1) for one in refused if one), 11)
-        it.equal("what is told besides", [line for line, one in zip(lines, refused) if not one], [f"sqs_server: statistics: {cause}"])
+        it.equal("what is told besides", [line for line, one in zip(lines, refused) if not one], [f"statistics port: {cause}"])
 
 
 def owner():

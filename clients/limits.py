@@ -43,7 +43,7 @@ LARGEST, THREADS, LARGE_AT_ONCE = 8_388_608, 16, 4
 # What a request is answered that finds no memory, what is told where a line finds none, and lines that may be told of a request or a connection without memory.
 MEMORY = '{"__type":"com.amazonaws.sqs#OutOfMemory","message":"Out of memory."}'
 SHORT = "sqs_server: out of memory"
-WANT = r"\d\d:\d\d:\d\d\.\d{3} \S+ \S+ 500 OutOfMemory\b.*|sqs_server: (accept|connection|requests): .+"
+WANT = r"\d\d:\d\d:\d\d\.\d{3}Z (\S+ \S+ 500 OutOfMemory\b.*|(accept|connection|port for requests): .+)"
 # How many queues there may be, what one more is answered, and what is answered then to who asks for it: docs/PROFILE.md, sections 7 and 20.
 QUEUES = 1000
 OVER = (400, '{"__type":"com.amazonaws.sqs#OverLimit","message":"A limit is reached."}')
@@ -69,7 +69,7 @@ class Server:
     def __init__(self, program, processors=None, log="none"):
         places = sorted(os.sched_getaffinity(0))[:processors]
         # how many answer requests
-        self.threads = max(2, min(THREADS, len(places) - 1))
+        self.threads = max(2, min(THREADS, len(places)))
         self.room = tempfile.TemporaryDirectory()
         with open(f"{self.room.name}/config.toml", "w", encoding="utf-8") as it:
             it.write('[[queue]]\nname = "jobs"\n')

@@ -300,7 +300,7 @@ def check_queues(checks, held):
         check_plots(checks, queue, shown, sheet)
         refused = sum(row["refused"] for row in queue.rows(sheet["clock"]))
         said = next((it for it in shown["lines"] if "efused" in it), "")
-        checks.check(f"{name}: what was refused", (f"{refused} in the minutes before" in said) if refused else said == "Nothing refused" or "this minute" in said, [said, refused])
+        checks.check(f"{name}: what was refused", (f"{refused} in the minutes before" in said) if refused else said.endswith(" refused by this queue in this minute"), [said, refused])
         words = {"OK": ("ok", "OK"), "ALARM": ("alarm", "ALARM"), "INSUFFICIENT_DATA": ("wait", "not enough data")}
         alarms = [[words[it["state"]][0], f"{it['name']}: {words[it['state']][1]}"] for it in queue.alarms(sheet["clock"])]
         told = [[kind, text[2:]] for kind, text in shown["alarms"]] if alarms else shown["alarms"]
@@ -459,9 +459,9 @@ def check_one(checks, browser):
     browser.open(url)
     held = browser.held(are_drawn(1))
     checks.check("one queue", held["sum"].split() == "1 queue 1 visible 1 delayed 1 in flight".split(), held["sum"])
-    wanted = ["This minute: 1 sent (1 byte), 1 received, 1 deleted, 1 empty receive, 1 dead letter", "Refused: 1 this minute, 1 in the minute before"]
+    wanted = ["This minute: 1 sent (1 byte), 1 received, 1 deleted, 1 empty receive, 1 dead letter", "1 call refused by this queue in this minute, 1 in the minute before"]
     queue = held["queues"][0]
-    checks.check("one of everything", queue["lines"][:2] == wanted and queue["lines"][2].startswith("The journal weighs 1 at "), queue["lines"])
+    checks.check("one of everything", queue["lines"][:2] == wanted and queue["lines"][2].startswith("The journal counts as 1 line at "), queue["lines"])
     checks.check("one minute", queue["plots"][0][0] == "sent in the last 1 minute: up to 1, this minute 1", queue["plots"])
     browser.open("about:blank")
     browser.open(f"{url}#dead")
@@ -519,7 +519,7 @@ def check_rows(checks, browser):
     told, names = browser.told("table", "columnheader", "rowheader", "button", "row"), [it.name for it in queues]
     named = lambda role: [name for it, name, _ in told if it == role]
     checks.check("there is one table", len(named("table")) == 1 and named("table")[0].startswith("Queues"), told)
-    columns = ["queue", "visible", "delayed", "in flight", "age", *(f"{it} this minute" for it in ("sent", "received", "deleted", "refused")), "alarms"]
+    columns = ["queue", "visible", "delayed", "in flight", "age", *(f"{it} this minute" for it in ("sent", "received", "deleted", "calls refused by the queue")), "alarms"]
     checks.check("its columns have heads", sorted(named("columnheader")) == sorted(columns), told)
     checks.check("its rows have heads", sorted(named("rowheader")) == names and len(named("row")) == 21, told)
     checks.check("each row has a button that says that it is closed", sorted(it[1:] for it in told if it[0] == "button") == [(name, False) for name in names], told)

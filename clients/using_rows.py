@@ -49,7 +49,7 @@ class Rows:
         lines = server.log()
         for it in words:
             self.check(f"the log says {it}", any(it in line for line in lines))
-        of_requests = [line for line in lines if re.match(r"\d\d:\d\d:\d\d\.\d{3} ", line)]
+        of_requests = [line for line in lines if re.match(r"\d\d:\d\d:\d\d\.\d{3}Z \S+ \S+ \d{3}\b", line)]
         self.check(f"no line of the log but these: {of_requests}", all(any(it in line for it in words) for line in of_requests))
         return "".join(f"{line}\n" for line in lines)
 
@@ -77,7 +77,7 @@ class Rows:
 
     def no_port(self):
         """A variable names no port."""
-        found = [self.ended(["shop.toml"], JUTKARIQ_PORT=port)[1] for port in ("http", "65536", "")]
+        found = [self.ended(["shop.toml"], JUTKARIQ_PORT=port)[1] for port in ("http", "65536")]
         self.check("each is told", all("must be a port number, 0 to 65535" in said for said in found))
         return found[0]
 
@@ -107,7 +107,7 @@ class Rows:
         """The endpoint has TLS."""
         with self.server() as server:
             said = refusal(server.client(endpoint_url=server.endpoint.replace("http:", "https:")).list_queues)
-            self.logged(server, "sqs_server: connection: ")
+            self.logged(server, "connection: what came is not HTTP/1.1 or 1.0; TLS is not served, use http:// (")
         return said
 
     def no_region(self):
@@ -208,7 +208,7 @@ class Rows:
             found.append(refusal(sqs.add_permission, QueueUrl="jobs", Label="a", AWSAccountIds=["1"], Actions=["*"]))
             found.append(curl(server.endpoint, "-d", "{}"))
             actions = [f"The action {it} is not served" for it in ("ListQueueTags", "StartMessageMoveTask", "AddPermission")]
-            self.logged(server, *actions, "X-Amz-Target names no action of AmazonSQS")
+            self.logged(server, *actions, "X-Amz-Target is missing, or names no action of AmazonSQS")
         return self.alike("UnsupportedOperation", found)
 
     def other_kinds(self):
@@ -225,7 +225,7 @@ class Rows:
         with self.server() as server:
             answer = server.client().send_message_batch(QueueUrl="jobs", Entries=entries)
             self.check("its status is 200", answer["ResponseMetadata"]["HTTPStatusCode"] == 200)
-            self.logged(server, "SendMessageBatch jobs 200 InvalidParameterValue: Entries[1].MessageBody is empty; 1 entry was refused")
+            self.logged(server, "SendMessageBatch jobs 200 InvalidParameterValue: Entries[1].MessageBody is empty; 1 entry was refused: \"b\"")
         return json.dumps(answer)
 
     def get(self):
@@ -276,13 +276,16 @@ class Rows:
         """A client resets a connection at rest, and another sends what is no HTTP; what goes on beside them is answered."""
         with self.server() as server:
             with contextlib.ExitStack() as stack:
-                one, other, third = (stack.enter_context(socket.create_connection(("127.0.0.1", port_of(server.endpoint)), PATIENCE)) for _ in range(3))
+                one, other, third, left = (stack.enter_context(socket.create_connection(("127.0.0.1", port_of(server.endpoint)), PATIENCE)) for _ in range(4))
                 self.check("it is answered before it is reset", asked_over(one).startswith(b"HTTP/1.1 200 "))
                 one.setsockopt(socket.SOL_SOCKET, socket.SO_LINGER, struct.pack("ii", 1, 0))
                 one.close()
-                said = self.logged(server, "sqs_server: connection: connection error: Connection reset by peer (os error 104)")
+                said = self.logged(server, "connection: the connection failed (connection error: Connection reset by peer (os error 104))")
                 other.sendall(b"\x16\x03\x01\x02\x00\x01\x00\x01\xfc")
                 self.check("what is no HTTP is refused", other.recv(100).startswith(b"HTTP/1.1 400 "))
+                left.sendall(b"POST / HTTP/1.1\r\n")
+                left.close()
+                self.logged(server, "connection: the client left before it had sent all of a request, or before it was answered (")
                 self.check("the third connection is open", asked_over(third).startswith(b"HTTP/1.1 200 "))
         return said
 
@@ -447,7 +450,7 @@ ROWS = {
     "this host is not served": Rows.foreign_host,
     "body too large": Rows.too_large,
     "a connection that the server closes": Rows.idle,
-    "sqs_server: connection:": Rows.cut,
+    "connection:": Rows.cut,
     "a receive that gives nothing": Rows.nothing,
     "a message that comes twice": Rows.twice,
     "a message that is gone": Rows.gone,

@@ -34,7 +34,7 @@ BLOCK = re.compile(r"(?:^`([\w.]+)`:\n\n)?^```(\w*)\n(.*?)^```$", re.M | re.S)
 PORTS = ("9324", "9325", "9424", "9425")
 SERVES = "sqs_server: requests at "
 # What a line of the log begins with.
-TIME = re.compile(r"(?m)^\d\d:\d\d:\d\d\.\d{3} ")
+TIME = re.compile(r"(?m)^\d\d:\d\d:\d\d\.\d{3}Z ")
 # A metric in an expression of Prometheus, and what it asks of the labels.
 METRIC = re.compile(r"\b((?:jutkariq|process)_\w+)(?:\{([^}]*)\})?")
 # What stands in the example with another value than its default.

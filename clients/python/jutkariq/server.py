@@ -23,8 +23,8 @@ from jutkariq.answers import Answer, Counts, Queues, Row, Statistics, name_of, s
 from jutkariq.programs import FilePath, ProgramFailed, configuration_file, configuration_of, failure, find_program
 
 READY = re.compile(r"sqs_server: requests at (http://localhost:\d+), statistics at (http://localhost:\d+), (\d+) queues? from (.+)\n")
-# the lines that tell of requests on standard error begin with the time of day
-OF_A_REQUEST = re.compile(rb"(?m)^\d\d:\d\d:\d\d\.\d{3} .*\n?")
+# the lines that tell of requests on standard error have the time of day, an action, a queue and a status
+OF_A_REQUEST = re.compile(rb"(?m)^\d\d:\d\d:\d\d\.\d{3}Z \S+ \S+ \d{3}\b.*\n?")
 PAUSE = 0.01
 # how many seconds a process has to end before it is killed
 PATIENCE = 5.0

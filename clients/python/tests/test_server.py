@@ -36,8 +36,8 @@ minutes = 180
 # What is told of the requests that are refused, behind the time of day: lines like those of PROFILE 25 and USING, whose requests are asked below.
 REFUSED = [
     "SendMessage jobs 400 InvalidParameterValue: MessageBody is empty",
-    "SendMessageBatch jobs 200 InvalidParameterValue: Entries[1].DelaySeconds is 901, and 0 to 900 is wanted; 1 entry was refused",
-    "- - 405 MethodNotAllowed: its method is not POST",
+    "SendMessageBatch jobs 200 InvalidParameterValue: Entries[1].DelaySeconds is 901, and 0 to 900 is wanted; 1 entry was refused: \"b\"",
+    "- - 405 MethodNotAllowed: its method is not POST; the page, statistics and metrics are at the other port",
 ]
 
 
@@ -231,21 +231,21 @@ class Log(ServerCase):
             self.done("ReceiveMessage", QueueUrl="jobs")
             other.sendall(b"this is no HTTP\r\n\r\n")
             self.assertIn(b" 400 ", other.recv(1000))
-        return self.behind_the_time(self.lines_until("sqs_server: connection: "))
+        return self.behind_the_time(self.lines_until("connection: what came is not HTTP/1.1"))
 
     def lines_until(self, beginning):
-        """Returns the lines that are told before one that begins so, once that is there."""
+        """Returns the lines that are told before one that begins so behind its time of day, once that is there."""
         end = time.monotonic() + 20
-        while not any(line.startswith(beginning) for line in self.server.log()):
+        while not any(line.partition(" ")[2].startswith(beginning) for line in self.server.log()):
             self.assertLess(time.monotonic(), end, self.server.log())
             time.sleep(0.01)
-        self.assertTrue(self.server.log()[-1].startswith(beginning), self.server.log())
+        self.assertTrue(self.behind_the_time(self.server.log())[-1].startswith(beginning), self.server.log())
         return self.server.log()[:-1]
 
     def behind_the_time(self, lines):
         """Returns what is said behind the time of day, which is that of now in UTC."""
         for line in lines:
-            hours, minutes, seconds = re.match(r"(\d\d):(\d\d):(\d\d\.\d{3}) ", line).groups()
+            hours, minutes, seconds = re.match(r"(\d\d):(\d\d):(\d\d\.\d{3})Z ", line).groups()
             age = (time.time() - 3600 * int(hours) - 60 * int(minutes) - float(seconds)) % 86400
             self.assertLess(age, 60, line)
         return [line.partition(" ")[2] for line in lines]
@@ -271,7 +271,7 @@ class Log(ServerCase):
     def test_an_error_has_no_line_of_a_request(self):
         self.told()
         self.server._process.kill()
-        with self.assertRaisesRegex(ProgramFailed, r"/sqs_server was ended by signal 9: sqs_server: connection: .*\Z"):
+        with self.assertRaisesRegex(ProgramFailed, r"/sqs_server was ended by signal 9: \d\d:\d\d:\d\d\.\d{3}Z connection: .*\Z"):
             self.server.counts("jobs")
 
 
